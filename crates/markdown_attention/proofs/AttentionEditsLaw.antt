@@ -1,7 +1,7 @@
 -- Edits of runs by their pairs leave the events of the tree with its pairs grouped.
 use Rattle.std.proofs.Common.{◌≡◌, ℕ, zero, suc, ◌+◌, ◌<◌, ◌≤◌, false, List, [], ◌∷◌, ◌++◌, length, drop, Option, Some, None, refl, sym, ap, subst, ◌∙◌, arith, append_assoc, append-nil}
 use Rattle.std.proofs.lemmas.List.{drop-drop, drop_at}
-use Rattle.markdown_content.specs.Codes.{document_start}
+use Rattle.markdown_content.specs.Codes.{document_start, Code}
 use Rattle.markdown_engine_events.specs.Edits.{added_at, edited, CanEdit}
 use Rattle.markdown_engine.specs.PastTree.{appended_from}
 use Rattle.markdown_content.specs.Tree.{Forest, empty, leaf_then, group_then, event, event_count, start_of}
@@ -84,34 +84,34 @@ edits-same f g (x ∷ xs) (y ∷ ys) l h k =
     λ z. (record { at = h 0 (omega arith) z; remove = 2; events = k 0 (omega arith) z; before = false }) ∷ more z
 
 -- each run has its place as its number
-numbered-is : (options : ParseOptions) (bytes : List ℕ) (es : List Event) → HaveRunPlaces bytes es → (i : ℕ) →
-    i < length (runs_from options bytes 0 0 outermost es) →
-    (run_at (runs_from options bytes 0 0 outermost es) i).number ≡ i
-numbered-is options bytes es places i l = numbered (λ r. []) options bytes es 0 0 outermost i places l ∙ omega arith
+numbered-is : (options : ParseOptions) (bytes : List ℕ) (content : List Code) (es : List Event) → HaveRunPlaces bytes es → (i : ℕ) →
+    i < length (runs_from options bytes content 0 0 outermost es) →
+    (run_at (runs_from options bytes content 0 0 outermost es) i).number ≡ i
+numbered-is options bytes content es places i l = numbered (λ r. []) options bytes content es 0 0 outermost i places l ∙ omega arith
 
 -- by the runs as pairing leaves them
-module _ (options : ParseOptions) (bytes : List ℕ) (es : List Event) (places : HaveRunPlaces bytes es) (fin : List Sequence) (pairs : List Pair)
-    (stands : AreRunsAfter (runs_from options bytes 0 0 outermost es) fin pairs) where
+module _ (options : ParseOptions) (bytes : List ℕ) (content : List Code) (es : List Event) (places : HaveRunPlaces bytes es) (fin : List Sequence) (pairs : List Pair)
+    (stands : AreRunsAfter (runs_from options bytes content 0 0 outermost es) fin pairs) where
   abbrev list : List Sequence
-  list = runs_from options bytes 0 0 outermost es
+  list = runs_from options bytes content 0 0 outermost es
 
-  pub log-same : run_edits (point_in es) pairs fin ≡ grouping es (runs_from options bytes 0 0 outermost es) pairs
+  pub log-same : run_edits (point_in es) pairs fin ≡ grouping es (runs_from options bytes content 0 0 outermost es) pairs
   log-same =
       edits-same (grouped_events (point_in es) pairs) (comes_for (point_in es) list pairs) fin list stands.same_length
       (λ i l. ap (λ (r : Sequence). r.event) (stands.stands i l))
       (λ i l. ap (grouped_events (point_in es) pairs) (stands.stands i l)
-      ∙ ap (λ j. marker_events (run_at list i).marker (point_in es (run_at list i).event) (closed_sizes (run_at list i).number pairs) (left_of list pairs j) (opened_sizes (run_at list i).number pairs)) (sym (numbered-is options bytes es places i l)))
+      ∙ ap (λ j. marker_events (run_at list i).marker (point_in es (run_at list i).event) (closed_sizes (run_at list i).number pairs) (left_of list pairs j) (opened_sizes (run_at list i).number pairs)) (sym (numbered-is options bytes content es places i l)))
 
   -- the edits can be made
   pub group-can : HaveRunEnds es → CanEdit (run_edits (point_in es) pairs fin) es
   group-can h =
-      subst (λ (log : List Edit). CanEdit log es) (sym log-same) (can-group (comes_for (point_in es) list pairs) options bytes es places h)
+      subst (λ (log : List Edit). CanEdit log es) (sym log-same) (can-group (comes_for (point_in es) list pairs) options bytes content es places h)
 
-module _ (s : Setting) (options : ParseOptions) (bytes : List ℕ) (same : s.bytes ≡ bytes) (given : s.options ≡ options) (es : List Event) (places : HaveRunPlaces bytes es) (pairs : List Pair)
-    (lists : ArePairLists options (runs_from options bytes 0 0 outermost es) pairs)
-    (within : ArePairsWithin (runs_from options bytes 0 0 outermost es) pairs) where
+module _ (s : Setting) (options : ParseOptions) (bytes : List ℕ) (content : List Code) (same : s.bytes ≡ bytes) (given : s.options ≡ options) (held : s.content ≡ content) (es : List Event) (places : HaveRunPlaces bytes es) (pairs : List Pair)
+    (lists : ArePairLists options (runs_from options bytes content 0 0 outermost es) pairs)
+    (within : ArePairsWithin (runs_from options bytes content 0 0 outermost es) pairs) where
   abbrev runs_read : List Sequence
-  runs_read = runs_from options bytes 0 0 outermost es
+  runs_read = runs_from options bytes content 0 0 outermost es
 
   abbrev comes_here : Sequence → List Event
   comes_here r = comes_for (point_in es) runs_read pairs r
@@ -119,23 +119,23 @@ module _ (s : Setting) (options : ParseOptions) (bytes : List ℕ) (same : s.byt
   abbrev before : List Edit
   before = grouping es runs_read pairs
 
-  read : RunsAreRead s options bytes same given (point_in es) pairs runs_read (λ k. added_at k before)
+  read : RunsAreRead s options bytes content same given held (point_in es) pairs runs_read (λ k. added_at k before)
   read =
       record {
-        comes_are = λ g l. added-run comes_here 0 g runs_read (are-from comes_here options bytes es 0 0 outermost places) l
-            ∙ ap (λ j. marker_events (run_at runs_read g).marker (point_in es (run_at runs_read g).event) (closed_sizes j pairs) (left_of runs_read pairs j) (opened_sizes j pairs)) (numbered-is options bytes es places g l);
+        comes_are = λ g l. added-run comes_here 0 g runs_read (are-from comes_here options bytes content es 0 0 outermost places) l
+            ∙ ap (λ j. marker_events (run_at runs_read g).marker (point_in es (run_at runs_read g).event) (closed_sizes j pairs) (left_of runs_read pairs j) (opened_sizes j pairs)) (numbered-is options bytes content es places g l);
         lists = λ k runs shapes. lists s k runs given shapes;
         within = within;
       }
 
   pub group-events : (t : Forest) → HasRuns bytes t → IsStriped t → es ≡ appended_from 0 None t →
-      edited (grouping es (runs_from options bytes 0 0 outermost es) pairs) es ≡ appended_from 0 None (paired s (pair_list s) t)
+      edited (grouping es (runs_from options bytes content 0 0 outermost es) pairs) es ≡ appended_from 0 None (paired s (pair_list s) t)
   group-events t h st e =
       let whole : es ≡ appended_from 0 None t ++ [] = e ∙ sym (append-nil (appended_from 0 None t)) in
-      let runs : List Sequence = tree_runs options bytes 0 0 0 None t in
-      let is : runs_read ≡ runs = ap (runs_from options bytes 0 0 outermost) whole ∙ tree-runs options bytes t 0 0 None outermost [] h ∙ append-nil runs in
-      paired-events es before (λ k. added_at k before) (pass-log comes_here options bytes es outermost places) s (pair_list s) t e (ready-row s t st.1) (flat-row s t st.1 st.0)
-      (all-logged s options bytes same given (point_in es) pairs runs_read (λ k. added_at k before) read t h st.1 (have-points es t 0 None [] whole) is)
+      let runs : List Sequence = tree_runs options bytes content 0 0 0 None t in
+      let is : runs_read ≡ runs = ap (runs_from options bytes content 0 0 outermost) whole ∙ tree-runs options bytes content t 0 0 None outermost [] h ∙ append-nil runs in
+      paired-events es before (λ k. added_at k before) (pass-log comes_here options bytes content es outermost places) s (pair_list s) t e (ready-row s t st.1) (flat-row s t st.1 st.0)
+      (all-logged s options bytes content same given held (point_in es) pairs runs_read (λ k. added_at k before) read t h st.1 (have-points es t 0 None [] whole) is)
 
 -- what comes for a run covers it
 pub sizes-sum : (list : List Sequence) (pairs : List Pair) (g : ℕ) → g < length list → ArePairsWithin list pairs → AreTakenOnce list pairs

@@ -5,15 +5,14 @@ use Rattle.std.proofs.lemmas.Bool.{cases_lt, eq-eqb, ne_eqb, cases_Bool}
 use Rattle.std.proofs.lemmas.List.{length-map}
 use Rattle.std.proofs.lemmas.List.Elements.{All-head, All-tail}
 use Rattle.std.proofs.lemmas.List.Sums.{sum_by-append, sum_by-cons}
-use Rattle.markdown_content.specs.Codes.{stop_of, document_start}
+use Rattle.markdown_content.specs.Codes.{stop_of, document_start, Code}
 use Rattle.markdown_content.specs.Tree.{Forest, empty, leaf_then, group_then, event_count, start_of}
 use Rattle.markdown_content.specs.declared.configuration.ParseOptions.{ParseOptions}
 use Rattle.markdown_event.specs.declared.event.Name.{Name}
 use Rattle.markdown_event.specs.declared.event.Point.{Point}
-use Rattle.markdown_model.specs.InlineTree.{pair_count}
 use Rattle.markdown_model.specs.Laws.{shape_of}
 use Rattle.markdown_model.specs.Pairs.{pair_list}
-use Rattle.markdown_model.specs.Runs.{Run, runs_of, rows_inside, containers_of}
+use Rattle.markdown_model.specs.Runs.{Run, runs_of, rows_inside, rows_of}
 use Rattle.markdown_model.specs.Setting.{Setting}
 use Rattle.markdown_model.proofs.PairListFacts.{pairs_are_sound}
 use Rattle.markdown_model.proofs.OnePairList.{some_pair_list, same_pair_list}
@@ -182,25 +181,25 @@ every-at P (x ∷ xs) (suc i) l h = every-at P xs i (omega (arith, l)) h.1
 abbrev IsInRowOrTexts : ℕ → Texts → Sequence → Type 0
 IsInRowOrTexts r xs q = (row_of q.text ≡ r) ⊎ (1 ≤ hits (row_of q.text) xs)
 
-module _ (options : ParseOptions) (bytes : List ℕ) where
+module _ (options : ParseOptions) (bytes : List ℕ) (content : List Code) where
   stays-tree : (t : Forest) (n i m : ℕ) (k : Container) →
-      Every (IsInRowOrTexts (row_around k) (texts_of m t)) (tree_runs options bytes n i m k t)
+      Every (IsInRowOrTexts (row_around k) (texts_of m t)) (tree_runs options bytes content n i m k t)
   stays-tree empty n i m k = tt
   stays-tree (leaf_then name link cs rest) n i m k =
-      let here : List Sequence = leaf_run options bytes n i k name (start_of cs) (stop_of document_start cs) in
+      let here : List Sequence = leaf_run options bytes content n i k name (start_of cs) (stop_of document_start cs) in
       let P : Sequence → Type 0 = IsInRowOrTexts (row_around k) (texts_of m rest) in
       let one : Every P here = elim (cases_Bool (is_run name)) [
-        | inl e ↦ subst (λ (xs : List Sequence). Every P xs) (sym (leaf-run-yes options bytes n i k name (start_of cs) (stop_of document_start cs) e)) (inl refl, tt)
-        | inr e ↦ subst (λ (xs : List Sequence). Every P xs) (sym (leaf-run-no options bytes n i k name (start_of cs) (stop_of document_start cs) e)) tt
+        | inl e ↦ subst (λ (xs : List Sequence). Every P xs) (sym (leaf-run-yes options bytes content n i k name (start_of cs) (stop_of document_start cs) e)) (inl refl, tt)
+        | inr e ↦ subst (λ (xs : List Sequence). Every P xs) (sym (leaf-run-no options bytes content n i k name (start_of cs) (stop_of document_start cs) e)) tt
       ] in
-      every-append P here (tree_runs options bytes (n + length here) (i + 2) m k rest) one (stays-tree rest (n + length here) (i + 2) m k)
+      every-append P here (tree_runs options bytes content (n + length here) (i + 2) m k rest) one (stays-tree rest (n + length here) (i + 2) m k)
   stays-tree (group_then name a b inside rest) n i m k =
       let j : ℕ = i + 2 + event_count inside in
       let m' : ℕ = m + as_text name in
       let past : ℕ = m' + text_count inside in
       let whole : Texts = texts_of m (group_then name a b inside rest) in
-      let front : List Sequence = tree_runs options bytes n (i + 1) m' (inner i m k name) inside in
-      let back : List Sequence = tree_runs options bytes (n + length front) j past k rest in
+      let front : List Sequence = tree_runs options bytes content n (i + 1) m' (inner i m k name) inside in
+      let back : List Sequence = tree_runs options bytes content (n + length front) j past k rest in
       let P : Sequence → Type 0 = IsInRowOrTexts (row_around k) whole in
       let parts : (r : ℕ) → hits r whole ≡ hits r (own m name inside) + (hits r (texts_of m' inside) + hits r (texts_of past rest)) = λ r. group-sums (is_row r) m name a b inside rest in
       let outer : (q : Sequence) → row_of q.text ≡ row_around (inner i m k name) → P q = λ q e. elim (cases_Bool (is_text name)) [
@@ -257,7 +256,7 @@ module _ (list : List Sequence) (texts : Texts) where
 empty-list : (s : Setting) → length (pair_list s []) ≡ 0
 empty-list s = let x = (pairs_are_sound s [] (pair_list s []) (some_pair_list s [])).half in omega (arith, x)
 
-module _ (s : Setting) (options : ParseOptions) (bytes : List ℕ) (same : s.bytes ≡ bytes) (given : s.options ≡ options) (list : List Sequence) (pairs : List Pair) where
+module _ (s : Setting) (options : ParseOptions) (bytes : List ℕ) (content : List Code) (same : s.bytes ≡ bytes) (given : s.options ≡ options) (held : s.content ≡ content) (list : List Sequence) (pairs : List Pair) where
   abbrev count_of : List Run → ℕ
   count_of rs = length (pair_list s rs)
 
@@ -296,14 +295,14 @@ module _ (s : Setting) (options : ParseOptions) (bytes : List ℕ) (same : s.byt
             let w : sums of_row (own m name inside) ≡ of_row (m + 1) + 0 = own-yes of_row m name inside e in
             omega (arith, z.0, w)
         | inr e ↦
-            ap (λ z. count_of z) (none-in s options bytes same given inside (h.0.1 e)) ∙ empty-list s ∙ sym (own-no of_row m name inside e)
+            ap (λ z. count_of z) (none-in s options bytes content same given held inside (h.0.1 e)) ∙ empty-list s ∙ sym (own-no of_row m name inside e)
       ] in
       omega (arith, front, back, rows, first, it, group-sums of_row m name a b inside rest)
 
-module _ (s : Setting) (options : ParseOptions) (bytes : List ℕ) (same : s.bytes ≡ bytes) (given : s.options ≡ options) (t : Forest) (h : HasRuns bytes t)
+module _ (s : Setting) (options : ParseOptions) (bytes : List ℕ) (content : List Code) (same : s.bytes ≡ bytes) (given : s.options ≡ options) (held : s.content ≡ content) (t : Forest) (h : HasRuns bytes t)
     (pairs : List Pair) where
   abbrev all_runs : List Sequence
-  all_runs = tree_runs options bytes 0 0 0 None t
+  all_runs = tree_runs options bytes content 0 0 0 None t
 
   module _ (lists : ArePairLists options all_runs pairs) (within : ArePairsWithin all_runs pairs) where
     counted : (k : Option ℕ) (rs : List Run) → map shape_of rs ≡ map whole_shape (runs_in (row_of k) all_runs) →
@@ -315,7 +314,7 @@ module _ (s : Setting) (options : ParseOptions) (bytes : List ℕ) (same : s.byt
     abbrev IsShaped : ℕ × Forest → Type 0
     IsShaped text = map shape_of (runs_of s text.1) ≡ map whole_shape (runs_in (text.0 + 1) all_runs)
 
-    each-counted : (xs : Texts) → All IsShaped xs → EachText s options bytes same given all_runs pairs xs
+    each-counted : (xs : Texts) → All IsShaped xs → EachText s options bytes content same given held all_runs pairs xs
     each-counted [] a = tt
     each-counted (x ∷ xs) a =
         (counted (Some x.0) (runs_of s x.1) (All-head IsShaped x xs a), each-counted xs (All-tail IsShaped x xs a))
@@ -325,7 +324,7 @@ module _ (s : Setting) (options : ParseOptions) (bytes : List ℕ) (same : s.byt
     once-all (p ∷ ps) w =
         let r : ℕ = row_of (run_at all_runs p.closer).text in
         let few : hits r (texts_of 0 t) ≤ 1 = hits-once t 0 r in
-        let here : is_row r 0 + hits r (texts_of 0 t) ≡ 1 = elim (every-at (IsInRowOrTexts 0 (texts_of 0 t)) all_runs p.closer w.0.within (stays-tree options bytes t 0 0 0 None)) [
+        let here : is_row r 0 + hits r (texts_of 0 t) ≡ 1 = elim (every-at (IsInRowOrTexts 0 (texts_of 0 t)) all_runs p.closer w.0.within (stays-tree options bytes content t 0 0 0 None)) [
           | inl e ↦
               let low : hits r (texts_of 0 t) ≡ 0 = hits-low t 0 r (omega (arith, e)) in
               omega (arith, row-yes r 0 e, low)
@@ -335,12 +334,12 @@ module _ (s : Setting) (options : ParseOptions) (bytes : List ℕ) (same : s.byt
         ] in
         (here, once-all ps w.1)
 
-    pub pair-count : pair_count s t ≡ length pairs
-    unfolding containers_of
+    pub pair-count : sum_by (λ rs. length (pair_list s rs)) (rows_of s t) ≡ length pairs
+    unfolding rows_of
     pair-count =
-        let rows : HasRows s t all_runs = has-rows s options bytes same given t h in
+        let rows : HasRows s t all_runs = has-rows s options bytes content same given held t h in
         let whole : length (pair_list s (runs_of s t)) ≡ length (pairs_in all_runs 0 pairs) = counted None (runs_of s t) rows.whole in
         let inside : sum_by (λ rs. length (pair_list s rs)) (rows_inside s t) ≡ sums (λ m. length (pairs_in all_runs m pairs)) (texts_of 0 t) =
-        rows-paired s options bytes same given all_runs pairs t 0 h (each-counted (texts_of 0 t) rows.texts) in
-        let sum : pair_count s t ≡ length (pair_list s (runs_of s t)) + sum_by (λ rs. length (pair_list s rs)) (rows_inside s t) = sum_by-cons (λ rs. length (pair_list s rs)) (runs_of s t) (rows_inside s t) in
+        rows-paired s options bytes content same given held all_runs pairs t 0 h (each-counted (texts_of 0 t) rows.texts) in
+        let sum : sum_by (λ rs. length (pair_list s rs)) (rows_of s t) ≡ length (pair_list s (runs_of s t)) + sum_by (λ rs. length (pair_list s rs)) (rows_inside s t) = sum_by-cons (λ rs. length (pair_list s rs)) (runs_of s t) (rows_inside s t) in
         omega (arith, whole, inside, sum, pairs-once all_runs (texts_of 0 t) pairs (once-all pairs within))

@@ -15,6 +15,7 @@ use Rattle.markdown_attention.specs.RunEdits.{run_edits, point_in}
 use Rattle.markdown_attention.specs.PairSizes.{side_of, HasRoomFor}
 use Rattle.markdown_attention.proofs.RunRoom.{has-room, have-closers, have-openers}
 use Rattle.markdown_attention.proofs.AttentionEditsLaw.{log-same, group-can}
+use Rattle.markdown_content.specs.Codes.{Code}
 
 -- U is T; these runs and pairs are what pairing leaves of the runs of T
 module _ (T U : Tokenizer) (same : U ≡ T) (may : MayPair T) (list fin runs : List Sequence) (found pairs : List Pair) (probes : ℕ) (read : list ≡ runs_of_events T)
@@ -25,6 +26,9 @@ module _ (T U : Tokenizer) (same : U ≡ T) (may : MayPair T) (list fin runs : L
   abbrev bytes : List ℕ
   bytes = T.parse_state.now.bytes.now
 
+  abbrev content : List Code
+  content = T.cursor.codes
+
   pairing : IsPairing T.parse_state.now.options.now (runs_of_events T) runs pairs probes
   pairing =
       subst (λ (x : List Sequence). IsPairing T.parse_state.now.options.now x runs pairs probes) read
@@ -32,20 +36,20 @@ module _ (T U : Tokenizer) (same : U ≡ T) (may : MayPair T) (list fin runs : L
       (subst (λ (x : List Pair). IsPairing T.parse_state.now.options.now list fin x probes) (sym as_found) left))
 
   pub closers-in : All (λ p. side_of true p < length runs) pairs
-  closers-in = have-closers options bytes T.events may.places may.ends may.room runs pairs pairing.left pairing.within
+  closers-in = have-closers options bytes content T.events may.places may.ends may.room runs pairs pairing.left pairing.within
 
   pub openers-in : All (λ p. side_of false p < length runs) pairs
-  openers-in = have-openers options bytes T.events may.places may.ends may.room runs pairs pairing.left pairing.within
+  openers-in = have-openers options bytes content T.events may.places may.ends may.room runs pairs pairing.left pairing.within
 
   pub room-in : (i : ℕ) → i < length runs → HasRoomFor U.events (length runs) pairs (run_at runs i)
   room-in i l =
       subst (λ (X : Tokenizer). HasRoomFor X.events (length runs) pairs (run_at runs i)) (sym same)
-      (has-room options bytes T.events may.places may.ends may.room runs pairs pairing.left pairing.within pairing.once i l)
+      (has-room options bytes content T.events may.places may.ends may.room runs pairs pairing.left pairing.within pairing.once i l)
 
   pub can-in : CanEdit (run_edits (point_in U.events) pairs runs) U.events
   can-in =
       subst (λ (X : Tokenizer). CanEdit (run_edits (point_in X.events) pairs runs) X.events) (sym same)
-      (group-can options bytes T.events may.places runs pairs pairing.left may.ends)
+      (group-can options bytes content T.events may.places runs pairs pairing.left may.ends)
 
   pub grouped-in : (after : List Event) → after ≡ edited (run_edits (point_in U.events) pairs runs) U.events →
       IsGrouped T.parse_state.now.options.now (runs_of_events T) T.events after probes
@@ -56,7 +60,7 @@ module _ (T U : Tokenizer) (same : U ≡ T) (may : MayPair T) (list fin runs : L
     once = pairing.once;
     events =
         e ∙ ap (λ (X : Tokenizer). edited (run_edits (point_in X.events) pairs runs) X.events) same
-        ∙ ap (λ (x : List Edit). edited x T.events) (log-same options bytes T.events may.places runs pairs pairing.left);
+        ∙ ap (λ (x : List Edit). edited x T.events) (log-same options bytes content T.events may.places runs pairs pairing.left);
     at_least = pairing.at_least;
     at_most = pairing.at_most;
     scan = pairing.scan;

@@ -10,9 +10,8 @@ use Rattle.markdown_content.specs.Tree.{Forest, empty, leaf_then, group_then, le
 use Rattle.markdown_event.specs.declared.event.Content.{Content}
 use Rattle.markdown_event.specs.declared.event.Name.{Name}
 use Rattle.markdown_event.specs.declared.event.Point.{Point}
-use Rattle.markdown_model.specs.InlineTree.{run_count, opener_count, closer_count}
 use Rattle.markdown_model.specs.Laws.{Shape, shape_of}
-use Rattle.markdown_model.specs.Runs.{Run, run_of, runs_of, rows_inside, containers_of}
+use Rattle.markdown_model.specs.Runs.{Run, run_of, runs_of, rows_inside, rows_of}
 use Rattle.markdown_model.specs.Setting.{Setting}
 use Rattle.markdown_attention.specs.RunContainers.{whole_shape}
 use Rattle.markdown_attention.specs.NumberedPairs.{markers_left}
@@ -38,13 +37,13 @@ count-adds {A} p = record { none = sym (length-filter p []); append = both }
         sym (length-filter p (xs ++ ys)) ∙ ap length (filter-append p xs ys) ∙ length-append (filter p xs) (filter p ys)
         ∙ (λ i. length-filter p xs i + length-filter p ys i)
 
-pub leaf-run-yes : (options : ParseOptions) (bytes : List ℕ) (n i : ℕ) (k : Container) (name : Name) (p q : Point) →
-    is_run name ≡ true → leaf_run options bytes n i k name p q ≡ sequence_at options bytes n i k p q ∷ []
-leaf-run-yes options bytes n i k name p q e = rw e refl
+pub leaf-run-yes : (options : ParseOptions) (bytes : List ℕ) (content : List Code) (n i : ℕ) (k : Container) (name : Name) (p q : Point) →
+    is_run name ≡ true → leaf_run options bytes content n i k name p q ≡ sequence_at options bytes content n i k p q ∷ []
+leaf-run-yes options bytes content n i k name p q e = rw e refl
 
-pub leaf-run-no : (options : ParseOptions) (bytes : List ℕ) (n i : ℕ) (k : Container) (name : Name) (p q : Point) →
-    is_run name ≡ false → leaf_run options bytes n i k name p q ≡ []
-leaf-run-no options bytes n i k name p q e = rw e refl
+pub leaf-run-no : (options : ParseOptions) (bytes : List ℕ) (content : List Code) (n i : ℕ) (k : Container) (name : Name) (p q : Point) →
+    is_run name ≡ false → leaf_run options bytes content n i k name p q ≡ []
+leaf-run-no options bytes content n i k name p q e = rw e refl
 
 pub rows-empty : (s : Setting) → rows_inside s empty ≡ []
 unfolding rows_inside
@@ -62,13 +61,13 @@ rows-group s name a b inside rest = refl
 
 -- Codes and markers.
 
-module _ (options : ParseOptions) (bytes : List ℕ) where
+module _ (options : ParseOptions) (bytes : List ℕ) (content : List Code) where
   abbrev at : ℕ → ℕ → ℕ → Container → Forest → List Sequence
-  at n i m k t = tree_runs options bytes n i m k t
+  at n i m k t = tree_runs options bytes content n i m k t
 
   -- a run has as many markers as codes, and some
   leaf-few : (n i : ℕ) (k : Container) (cs : List Code) → IsRun bytes cs
-      → let q : Sequence = sequence_at options bytes n i k (start_of cs) (stop_of document_start cs) in (q.remaining ≡ length cs) × (1 ≤ length cs)
+      → let q : Sequence = sequence_at options bytes content n i k (start_of cs) (stop_of document_start cs) in (q.remaining ≡ length cs) × (1 ≤ length cs)
   leaf-few n i k [] h = absurd h
   leaf-few n i k (c ∷ cs) h = (omega (arith, h.1), omega arith)
 
@@ -76,7 +75,7 @@ module _ (options : ParseOptions) (bytes : List ℕ) where
       (markers_left (at n i m k t) ≤ length (leaf_codes t)) × (length (at n i m k t) ≤ length (leaf_codes t))
   tree-few empty n i m k h = (omega arith, omega arith)
   tree-few (leaf_then name link cs rest) n i m k h =
-      let here : List Sequence = leaf_run options bytes n i k name (start_of cs) (stop_of document_start cs) in
+      let here : List Sequence = leaf_run options bytes content n i k name (start_of cs) (stop_of document_start cs) in
       let more : List Sequence = at (n + length here) (i + 2) m k rest in
       let r = tree-few rest (n + length here) (i + 2) m k h.1 in
       let codes : length (cs ++ leaf_codes rest) ≡ length cs + length (leaf_codes rest) = length-append cs (leaf_codes rest) in
@@ -84,14 +83,14 @@ module _ (options : ParseOptions) (bytes : List ℕ) where
       let size : length (here ++ more) ≡ length here + length more = length-append here more in
       let one : (markers_left here ≤ length cs) × (length here ≤ length cs) = elim (cases_Bool (is_run name)) [
         | inl e ↦
-            let q : Sequence = sequence_at options bytes n i k (start_of cs) (stop_of document_start cs) in
-            let is : here ≡ q ∷ [] = leaf-run-yes options bytes n i k name (start_of cs) (stop_of document_start cs) e in
+            let q : Sequence = sequence_at options bytes content n i k (start_of cs) (stop_of document_start cs) in
+            let is : here ≡ q ∷ [] = leaf-run-yes options bytes content n i k name (start_of cs) (stop_of document_start cs) e in
             let few = leaf-few n i k cs (h.0.1 e) in
             let a : markers_left here ≡ q.remaining + 0 = ap markers_left is ∙ sum_by-cons (λ (x : Sequence). x.remaining) q [] in
             let b : length here ≡ 1 = ap length is in
             (omega (arith, a, few.0), omega (arith, b, few.1))
         | inr e ↦
-            let is : here ≡ [] = leaf-run-no options bytes n i k name (start_of cs) (stop_of document_start cs) e in
+            let is : here ≡ [] = leaf-run-no options bytes content n i k name (start_of cs) (stop_of document_start cs) e in
             let a : markers_left here ≡ 0 = ap markers_left is in
             let b : length here ≡ 0 = ap length is in
             (omega (arith, a), omega (arith, b))
@@ -109,40 +108,40 @@ module _ (options : ParseOptions) (bytes : List ℕ) where
 
 -- Containers.
 
-module _ (s : Setting) (options : ParseOptions) (bytes : List ℕ) (same : s.bytes ≡ bytes) (given : s.options ≡ options)
+module _ (s : Setting) (options : ParseOptions) (bytes : List ℕ) (content : List Code) (same : s.bytes ≡ bytes) (given : s.options ≡ options) (held : s.content ≡ content)
     (F : List Run → ℕ) (G : List Sequence → ℕ) (f : AddsUp F) (g : AddsUp G) (one : (r : Run) (q : Sequence) → shape_of r ≡ whole_shape q → F (r ∷ []) ≡ G (q ∷ [])) where
   abbrev in_rows : Forest → ℕ
   in_rows t = F (runs_of s t) + sum_by F (rows_inside s t)
 
   rows-counted : (t : Forest) (n i m : ℕ) (k : Container) → HasRuns bytes t →
-      in_rows t ≡ G (tree_runs options bytes n i m k t)
+      in_rows t ≡ G (tree_runs options bytes content n i m k t)
   rows-counted empty n i m k h =
       let a : F (runs_of s empty) ≡ 0 = ap F (runs-empty s) ∙ f.none in
       let b : sum_by F (rows_inside s empty) ≡ 0 = ap (λ x. sum_by F x) (rows-empty s) in
       omega (arith, a, b, g.none)
   rows-counted (leaf_then name link cs rest) n i m k h =
-      let here : List Sequence = leaf_run options bytes n i k name (start_of cs) (stop_of document_start cs) in
-      let more : List Sequence = tree_runs options bytes (n + length here) (i + 2) m k rest in
+      let here : List Sequence = leaf_run options bytes content n i k name (start_of cs) (stop_of document_start cs) in
+      let more : List Sequence = tree_runs options bytes content (n + length here) (i + 2) m k rest in
       let r : in_rows rest ≡ G more = rows-counted rest (n + length here) (i + 2) m k h.1 in
       let b : sum_by F (rows_inside s (leaf_then name link cs rest)) ≡ sum_by F (rows_inside s rest) = ap (λ x. sum_by F x) (rows-leaf s name link cs rest) in
       let sum : G (here ++ more) ≡ G here + G more = g.append here more in
       let first : F (runs_of s (leaf_then name link cs rest)) ≡ G here + F (runs_of s rest) = elim (cases_Bool (is_run name)) [
         | inl e ↦
-            let is : here ≡ sequence_at options bytes n i k (start_of cs) (stop_of document_start cs) ∷ [] = leaf-run-yes options bytes n i k name (start_of cs) (stop_of document_start cs) e in
+            let is : here ≡ sequence_at options bytes content n i k (start_of cs) (stop_of document_start cs) ∷ [] = leaf-run-yes options bytes content n i k name (start_of cs) (stop_of document_start cs) e in
             let a : F (runs_of s (leaf_then name link cs rest)) ≡ F (run_of s cs ∷ []) + F (runs_of s rest) =
             ap (λ (x : Name). F (runs_of s (leaf_then x link cs rest))) (run-name name e) ∙ ap F (runs-run s link cs rest) ∙ f.append (run_of s cs ∷ []) (runs_of s rest) in
-            let c : F (run_of s cs ∷ []) ≡ G here = one _ _ (leaf-shape s options bytes same given n i k cs (h.0.1 e)) ∙ ap G (sym is) in
+            let c : F (run_of s cs ∷ []) ≡ G here = one _ _ (leaf-shape s options bytes content same given held n i k cs (h.0.1 e)) ∙ ap G (sym is) in
             a ∙ ap (λ x. x + F (runs_of s rest)) c
         | inr e ↦
-            let is : here ≡ [] = leaf-run-no options bytes n i k name (start_of cs) (stop_of document_start cs) e in
+            let is : here ≡ [] = leaf-run-no options bytes content n i k name (start_of cs) (stop_of document_start cs) e in
             let a : F (runs_of s (leaf_then name link cs rest)) ≡ F (runs_of s rest) = ap F (runs-leaf s name link cs rest e) in
             let c : G here ≡ 0 = ap G is ∙ g.none in
             omega (arith, a, c)
       ] in
       omega (arith, r, b, sum, first)
   rows-counted (group_then name a b inside rest) n i m k h =
-      let front : List Sequence = tree_runs options bytes n (i + 1) (m + as_text name) (inner i m k name) inside in
-      let back : List Sequence = tree_runs options bytes (n + length front) (i + 2 + event_count inside) (m + as_text name + text_count inside) k rest in
+      let front : List Sequence = tree_runs options bytes content n (i + 1) (m + as_text name) (inner i m k name) inside in
+      let back : List Sequence = tree_runs options bytes content (n + length front) (i + 2 + event_count inside) (m + as_text name + text_count inside) k rest in
       let x : in_rows inside ≡ G front = rows-counted inside n (i + 1) (m + as_text name) (inner i m k name) h.1.0 in
       let y : in_rows rest ≡ G back = rows-counted rest (n + length front) (i + 2 + event_count inside) (m + as_text name + text_count inside) k h.1.1 in
       let first : F (runs_of s (group_then name a b inside rest)) ≡ F (runs_of s rest) = ap F (runs-group s name a b inside rest) in
@@ -153,8 +152,8 @@ module _ (s : Setting) (options : ParseOptions) (bytes : List ℕ) (same : s.byt
       omega (arith, x, y, first, rows, own, sum)
 
   pub containers-counted : (t : Forest) → HasRuns bytes t →
-      sum_by F (containers_of s t) ≡ G (tree_runs options bytes 0 0 0 None t)
-  unfolding containers_of
+      sum_by F (rows_of s t) ≡ G (tree_runs options bytes content 0 0 0 None t)
+  unfolding rows_of
   containers-counted t h = sum_by-cons F (runs_of s t) (rows_inside s t) ∙ rows-counted t 0 0 0 None h
 
 count-one : {A B : Type 0} (p : A → Bool) (q : B → Bool) (x : A) (y : B) → p x ≡ q y →
@@ -167,19 +166,19 @@ count-one {A} {B} p q x y e = sym (length-filter p (x ∷ [])) ∙ by_tests (p x
     by_tests true false h = absurd (cc)
     by_tests false true h = absurd (cc)
 
-module _ (s : Setting) (options : ParseOptions) (bytes : List ℕ) (same : s.bytes ≡ bytes) (given : s.options ≡ options) (t : Forest) (h : HasRuns bytes t) where
+module _ (s : Setting) (options : ParseOptions) (bytes : List ℕ) (content : List Code) (same : s.bytes ≡ bytes) (given : s.options ≡ options) (held : s.content ≡ content) (t : Forest) (h : HasRuns bytes t) where
   abbrev all_runs : List Sequence
-  all_runs = tree_runs options bytes 0 0 0 None t
+  all_runs = tree_runs options bytes content 0 0 0 None t
 
-  pub run-count : run_count s t ≡ length all_runs
-  run-count = containers-counted s options bytes same given (λ xs. length xs) (λ xs. length xs) length-adds length-adds (λ r q e. refl) t h
+  pub run-count : sum_by (λ xs. length xs) (rows_of s t) ≡ length all_runs
+  run-count = containers-counted s options bytes content same given held (λ xs. length xs) (λ xs. length xs) length-adds length-adds (λ r q e. refl) t h
 
-  pub opener-count : opener_count s t ≡ count_by (λ r. r.may_open) all_runs
+  pub opener-count : sum_by (count_by (λ r. r.may_open)) (rows_of s t) ≡ count_by (λ r. r.may_open) all_runs
   opener-count =
-      containers-counted s options bytes same given (λ xs. count_by (λ r. r.may_open) xs) (λ xs. count_by (λ r. r.may_open) xs) (count-adds _) (count-adds _)
+      containers-counted s options bytes content same given held (λ xs. count_by (λ r. r.may_open) xs) (λ xs. count_by (λ r. r.may_open) xs) (count-adds _) (count-adds _)
       (λ r q e. count-one (λ (x : Run). x.may_open) (λ (x : Sequence). x.may_open) r q (ap (λ (x : Shape). x.may_open) e)) t h
 
-  pub closer-count : closer_count s t ≡ count_by (λ r. r.may_close) all_runs
+  pub closer-count : sum_by (count_by (λ r. r.may_close)) (rows_of s t) ≡ count_by (λ r. r.may_close) all_runs
   closer-count =
-      containers-counted s options bytes same given (λ xs. count_by (λ r. r.may_close) xs) (λ xs. count_by (λ r. r.may_close) xs) (count-adds _) (count-adds _)
+      containers-counted s options bytes content same given held (λ xs. count_by (λ r. r.may_close) xs) (λ xs. count_by (λ r. r.may_close) xs) (count-adds _) (count-adds _)
       (λ r q e. count-one (λ (x : Run). x.may_close) (λ (x : Sequence). x.may_close) r q (ap (λ (x : Shape). x.may_close) e)) t h

@@ -65,7 +65,7 @@ module _ (s : Setting) (comes : ℕ → List Event) where
   logged-any (group_then name a b inside rest) n i j ps qs h l =
       (l.0, logged-any rest (n + 2 + event_count inside) i j ps qs h l.1)
 
-module _ (s : Setting) (options : ParseOptions) (bytes : List ℕ) (same : s.bytes ≡ bytes) (given : s.options ≡ options) (at : ℕ → Point) (pairs : List Pair) (list : List Sequence) (comes : ℕ → List Event) where
+module _ (s : Setting) (options : ParseOptions) (bytes : List ℕ) (content : List Code) (same : s.bytes ≡ bytes) (given : s.options ≡ options) (held : s.content ≡ content) (at : ℕ → Point) (pairs : List Pair) (list : List Sequence) (comes : ℕ → List Event) where
   -- what the runs and pairs are known to be
   pub record RunsAreRead : Type 0 where
     pub comes_are : (g : ℕ) → g < length list → comes (run_at list g).event
@@ -83,7 +83,7 @@ module _ (s : Setting) (options : ParseOptions) (bytes : List ℕ) (same : s.byt
   module _ (read : RunsAreRead) where
     -- one run
     leaf-logged : (front back : List Sequence) (r : Sequence) (k : Container) (n : ℕ) (cs : List Code) (R : List Run) → Shapes k R → list ≡ front ++ r ∷ back
-        → r ≡ sequence_at options bytes (length front) n k (start_of cs) (stop_of document_start cs) → IsRun bytes cs → IsStripe (marker_of cs) (start_of cs) cs → at n ≡ start_of cs
+        → r ≡ sequence_at options bytes content (length front) n k (start_of cs) (stop_of document_start cs) → IsRun bytes cs → IsStripe (marker_of cs) (start_of cs) cs → at n ≡ start_of cs
         → comes n ≡ run_events (own k) (length (runs_in (row_around k) front)) cs
     unfolding run_events
     leaf-logged front back r k n [] R shapes whole is h stripe place_is = absurd h
@@ -132,13 +132,13 @@ module _ (s : Setting) (options : ParseOptions) (bytes : List ℕ) (same : s.byt
     Lacks low high xs = (r : ℕ) → low < r → r ≤ high → runs_in r xs ≡ []
 
     abbrev runs : ℕ → ℕ → ℕ → Container → Forest → List Sequence
-    runs g n m k t = tree_runs options bytes g n m k t
+    runs g n m k t = tree_runs options bytes content g n m k t
 
     abbrev Logged : ℕ → List Model.Pair → ℕ → Forest → Type 0
     Logged n ps i t = IsLogged s (Model.pair_list s) comes n ps i t
 
     abbrev split : (r : ℕ) (xs ys : List Sequence) → runs_in r (xs ++ ys) ≡ runs_in r xs ++ runs_in r ys
-    split r xs ys = filters s options bytes same given r xs ys
+    split r xs ys = filters s options bytes content same given held r xs ys
 
     -- a run in front counts in its own container, other leaves do not
     logged : (t : Forest) (n m : ℕ) (k : Container) (R : List Run) (front back : List Sequence) → Shapes k R → HasRuns bytes t → HasStripes t → HavePoints at n t → row_around k ≤ m
@@ -148,7 +148,7 @@ module _ (s : Setting) (options : ParseOptions) (bytes : List ℕ) (same : s.byt
     logged empty n m k R front back shapes h st pt low whole f b = tt
     logged (leaf_then name link cs rest) n m k R front back shapes h st pt low whole f b = elim (cases_Bool (is_run name)) [
       | inr e ↦
-          let here : leaf_run options bytes (length front) n k name (start_of cs) (stop_of document_start cs) ≡ [] = ap (λ (y : Bool). if y then sequence_at options bytes (length front) n k (start_of cs) (stop_of document_start cs) ∷ [] else []) e in
+          let here : leaf_run options bytes content (length front) n k name (start_of cs) (stop_of document_start cs) ≡ [] = ap (λ (y : Bool). if y then sequence_at options bytes content (length front) n k (start_of cs) (stop_of document_start cs) ∷ [] else []) e in
           let none : length front + 0 ≡ length front = omega arith in
           let whole' : list ≡ front ++ (runs (length front) (n + 2) m k rest ++ back) =
           whole ∙ ap (λ xs. front ++ ((xs ++ runs (length front + length xs) (n + 2) m k rest) ++ back)) here ∙ ap (λ g. front ++ (runs g (n + 2) m k rest ++ back)) none in (
@@ -156,8 +156,8 @@ module _ (s : Setting) (options : ParseOptions) (bytes : List ℕ) (same : s.byt
             ((λ y. absurd (both_ways (is_run name) e y)), λ y. logged rest (n + 2) m k R front back shapes h.1 st.1 pt.1 low whole' f b),
           )
       | inl e ↦
-          let r : Sequence = sequence_at options bytes (length front) n k (start_of cs) (stop_of document_start cs) in
-          let here : leaf_run options bytes (length front) n k name (start_of cs) (stop_of document_start cs) ≡ r ∷ [] = ap (λ (y : Bool). if y then r ∷ [] else []) e in
+          let r : Sequence = sequence_at options bytes content (length front) n k (start_of cs) (stop_of document_start cs) in
+          let here : leaf_run options bytes content (length front) n k name (start_of cs) (stop_of document_start cs) ≡ r ∷ [] = ap (λ (y : Bool). if y then r ∷ [] else []) e in
           let one : length (front ++ r ∷ []) ≡ length front + 1 = length-append front (r ∷ []) in
           let more : List Sequence = runs (length front + 1) (n + 2) m k rest in
           let whole1 : list ≡ front ++ r ∷ (more ++ back) = whole ∙ ap (λ xs. front ++ ((xs ++ runs (length front + length xs) (n + 2) m k rest) ++ back)) here in
@@ -169,7 +169,7 @@ module _ (s : Setting) (options : ParseOptions) (bytes : List ℕ) (same : s.byt
           ap length (split q front (r ∷ []) ∙ ap (λ xs. runs_in q front ++ xs) mine) ∙ (let y = length-append (runs_in q front) (r ∷ []) in omega (arith, y)) in
           let front' : Lacks m (m + text_count rest) (front ++ r ∷ []) =
           λ j l u. split j front (r ∷ []) ∙ ap (λ xs. xs ++ runs_in j (r ∷ [])) (f j l u)
-          ∙ ap (λ xs. runs_in j xs) (sym here) ∙ leaf-out s options bytes same given (length front) n k j name (start_of cs) (stop_of document_start cs) (λ y. omega (arith, y, l, low)) in (
+          ∙ ap (λ xs. runs_in j xs) (sym here) ∙ leaf-out s options bytes content same given held (length front) n k j name (start_of cs) (stop_of document_start cs) (λ y. omega (arith, y, l, low)) in (
             (λ y. leaf-logged front (more ++ back) r k n cs R shapes whole1 refl (h.0.1 e) (st.0 e).1.1 (pt.0 e)),
             (
               (λ y. subst (λ (j : ℕ). Logged (n + 2) (own k) j rest) count (logged rest (n + 2) m k R (front ++ r ∷ []) back shapes h.1 st.1 pt.1 low whole2 front' b)),
@@ -190,22 +190,22 @@ module _ (s : Setting) (options : ParseOptions) (bytes : List ℕ) (same : s.byt
         let whole2 : list ≡ (front ++ of) ++ (runs (length (front ++ of)) j past k rest ++ back) =
         whole1 ∙ sym (append_assoc front of (more ++ back)) ∙ ap (λ x. (front ++ of) ++ (runs x j past k rest ++ back)) (sym size) in
         let behind : (r : ℕ) → m < r → r ≤ past → runs_in r (more ++ back) ≡ [] =
-        λ r l u. split r more back ∙ ap (λ zs. zs ++ runs_in r back) (others s options bytes same given rest g j past k r (λ e. omega (arith, e, l, low)) (inl u)) ∙ b r l (omega (arith, u)) in
-        let inner_low : row_around (inner n m k name) ≤ m' = elim (inner-row s options bytes same given n m k name) [ inl x ↦ omega (arith, x.1.0, x.1.1) | inr x ↦ (let y = ap row_around x.1 in omega (arith, y, low)) ] in
+        λ r l u. split r more back ∙ ap (λ zs. zs ++ runs_in r back) (others s options bytes content same given held rest g j past k r (λ e. omega (arith, e, l, low)) (inl u)) ∙ b r l (omega (arith, u)) in
+        let inner_low : row_around (inner n m k name) ≤ m' = elim (inner-row s options bytes content same given held n m k name) [ inl x ↦ omega (arith, x.1.0, x.1.1) | inr x ↦ (let y = ap row_around x.1 in omega (arith, y, low)) ] in
         let front_in : Lacks m' past front = λ r l u. f r (omega (arith, l)) (omega (arith, u)) in
         let back_in : Lacks m' past (more ++ back) = λ r l u. behind r (omega (arith, l)) u in
-        let none : runs_in q of ≡ [] = elim (inner-row s options bytes same given n m k name) [
-          | inl x ↦ others s options bytes same given inside (length front) (n + 1) m' (inner n m k name) q (λ y. omega (arith, y, x.1.0, low)) (inl (omega (arith, low)))
+        let none : runs_in q of ≡ [] = elim (inner-row s options bytes content same given held n m k name) [
+          | inl x ↦ others s options bytes content same given held inside (length front) (n + 1) m' (inner n m k name) q (λ y. omega (arith, y, x.1.0, low)) (inl (omega (arith, low)))
           | inr x ↦
-              no-shapes (runs_in q of) (sym (row-is s options bytes same given inside (length front) (n + 1) m' (inner n m k name) q h.1.0 (ap row_around x.1) (omega (arith, low)))
-              ∙ ap (map shape_of) (none-in s options bytes same given inside (h.0.1 x.0)))
+              no-shapes (runs_in q of) (sym (row-is s options bytes content same given held inside (length front) (n + 1) m' (inner n m k name) q h.1.0 (ap row_around x.1) (omega (arith, low)))
+              ∙ ap (map shape_of) (none-in s options bytes content same given held inside (h.0.1 x.0)))
         ] in
         let count : length (runs_in q (front ++ of)) ≡ length (runs_in q front) = ap length (split q front of ∙ ap (λ xs. runs_in q front ++ xs) none ∙ append-nil (runs_in q front)) in
         let front_after : Lacks past (past + text_count rest) (front ++ of) =
         λ r l u. split r front of ∙ ap (λ zs. zs ++ runs_in r of) (f r (omega (arith, l)) (omega (arith, u)))
-        ∙ others s options bytes same given inside (length front) (n + 1) m' (inner n m k name) r (λ e. omega (arith, inner_low, e, l)) (inr l) in
+        ∙ others s options bytes content same given held inside (length front) (n + 1) m' (inner n m k name) r (λ e. omega (arith, inner_low, e, l)) (inr l) in
         let back_after : Lacks past (past + text_count rest) back = λ r l u. b r (omega (arith, l)) (omega (arith, u)) in
-        let first : Logged (n + 1) (Model.pair_list s (runs_of s inside)) 0 inside = elim (inner-row s options bytes same given n m k name) [
+        let first : Logged (n + 1) (Model.pair_list s (runs_of s inside)) 0 inside = elim (inner-row s options bytes content same given held n m k name) [
           | inl x ↦
               let key : row_around (inner n m k name) ≡ m + 1 = x.1.0 in
               let one : as_text name ≡ 1 = x.1.1 in
@@ -215,7 +215,7 @@ module _ (s : Setting) (options : ParseOptions) (bytes : List ℕ) (same : s.byt
               ∙ split (m + 1) front (of ++ (more ++ back)) ∙ ap (λ xs. xs ++ runs_in (m + 1) (of ++ (more ++ back))) none_front
               ∙ split (m + 1) of (more ++ back) ∙ ap (λ xs. runs_in (m + 1) of ++ xs) (behind (m + 1) (omega arith) (omega (arith, one))) ∙ append-nil (runs_in (m + 1) of) in
               let shapes_in : Shapes (inner n m k name) (runs_of s inside) =
-              row-is s options bytes same given inside (length front) (n + 1) m' (inner n m k name) (m + 1) h.1.0 key (omega (arith, one))
+              row-is s options bytes content same given held inside (length front) (n + 1) m' (inner n m k name) (m + 1) h.1.0 key (omega (arith, one))
               ∙ ap (map whole_shape) (sym middle)
               ∙ ap (λ r. map whole_shape (runs_in r list)) (sym key) in
               let pairs_are : own (inner n m k name) ≡ Model.pair_list s (runs_of s inside) =
@@ -238,7 +238,7 @@ module _ (s : Setting) (options : ParseOptions) (bytes : List ℕ) (same : s.byt
         IsLogged s (Model.pair_list s) comes 0 (Model.pair_list s (runs_of s t)) 0 t
     unfolding Lacks
     all-logged t h st pt e =
-        let shapes : Shapes None (runs_of s t) = row-is s options bytes same given t 0 0 0 None 0 h refl (omega arith) ∙ ap (λ xs. map whole_shape (runs_in 0 xs)) (sym e) in
+        let shapes : Shapes None (runs_of s t) = row-is s options bytes content same given held t 0 0 0 None 0 h refl (omega arith) ∙ ap (λ xs. map whole_shape (runs_in 0 xs)) (sym e) in
         let pairs_are : own None ≡ Model.pair_list s (runs_of s t) =
         same_pair_list s (runs_of s t) (own None) (Model.pair_list s (runs_of s t)) (read.lists None (runs_of s t) shapes) (some_pair_list s (runs_of s t)) in
         subst (λ (ps : List Model.Pair). Logged 0 ps 0 t) pairs_are

@@ -10,6 +10,7 @@ use Rattle.markdown_attention.specs.RunsRead.{Container, opens_run, sequence_at,
 use Rattle.markdown_attention.specs.declared.attention.runs.Sequence.{Sequence}
 use Rattle.markdown_attention.specs.RunEdits.{edits_by}
 use Rattle.markdown_attention.specs.TokenWord.{begins_run, IsPassLog}
+use Rattle.markdown_content.specs.Codes.{Code}
 
 zero-more : (n : ℕ) → 0 + n ≡ n
 zero-more n = omega arith
@@ -90,37 +91,37 @@ module _ (comes : Sequence → List Event) where
 
   -- By the events.
 
-  module _ (options : ParseOptions) (bytes : List ℕ) where
+  module _ (options : ParseOptions) (bytes : List ℕ) (content : List Code) where
     abbrev from : ℕ → ℕ → Around → List Event → List Sequence
-    from n i w es = runs_from options bytes n i w es
+    from n i w es = runs_from options bytes content n i w es
 
     -- the run that begins at the first event, or none
     record Begun (n i : ℕ) (c : Container) (e : Event) (es : List Event) : Type 0 where
       run : Sequence
       event : run.event ≡ i
       number : run.number ≡ n
-      is : first_run options bytes n i c (e ∷ es) ≡ run ∷ []
+      is : first_run options bytes content n i c (e ∷ es) ≡ run ∷ []
 
     begun : (n i : ℕ) (c : Container) (e : Event) (es : List Event) → HaveRunPlaces bytes (e ∷ es) →
         opens_run e ≡ true → Begun n i c e es
     begun n i c e [] h o = absurd (h.0 o)
     begun n i c e (x ∷ es) h o =
-        record { run = sequence_at options bytes n i c e.point x.point; event = refl; number = refl; is = ap (λ b. if b then sequence_at options bytes n i c e.point x.point ∷ [] else []) o }
+        record { run = sequence_at options bytes content n i c e.point x.point; event = refl; number = refl; is = ap (λ b. if b then sequence_at options bytes content n i c e.point x.point ∷ [] else []) o }
 
     none-begun : (n i : ℕ) (c : Container) (e : Event) (es : List Event) → opens_run e ≡ false →
-        first_run options bytes n i c (e ∷ es) ≡ []
+        first_run options bytes content n i c (e ∷ es) ≡ []
     none-begun n i c e [] o = refl
-    none-begun n i c e (x ∷ es) o = ap (λ b. if b then sequence_at options bytes n i c e.point x.point ∷ [] else []) o
+    none-begun n i c e (x ∷ es) o = ap (λ b. if b then sequence_at options bytes content n i c e.point x.point ∷ [] else []) o
 
     abbrev rest_from : ℕ → ℕ → Around → Event → List Event → List Sequence
     rest_from n i w e es =
-        from (n + length (first_run options bytes n i w.container (e ∷ es))) (suc i) (where_after i e w) es
+        from (n + length (first_run options bytes content n i w.container (e ∷ es))) (suc i) (where_after i e w) es
 
     pub are-from : (es : List Event) (n i : ℕ) (w : Around) → HaveRunPlaces bytes es → AreInOrderFrom i (from n i w es)
     are-from [] n i w h = tt
     are-from (e ∷ es) n i w h =
         let rest : List Sequence = rest_from n i w e es in
-        let later : AreInOrderFrom (suc i) rest = are-from es (n + length (first_run options bytes n i w.container (e ∷ es))) (suc i) (where_after i e w) h.1 in
+        let later : AreInOrderFrom (suc i) rest = are-from es (n + length (first_run options bytes content n i w.container (e ∷ es))) (suc i) (where_after i e w) h.1 in
         elim (cases_Bool (opens_run e)) [
           | inl o ↦
               let b = begun n i w.container e es h o in
@@ -136,7 +137,7 @@ module _ (comes : Sequence → List Event) where
     removed-place [] n i w k (suc j) e h = refl
     removed-place (x ∷ es) n i w k zero e h =
         let rest : List Sequence = rest_from n i w x es in
-        let later : AreInOrderFrom (suc i) rest = are-from es (n + length (first_run options bytes n i w.container (x ∷ es))) (suc i) (where_after i x w) h.1 in
+        let later : AreInOrderFrom (suc i) rest = are-from es (n + length (first_run options bytes content n i w.container (x ∷ es))) (suc i) (where_after i x w) h.1 in
         let none : removed_at k (edits rest) ≡ 0 = removed-below (suc i) k rest later (omega (arith, e)) in
         elim (cases_Bool (opens_run x)) [
           | inl o ↦
@@ -150,7 +151,7 @@ module _ (comes : Sequence → List Event) where
     removed-place (x ∷ es) n i w k (suc j) e h =
         let rest : List Sequence = rest_from n i w x es in
         let ih : removed_at k (edits rest) ≡ (if begins_run (drop j es) then 2 else 0) =
-        removed-place es (n + length (first_run options bytes n i w.container (x ∷ es))) (suc i) (where_after i x w) k j (omega (arith, e)) h.1 in
+        removed-place es (n + length (first_run options bytes content n i w.container (x ∷ es))) (suc i) (where_after i x w) k j (omega (arith, e)) h.1 in
         elim (cases_Bool (opens_run x)) [
           | inl o ↦
               let b = begun n i w.container x es h o in
@@ -166,12 +167,12 @@ module _ (comes : Sequence → List Event) where
     back-place [] n i w k j e h f = refl
     back-place (x ∷ es) n i w k zero e h f =
         let rest : List Sequence = rest_from n i w x es in
-        let later : AreInOrderFrom (suc i) rest = are-from es (n + length (first_run options bytes n i w.container (x ∷ es))) (suc i) (where_after i x w) h.1 in
+        let later : AreInOrderFrom (suc i) rest = are-from es (n + length (first_run options bytes content n i w.container (x ∷ es))) (suc i) (where_after i x w) h.1 in
         ap (λ xs. back_at k (edits (xs ++ rest))) (none-begun n i w.container x es f) ∙ back-below (suc i) k rest later (omega (arith, e))
     back-place (x ∷ es) n i w k (suc j) e h f =
         let rest : List Sequence = rest_from n i w x es in
         let ih : back_at k (edits rest) ≡ [] =
-        back-place es (n + length (first_run options bytes n i w.container (x ∷ es))) (suc i) (where_after i x w) k j (omega (arith, e)) h.1 f in
+        back-place es (n + length (first_run options bytes content n i w.container (x ∷ es))) (suc i) (where_after i x w) k j (omega (arith, e)) h.1 f in
         elim (cases_Bool (opens_run x)) [
           | inl o ↦
               let b = begun n i w.container x es h o in
@@ -203,16 +204,16 @@ module _ (comes : Sequence → List Event) where
     numbered [] n i w g h l = absurd (omega (arith, l))
     numbered (e ∷ es) n i w g h l =
         let rest : List Sequence = rest_from n i w e es in
-        let ih = numbered es (n + length (first_run options bytes n i w.container (e ∷ es))) (suc i) (where_after i e w) in
+        let ih = numbered es (n + length (first_run options bytes content n i w.container (e ∷ es))) (suc i) (where_after i e w) in
         elim (cases_Bool (opens_run e)) [
           | inl o ↦
               let b = begun n i w.container e es h o in
-              let size : length (first_run options bytes n i w.container (e ∷ es)) ≡ 1 = ap length b.is in
+              let size : length (first_run options bytes content n i w.container (e ∷ es)) ≡ 1 = ap length b.is in
               subst (λ (xs : List Sequence). (run_at (xs ++ rest) g).number ≡ n + g) (sym b.is)
               (first-or g b.run rest n b.number (λ j k. ih j h.1 k ∙ omega (arith, size)) (subst (λ (xs : List Sequence). g < length (xs ++ rest)) b.is l))
           | inr o ↦
               let none = none-begun n i w.container e es o in
-              let size : length (first_run options bytes n i w.container (e ∷ es)) ≡ 0 = ap length none in
+              let size : length (first_run options bytes content n i w.container (e ∷ es)) ≡ 0 = ap length none in
               subst (λ (xs : List Sequence). (run_at (xs ++ rest) g).number ≡ n + g) (sym none)
               (ih g h.1 (subst (λ (xs : List Sequence). g < length (xs ++ rest)) none l) ∙ omega (arith, size))
         ]

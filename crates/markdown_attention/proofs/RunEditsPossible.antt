@@ -15,6 +15,7 @@ use Rattle.markdown_attention.specs.RunEdits.{edits_by, HaveRunEnds}
 use Rattle.markdown_attention.specs.TokenWord.{begins_run}
 use Rattle.markdown_attention.proofs.RunEditPlaces.{pass-log}
 use Rattle.markdown_attention.proofs.AttentionPassLaw.{runs-of-two}
+use Rattle.markdown_content.specs.Codes.{Code}
 
 ends-drop : (j : ℕ) (es : List Event) → HaveRunEnds es → HaveRunEnds (drop j es)
 ends-drop zero es h = h
@@ -26,9 +27,9 @@ run-unlinked [] h b = cc
 run-unlinked (e ∷ []) h b = (ap has_link (h.0 b).0, refl)
 run-unlinked (e ∷ x ∷ xs) h b = (ap has_link (h.0 b).0, ap has_link (h.0 b).1.0)
 
-module _ (comes : Sequence → List Event) (options : ParseOptions) (bytes : List ℕ) where
+module _ (comes : Sequence → List Event) (options : ParseOptions) (bytes : List ℕ) (content : List Code) where
   abbrev from : ℕ → ℕ → Around → List Event → List Sequence
-  from n i w es = runs_from options bytes n i w es
+  from n i w es = runs_from options bytes content n i w es
 
   abbrev RunEditsWithin : ℕ → List Sequence → Type 0
   RunEditsWithin m rs = All (λ e. e.at ≤ m) (edits_by comes rs)
@@ -37,8 +38,8 @@ module _ (comes : Sequence → List Event) (options : ParseOptions) (bytes : Lis
   within [] n i w m l = All-nil (λ e. e.at ≤ m)
   within (e ∷ []) n i w m l = All-nil (λ e. e.at ≤ m)
   within (e ∷ x ∷ es) n i w m l =
-      let r : Sequence = sequence_at options bytes n i w.container e.point x.point in
-      let first : List Sequence = first_run options bytes n i w.container (e ∷ x ∷ es) in
+      let r : Sequence = sequence_at options bytes content n i w.container e.point x.point in
+      let first : List Sequence = first_run options bytes content n i w.container (e ∷ x ∷ es) in
       let rest : List Sequence = from (n + length first) (suc i) (where_after i e w) (x ∷ es) in
       let ih : RunEditsWithin m rest = within (x ∷ es) (n + length first) (suc i) (where_after i e w) m (omega (arith, l)) in
       elim (cases_Bool (opens_run e)) [
@@ -58,5 +59,5 @@ module _ (comes : Sequence → List Event) (options : ParseOptions) (bytes : Lis
       let log : List Edit = log_of es in
       record {
         places = within es 0 0 outermost (length es) (omega arith);
-        unlinked = goes-unlinked log (λ k. begins_run (drop k es)) (λ k. added_at k log) (runs-of-two es log (λ k. added_at k log) (pass-log comes options bytes es outermost p)) es (λ k b. run-unlinked (drop k es) (ends-drop k es h) b);
+        unlinked = goes-unlinked log (λ k. begins_run (drop k es)) (λ k. added_at k log) (runs-of-two es log (λ k. added_at k log) (pass-log comes options bytes content es outermost p)) es (λ k b. run-unlinked (drop k es) (ends-drop k es h) b);
       }

@@ -18,6 +18,7 @@ use Rattle.markdown_attention.proofs.RunEditPlaces.{numbered}
 use Rattle.markdown_attention.proofs.AttentionEditsLaw.{sizes-sum}
 use Rattle.markdown_attention.specs.RunEdits.{HaveRunRoom}
 use Rattle.markdown_attention.specs.PairSizes.{side_of, HasRoomFor}
+use Rattle.markdown_content.specs.Codes.{Code}
 
 -- a run among these events, the first of which is event i
 record RunFits (r : Sequence) (i : ℕ) (es : List Event) : Type 0 where
@@ -31,9 +32,9 @@ fits-later : (r : Sequence) (i : ℕ) (e : Event) (es : List Event) → RunFits 
 fits-later r i e es f =
     record { at = suc f.at; event = omega (arith, f.event); within = omega (arith, f.within); column = f.column; index = f.index }
 
-module _ (options : ParseOptions) (bytes : List ℕ) where
+module _ (options : ParseOptions) (bytes : List ℕ) (content : List Code) where
   fits : (es : List Event) (n i : ℕ) (w : Around) (g : ℕ) → HaveRunPlaces bytes es → HaveRunEnds es → HaveRunRoom es →
-      g < length (runs_from options bytes n i w es) → RunFits (run_at (runs_from options bytes n i w es) g) i es
+      g < length (runs_from options bytes content n i w es) → RunFits (run_at (runs_from options bytes content n i w es) g) i es
   fits [] n i w g h k m l = absurd (omega (arith, l))
   fits (e ∷ []) n i w g h k m l = absurd (omega (arith, l))
   fits (e ∷ x ∷ es) n i w g h k m l =
@@ -50,19 +51,19 @@ module _ (options : ParseOptions) (bytes : List ℕ) where
       next = where_after i e w
 
       q : Sequence
-      q = sequence_at options bytes n i w.container e.point x.point
+      q = sequence_at options bytes content n i w.container e.point x.point
 
       all : List Sequence → List Sequence
-      all xs = xs ++ runs_from options bytes (n + length xs) (suc i) next (x ∷ es)
+      all xs = xs ++ runs_from options bytes content (n + length xs) (suc i) next (x ∷ es)
 
-      yes-first : opens_run e ≡ true → first_run options bytes n i w.container (e ∷ x ∷ es) ≡ q ∷ []
+      yes-first : opens_run e ≡ true → first_run options bytes content n i w.container (e ∷ x ∷ es) ≡ q ∷ []
       yes-first o = ap (λ (b : Bool). if b then q ∷ [] else []) o
 
-      no-first : opens_run e ≡ false → first_run options bytes n i w.container (e ∷ x ∷ es) ≡ []
+      no-first : opens_run e ≡ false → first_run options bytes content n i w.container (e ∷ x ∷ es) ≡ []
       no-first o = ap (λ (b : Bool). if b then q ∷ [] else []) o
 
       first : (j : ℕ) → opens_run e ≡ true → j < length (all (q ∷ []))
-          → ((j : ℕ) → j < length (runs_from options bytes (n + 1) (suc i) next (x ∷ es)) → RunFits (run_at (runs_from options bytes (n + 1) (suc i) next (x ∷ es)) j) (suc i) (x ∷ es))
+          → ((j : ℕ) → j < length (runs_from options bytes content (n + 1) (suc i) next (x ∷ es)) → RunFits (run_at (runs_from options bytes content (n + 1) (suc i) next (x ∷ es)) j) (suc i) (x ∷ es))
           → RunFits (run_at (all (q ∷ [])) j) i (e ∷ x ∷ es)
       first zero o u ih =
           let end : x.point ≡ shifted e.point (x.point.index - e.point.index) = (k.0 o).1.1 in
@@ -72,10 +73,10 @@ module _ (options : ParseOptions) (bytes : List ℕ) where
           record { at = 0; event = omega arith; within = omega arith; column = omega (arith, c, small.0); index = omega (arith, d, small.1) }
       first (suc j) o u ih = fits-later _ i e (x ∷ es) (ih j (omega (arith, u)))
 
-module _ (options : ParseOptions) (bytes : List ℕ) (es : List Event) (places : HaveRunPlaces bytes es) (ends : HaveRunEnds es) (room : HaveRunRoom es) (fin : List Sequence) (pairs : List Pair)
-    (stands : AreRunsAfter (runs_from options bytes 0 0 outermost es) fin pairs) (within : ArePairsWithin (runs_from options bytes 0 0 outermost es) pairs) where
+module _ (options : ParseOptions) (bytes : List ℕ) (content : List Code) (es : List Event) (places : HaveRunPlaces bytes es) (ends : HaveRunEnds es) (room : HaveRunRoom es) (fin : List Sequence) (pairs : List Pair)
+    (stands : AreRunsAfter (runs_from options bytes content 0 0 outermost es) fin pairs) (within : ArePairsWithin (runs_from options bytes content 0 0 outermost es) pairs) where
   abbrev list : List Sequence
-  list = runs_from options bytes 0 0 outermost es
+  list = runs_from options bytes content 0 0 outermost es
 
   -- as `group_runs` asks
   pub has-room : AreTakenOnce list pairs → (i : ℕ) → i < length fin → HasRoomFor es (length fin) pairs (run_at fin i)
@@ -83,9 +84,9 @@ module _ (options : ParseOptions) (bytes : List ℕ) (es : List Event) (places :
       let size : length fin ≡ length list = stands.same_length in
       let u : i < length list = omega (arith, l, size) in
       let r : Sequence = run_at list i in
-      let number : r.number ≡ i = numbered (λ x. []) options bytes es 0 0 outermost i places u ∙ omega arith in
+      let number : r.number ≡ i = numbered (λ x. []) options bytes content es 0 0 outermost i places u ∙ omega arith in
       let sum : total (closed_sizes i pairs) + left_of list pairs i + total (opened_sizes i pairs) ≡ r.size = sizes-sum list pairs i u within once in
-      let f = fits options bytes es 0 0 outermost i places ends room u in
+      let f = fits options bytes content es 0 0 outermost i places ends room u in
       let at : r.event ≡ f.at = f.event ∙ omega arith in
       let sums : total (closed_sizes r.number pairs) + left_of list pairs i + total (opened_sizes r.number pairs) ≡ r.size =
       ap (λ j. total (closed_sizes j pairs) + left_of list pairs i + total (opened_sizes j pairs)) number ∙ sum in

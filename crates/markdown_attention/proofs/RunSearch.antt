@@ -9,6 +9,7 @@ use Rattle.markdown_attention.specs.RunSteps.{changes_reading}
 use Rattle.markdown_attention.specs.declared.attention.reading.Where.{Where}
 use Rattle.markdown_attention.specs.declared.attention.runs.Sequence.{Sequence}
 use Rattle.markdown_attention.proofs.RunsReadLemmas.{RunsSoFar, first-event, reading-more}
+use Rattle.markdown_content.specs.Codes.{Code}
 
 event-at : (k : ℕ) (es : List Event) → k < length es → (e : Event) × (e ≡ get_or es k e)
 event-at k [] l = absurd (omega (arith, l))
@@ -48,35 +49,35 @@ no-text e h = by_test (opens_run e) (is_text e.name) h
     by_test true false h = refl
     by_test false t h = h
 
-first-none : (options : ParseOptions) (bytes : List ℕ) (n i : ℕ) (k : Container) (e : Event) (es : List Event) → opens_run e ≡ false →
-    first_run options bytes n i k (e ∷ es) ≡ []
-first-none options bytes n i k e [] h = refl
-first-none options bytes n i k e (x ∷ es) h = rw h refl
+first-none : (options : ParseOptions) (bytes : List ℕ) (content : List Code) (n i : ℕ) (k : Container) (e : Event) (es : List Event) → opens_run e ≡ false →
+    first_run options bytes content n i k (e ∷ es) ≡ []
+first-none options bytes content n i k e [] h = refl
+first-none options bytes content n i k e (x ∷ es) h = rw h refl
 
 where-same : (i : ℕ) (e : Event) (w : Where) → is_text e.name ≡ false → w ≡ where_after i e w
 where-same i e w h = rw h refl
 
 -- they change nothing of what is read
-reading-on : (n : ℕ) (options : ParseOptions) (bytes : List ℕ) (events : List Event) (i : ℕ) (list : List Sequence) (w : Where) → i + n ≤ length events
-    → AreOthers events i (i + n) → RunsSoFar options bytes events i list w → RunsSoFar options bytes events (i + n) list w
-reading-on zero options bytes events i list w l none r =
-    let same : i ≡ i + 0 = omega arith in subst (λ k. RunsSoFar options bytes events k list w) same r
-reading-on (suc n) options bytes events i list w l none r =
+reading-on : (n : ℕ) (options : ParseOptions) (bytes : List ℕ) (content : List Code) (events : List Event) (i : ℕ) (list : List Sequence) (w : Where) → i + n ≤ length events
+    → AreOthers events i (i + n) → RunsSoFar options bytes content events i list w → RunsSoFar options bytes content events (i + n) list w
+reading-on zero options bytes content events i list w l none r =
+    let same : i ≡ i + 0 = omega arith in subst (λ k. RunsSoFar options bytes content events k list w) same r
+reading-on (suc n) options bytes content events i list w l none r =
     let below : i < length events = omega (arith, l) in
     let at = event-at i events below in
     let e : Event = at.0 in
     let other : changes_reading e ≡ false = ap changes_reading at.1 ∙ none i e (omega arith) (omega arith) in
-    let empty : first_run options bytes (length list) i w.container (drop i events) ≡ [] =
-    ap (first_run options bytes (length list) i w.container) (first-event events i e below at.1)
-    ∙ first-none options bytes (length list) i w.container e (drop (i + 1) events) (no-run e other) in
-    let lists : list ≡ list ++ first_run options bytes (length list) i w.container (drop i events) =
+    let empty : first_run options bytes content (length list) i w.container (drop i events) ≡ [] =
+    ap (first_run options bytes content (length list) i w.container) (first-event events i e below at.1)
+    ∙ first-none options bytes content (length list) i w.container e (drop (i + 1) events) (no-run e other) in
+    let lists : list ≡ list ++ first_run options bytes content (length list) i w.container (drop i events) =
     sym (append-nil list) ∙ ap (λ xs. list ++ xs) (sym empty) in
-    let next = reading-more options bytes events i list list w w e below at.1 lists (where-same i e w (no-text e other)) r in
+    let next = reading-more options bytes content events i list list w w e below at.1 lists (where-same i e w (no-text e other)) r in
     let there : i + 1 + n ≡ i + suc n = omega arith in
-    subst (λ k. RunsSoFar options bytes events k list w) there (reading-on n options bytes events (i + 1) list w (omega (arith, l)) (λ j x low high. none j x (omega (arith, low)) (omega (arith, high))) next)
+    subst (λ k. RunsSoFar options bytes content events k list w) there (reading-on n options bytes content events (i + 1) list w (omega (arith, l)) (λ j x low high. none j x (omega (arith, low)) (omega (arith, high))) next)
 
-pub reading-past : (options : ParseOptions) (bytes : List ℕ) (events : List Event) (i k : ℕ) (list : List Sequence) (w : Where) → i ≤ k → k ≤ length events
-    → AreOthers events i k → RunsSoFar options bytes events i list w → RunsSoFar options bytes events k list w
-reading-past options bytes events i k list w low high none r =
+pub reading-past : (options : ParseOptions) (bytes : List ℕ) (content : List Code) (events : List Event) (i k : ℕ) (list : List Sequence) (w : Where) → i ≤ k → k ≤ length events
+    → AreOthers events i k → RunsSoFar options bytes content events i list w → RunsSoFar options bytes content events k list w
+reading-past options bytes content events i k list w low high none r =
     let there : i + (k - i) ≡ k = omega (arith, low) in
-    subst (λ m. RunsSoFar options bytes events m list w) there (reading-on (k - i) options bytes events i list w (omega (arith, low, high)) (λ j x first last. none j x first (omega (arith, last, low))) r)
+    subst (λ m. RunsSoFar options bytes content events m list w) there (reading-on (k - i) options bytes content events i list w (omega (arith, low, high)) (λ j x first last. none j x first (omega (arith, last, low))) r)

@@ -163,22 +163,22 @@ module _ (bytes : List ℕ) (u : IsUtf8 bytes) where
   abbrev AreFew : ℕ → List Sequence → Type 0
   AreFew low list = (markers_left list + low ≤ length bytes) × (length list + low ≤ length bytes)
 
-  few-in : (options : ParseOptions) (es : List Event) (n i : ℕ) (w : Around) (low : ℕ) → HaveRunsInOrder bytes es →
-      BeginFrom low es → low ≤ length bytes → AreFew low (runs_from options bytes n i w es)
-  few-in options [] n i w low h b l = (omega (arith, l), omega (arith, l))
-  few-in options (e ∷ []) n i w low h b l = (omega (arith, l), omega (arith, l))
-  few-in options (e ∷ x ∷ es) n i w low h b l =
+  few-in : (options : ParseOptions) (content : List Code) (es : List Event) (n i : ℕ) (w : Around) (low : ℕ) → HaveRunsInOrder bytes es →
+      BeginFrom low es → low ≤ length bytes → AreFew low (runs_from options bytes content n i w es)
+  few-in options content [] n i w low h b l = (omega (arith, l), omega (arith, l))
+  few-in options content (e ∷ []) n i w low h b l = (omega (arith, l), omega (arith, l))
+  few-in options content (e ∷ x ∷ es) n i w low h b l =
       elim (cases_Bool (opens_run e)) [
         | inl o ↦
             let f : IsFitRun bytes e.point x.point = fit bytes u e x (h.runs 0 o) in
             let more : AreFew x.point.index (rest (q ∷ [])) =
-            few-in options (x ∷ es) (n + 1) (suc i) next x.point.index later (λ j c. h.order 0 (suc j) (omega arith) o c) f.within in
+            few-in options content (x ∷ es) (n + 1) (suc i) next x.point.index later (λ j c. h.order 0 (suc j) (omega arith) o c) f.within in
             let first : low ≤ e.point.index = b 0 o in
             let sum : markers_left (q ∷ rest (q ∷ [])) ≡ q.remaining + markers_left (rest (q ∷ [])) = sum_by-cons (λ (r : Sequence). r.remaining) q (rest (q ∷ [])) in
             subst (λ (xs : List Sequence). AreFew low (xs ++ rest xs)) (sym (by_test true o)) (omega (arith, sum, first, f.some, more.0), omega (arith, first, f.some, more.1))
         | inr o ↦
             subst (λ (xs : List Sequence). AreFew low (xs ++ rest xs)) (sym (by_test false o))
-            (few-in options (x ∷ es) (n + 0) (suc i) next low later (λ j c. b (suc j) c) l)
+            (few-in options content (x ∷ es) (n + 0) (suc i) next low later (λ j c. b (suc j) c) l)
       ]
     where
       next : Around
@@ -188,20 +188,20 @@ module _ (bytes : List ℕ) (u : IsUtf8 bytes) where
       later = behind bytes e (x ∷ es) h
 
       q : Sequence
-      q = sequence_at options bytes n i w.container e.point x.point
+      q = sequence_at options bytes content n i w.container e.point x.point
 
       rest : List Sequence → List Sequence
-      rest xs = runs_from options bytes (n + length xs) (suc i) next (x ∷ es)
+      rest xs = runs_from options bytes content (n + length xs) (suc i) next (x ∷ es)
 
       by_test : (t : Bool) → opens_run e ≡ t →
-          first_run options bytes n i w.container (e ∷ x ∷ es) ≡ (if t then q ∷ [] else [])
+          first_run options bytes content n i w.container (e ∷ x ∷ es) ≡ (if t then q ∷ [] else [])
       by_test t o = ap (λ (z : Bool). if z then q ∷ [] else []) o
 
 pub in-order-may_pair : (T : Tokenizer) → T.map ≡ [] → IsUtf8 T.parse_state.now.bytes.now → length T.parse_state.now.bytes.now ≤ document_limit
     → HaveRunsInOrder T.parse_state.now.bytes.now T.events → MayPair T
 in-order-may_pair T map u few h =
     let bytes : List ℕ = T.parse_state.now.bytes.now in
-    let all = few-in bytes u T.parse_state.now.options.now T.events 0 0 outermost 0 h (λ j c. omega arith) (omega arith) in
+    let all = few-in bytes u T.parse_state.now.options.now T.cursor.codes T.events 0 0 outermost 0 h (λ j c. omega arith) (omega arith) in
     record {
       map = map;
       utf8 = u;

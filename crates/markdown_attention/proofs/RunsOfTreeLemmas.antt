@@ -15,8 +15,7 @@ use Rattle.markdown_event.specs.declared.event.Name.{Name}
 use Rattle.markdown_event.specs.declared.event.Name.TheVariants as N
 use Rattle.markdown_event.specs.declared.event.Point.{Point}
 use Rattle.markdown_model.specs.Laws.{Shape, shape_of}
-use Rattle.markdown_model.specs.Runs.{Run, is_flanking, may_act, run_of, runs_of}
-use Rattle.markdown_util.specs.Neighbours.{before_index, after_index}
+use Rattle.markdown_model.specs.Runs.{Run, is_flanking, may_act, run_of, runs_of, before_run, after_run}
 use Rattle.markdown_event.specs.declared.event.Content.{Content}
 use Rattle.markdown_model.specs.Setting.{Setting}
 use Rattle.markdown_attention.specs.RunContainers.{whole_shape, is_in, runs_in}
@@ -27,13 +26,13 @@ use Rattle.markdown_attention.specs.declared.attention.runs.Sequence.{Sequence}
 
 -- From events to the tree.
 
-module _ (options : ParseOptions) (bytes : List ℕ) where
+module _ (options : ParseOptions) (bytes : List ℕ) (content : List Code) where
   abbrev from : ℕ → ℕ → Where → List Event → List Sequence
-  from n i w es = runs_from options bytes n i w es
+  from n i w es = runs_from options bytes content n i w es
 
   -- an event that begins no run
   no-first : (n i : ℕ) (k : Container) (e : Event) (es : List Event) → opens_run e ≡ false →
-      first_run options bytes n i k (e ∷ es) ≡ []
+      first_run options bytes content n i k (e ∷ es) ≡ []
   no-first n i k e [] h = refl
   no-first n i k e (x ∷ es) h = rw h refl
 
@@ -48,11 +47,11 @@ module _ (options : ParseOptions) (bytes : List ℕ) where
 
   leaf-runs : (n i : ℕ) (w : Where) (name : Name) (p q : Point) (link : Option Link) (es : List Event) → is_text name ≡ false
       → from n i w (record { kind = Kind.Enter; name = name; point = p; link = link } ∷ event Kind.Exit name q ∷ es)
-      ≡ leaf_run options bytes n i w.container name p q ++ from (n + length (leaf_run options bytes n i w.container name p q)) (i + 2) w es
+      ≡ leaf_run options bytes content n i w.container name p q ++ from (n + length (leaf_run options bytes content n i w.container name p q)) (i + 2) w es
   leaf-runs n i w name p q link es h =
       let e : Event = record { kind = Kind.Enter; name = name; point = p; link = link } in
       let x : Event = event Kind.Exit name q in
-      let here : List Sequence = leaf_run options bytes n i w.container name p q in
+      let here : List Sequence = leaf_run options bytes content n i w.container name p q in
       let m : ℕ = n + length here in
       let next : from m (suc i) (where_after i e w) (x ∷ es) ≡ from m (i + 2) w es =
       ap (λ v. from m (suc i) v (x ∷ es)) (stays i e w h) ∙ passes m (suc i) w x es refl
@@ -84,29 +83,29 @@ module _ (options : ParseOptions) (bytes : List ℕ) where
 
   pub tree-runs : (t : Forest) (n i : ℕ) (previous : Option ℕ) (w : Where) (es : List Event) → HasRuns bytes t
       → from n i w (appended_from i previous t ++ es)
-      ≡ tree_runs options bytes n i w.texts w.container t ++ from (n + length (tree_runs options bytes n i w.texts w.container t)) (i + event_count t) (counted (w.texts + text_count t) w) es
+      ≡ tree_runs options bytes content n i w.texts w.container t ++ from (n + length (tree_runs options bytes content n i w.texts w.container t)) (i + event_count t) (counted (w.texts + text_count t) w) es
   tree-runs empty n i previous w es h =
       let a : n ≡ n + 0 = omega arith in
       let b : i ≡ i + 0 = omega arith in
       let c : w.texts ≡ w.texts + 0 = omega arith in
       λ z. from (a z) (b z) (counted (c z) w) es
   tree-runs (leaf_then name None cs rest) n i previous w es h =
-      let here : List Sequence = leaf_run options bytes n i w.container name (start_of cs) (stop_of document_start cs) in
+      let here : List Sequence = leaf_run options bytes content n i w.container name (start_of cs) (stop_of document_start cs) in
       leaf-runs n i w name (start_of cs) (stop_of document_start cs) None (appended_from (i + 2) previous rest ++ es) h.0.0
       ∙ ap (λ xs. here ++ xs) (tree-runs rest (n + length here) (i + 2) previous w es h.1)
-      ∙ behind here (tree_runs options bytes (n + length here) (i + 2) w.texts w.container rest) n (i + 2 + event_count rest) (i + (2 + event_count rest)) _ _ w es (omega arith) refl
+      ∙ behind here (tree_runs options bytes content (n + length here) (i + 2) w.texts w.container rest) n (i + 2 + event_count rest) (i + (2 + event_count rest)) _ _ w es (omega arith) refl
   tree-runs (leaf_then name (Some c) cs rest) n i previous w es h =
-      let here : List Sequence = leaf_run options bytes n i w.container name (start_of cs) (stop_of document_start cs) in
+      let here : List Sequence = leaf_run options bytes content n i w.container name (start_of cs) (stop_of document_start cs) in
       leaf-runs n i w name (start_of cs) (stop_of document_start cs) (link_of previous (Some c)) (appended_from (i + 2) (Some i) rest ++ es) h.0.0
       ∙ ap (λ xs. here ++ xs) (tree-runs rest (n + length here) (i + 2) (Some i) w es h.1)
-      ∙ behind here (tree_runs options bytes (n + length here) (i + 2) w.texts w.container rest) n (i + 2 + event_count rest) (i + (2 + event_count rest)) _ _ w es (omega arith) refl
+      ∙ behind here (tree_runs options bytes content (n + length here) (i + 2) w.texts w.container rest) n (i + 2 + event_count rest) (i + (2 + event_count rest)) _ _ w es (omega arith) refl
   tree-runs (group_then name enter exit inside rest) n i previous w es h =
       let a : Event = event Kind.Enter name enter in
       let c : Event = event Kind.Exit name exit in
       let w' : Where = where_after i a w in
       let front : List Event = appended_from (i + 1) None inside in
       let back : List Event = appended_from (i + 2 + event_count inside) previous rest in
-      let of : ℕ → Container → List Sequence = λ m k. tree_runs options bytes n (i + 1) m k inside in
+      let of : ℕ → Container → List Sequence = λ m k. tree_runs options bytes content n (i + 1) m k inside in
       let k : Container = inner i w.texts w.container name in
       let m : ℕ = w.texts + as_text name in
       let past : ℕ = m + text_count inside in
@@ -121,14 +120,14 @@ module _ (options : ParseOptions) (bytes : List ℕ) where
       passes l j (counted past w') c (back ++ es) refl
       ∙ (let e : j + 1 ≡ i + 2 + event_count inside = omega arith in λ z. from l (e z) (back-out i j past name enter exit w z) (back ++ es))
       ∙ tree-runs rest l (i + 2 + event_count inside) previous (counted past w) es h.1.1)
-      ∙ behind (of m k) (tree_runs options bytes l (i + 2 + event_count inside) past w.container rest) n (i + 2 + event_count inside + event_count rest)
+      ∙ behind (of m k) (tree_runs options bytes content l (i + 2 + event_count inside) past w.container rest) n (i + 2 + event_count inside + event_count rest)
       (i + (2 + event_count inside + event_count rest)) _ _ w es (omega arith) total
 
 -- From the tree to its rows.
 
-module _ (s : Setting) (options : ParseOptions) (bytes : List ℕ) (same : s.bytes ≡ bytes) (given : s.options ≡ options) where
+module _ (s : Setting) (options : ParseOptions) (bytes : List ℕ) (content : List Code) (same : s.bytes ≡ bytes) (given : s.options ≡ options) (held : s.content ≡ content) where
   abbrev runs : ℕ → ℕ → ℕ → Container → Forest → List Sequence
-  runs n i m k t = tree_runs options bytes n i m k t
+  runs n i m k t = tree_runs options bytes content n i m k t
 
   abbrev HaveWholeShapes : Forest → List Sequence → Type 0
   HaveWholeShapes t list = map shape_of (runs_of s t) ≡ map whole_shape list
@@ -137,21 +136,23 @@ module _ (s : Setting) (options : ParseOptions) (bytes : List ℕ) (same : s.byt
   filters k xs ys = filter-append (is_in k) xs ys
 
   pub leaf-shape : (n i : ℕ) (k : Container) (cs : List Code) → IsRun bytes cs →
-      shape_of (run_of s cs) ≡ whole_shape (sequence_at options bytes n i k (start_of cs) (stop_of document_start cs))
+      shape_of (run_of s cs) ≡ whole_shape (sequence_at options bytes content n i k (start_of cs) (stop_of document_start cs))
   unfolding run_of
   leaf-shape n i k [] h = absurd h
   leaf-shape n i k (c ∷ cs) h =
-      let to : ℕ = (stop_of c.stop cs).index in
-      let size : to - c.start.index ≡ suc (length cs) = (let e = h.1 in omega arith) in
-      let left : ParseOptions → List ℕ → ℕ → Bool = λ o bs v. is_flanking o v (before_index bs c.start.index) (after_index bs to) in
-      let right : ParseOptions → List ℕ → ℕ → Bool = λ o bs v. is_flanking o v (after_index bs to) (before_index bs c.start.index) in
-      let shape : ParseOptions → List ℕ → ℕ → ℕ → Shape = λ o bs v m. record {
+      let to : Point = stop_of c.stop cs in
+      let size : to.index - c.start.index ≡ suc (length cs) = (let e = h.1 in omega arith) in
+      let before : ParseOptions → List ℕ → List Code → Option ℕ = λ o bs ds. before_run o bs ds c.start.index in
+      let after : ParseOptions → List ℕ → List Code → Option ℕ = λ o bs ds. after_run o bs ds to.index in
+      let left : ParseOptions → List ℕ → List Code → ℕ → Bool = λ o bs ds v. is_flanking o v (before o bs ds) (after o bs ds) in
+      let right : ParseOptions → List ℕ → List Code → ℕ → Bool = λ o bs ds v. is_flanking o v (after o bs ds) (before o bs ds) in
+      let shape : ParseOptions → List ℕ → List Code → ℕ → ℕ → Shape = λ o bs ds v m. record {
         marker = v;
         size = m;
-        may_open = may_act o v (before_index bs c.start.index) (left o bs v) (right o bs v);
-        may_close = may_act o v (after_index bs to) (right o bs v) (left o bs v);
+        may_open = may_act o v (before o bs ds) (left o bs ds v) (right o bs ds v);
+        may_close = may_act o v (after o bs ds) (right o bs ds v) (left o bs ds v);
       } in
-      λ z. shape (given z) (same z) (sym h.0 z) (sym size z)
+      λ z. shape (given z) (same z) (held z) (sym h.0 z) (sym size z)
 
   runs-leaf : (name : Name) (link : Option Content) (cs : List Code) (rest : Forest) →
       runs_of s (leaf_then name link cs rest) ≡ cond (is_run name) (run_of s cs ∷ runs_of s rest) (runs_of s rest)
@@ -176,12 +177,12 @@ module _ (s : Setting) (options : ParseOptions) (bytes : List ℕ) (same : s.byt
 
   -- a leaf's run, in a row and in others
   pub leaf-in : (n i : ℕ) (k : Container) (r : ℕ) (name : Name) (p q : Point) → row_around k ≡ r →
-      runs_in r (leaf_run options bytes n i k name p q) ≡ leaf_run options bytes n i k name p q
+      runs_in r (leaf_run options bytes content n i k name p q) ≡ leaf_run options bytes content n i k name p q
   leaf-in n i k r name p q e =
       elim (cases_Bool (is_run name)) [ inl is ↦ rw (is, eq-eqb (row_around k) r e) refl | inr off ↦ rw off refl ]
 
   pub leaf-out : (n i : ℕ) (k : Container) (r : ℕ) (name : Name) (p q : Point) → (row_around k ≡ r → ⊥) →
-      runs_in r (leaf_run options bytes n i k name p q) ≡ []
+      runs_in r (leaf_run options bytes content n i k name p q) ≡ []
   leaf-out n i k r name p q e =
       elim (cases_Bool (is_run name)) [ inl is ↦ rw (is, ne_eqb (row_around k) r e) refl | inr off ↦ rw off refl ]
 
@@ -196,7 +197,7 @@ module _ (s : Setting) (options : ParseOptions) (bytes : List ℕ) (same : s.byt
       (r ≤ m) ⊎ (m + text_count t < r) → runs_in r (runs n i m k t) ≡ []
   others empty n i m k r ne far = refl
   others (leaf_then name link cs rest) n i m k r ne far =
-      let here : List Sequence = leaf_run options bytes n i k name (start_of cs) (stop_of document_start cs) in
+      let here : List Sequence = leaf_run options bytes content n i k name (start_of cs) (stop_of document_start cs) in
       filters r here _ ∙ ap (λ xs. xs ++ runs_in r (runs (n + length here) (i + 2) m k rest)) (leaf-out n i k r name (start_of cs) (stop_of document_start cs) ne)
       ∙ others rest (n + length here) (i + 2) m k r ne far
   others (group_then name p q inside rest) n i m k r ne far =
@@ -224,12 +225,12 @@ module _ (s : Setting) (options : ParseOptions) (bytes : List ℕ) (same : s.byt
   row-is (leaf_then name link cs rest) n i m k r h e low =
       let p : Point = start_of cs in
       let q : Point = stop_of document_start cs in
-      let here : List Sequence = leaf_run options bytes n i k name p q in
+      let here : List Sequence = leaf_run options bytes content n i k name p q in
       let more : List Sequence = runs (n + length here) (i + 2) m k rest in
       let next : HaveWholeShapes rest (runs_in r more) = row-is rest (n + length here) (i + 2) m k r h.1 e low in
       let split : runs_in r (here ++ more) ≡ here ++ runs_in r more = filters r here more ∙ ap (λ xs. xs ++ runs_in r more) (leaf-in n i k r name p q e) in
       ap (map shape_of) (runs-leaf name link cs rest)
-      ∙ leaf-row (is_run name) (run_of s cs) (sequence_at options bytes n i k p q) (runs_of s rest) (runs_in r more) (λ is. leaf-shape n i k cs (h.0.1 is)) next
+      ∙ leaf-row (is_run name) (run_of s cs) (sequence_at options bytes content n i k p q) (runs_of s rest) (runs_in r more) (λ is. leaf-shape n i k cs (h.0.1 is)) next
       ∙ ap (map whole_shape) (sym split)
   row-is (group_then name p q inside rest) n i m k r h e low =
       let m' : ℕ = m + as_text name in
@@ -274,7 +275,7 @@ module _ (s : Setting) (options : ParseOptions) (bytes : List ℕ) (same : s.byt
   texts-are (leaf_then name link cs rest) n i m k front back h low f b =
       let p : Point = start_of cs in
       let q : Point = stop_of document_start cs in
-      let here : List Sequence = leaf_run options bytes n i k name p q in
+      let here : List Sequence = leaf_run options bytes content n i k name p q in
       let more : List Sequence = runs (n + length here) (i + 2) m k rest in
       let apart : front ++ ((here ++ more) ++ back) ≡ (front ++ here) ++ (more ++ back) = ap (λ xs. front ++ xs) (append_assoc here more back) ∙ sym (append_assoc front here (more ++ back)) in
       subst (λ xs. TextsHaveRuns xs (texts_of m rest)) (sym apart)
@@ -319,10 +320,10 @@ module _ (s : Setting) (options : ParseOptions) (bytes : List ℕ) (same : s.byt
   }
 
 -- the runs of a tree's events
-pub rows-of-events : (s : Setting) (options : ParseOptions) (bytes : List ℕ) → s.bytes ≡ bytes → s.options ≡ options → (t : Forest) → HasRuns bytes t
-    → (es : List Event) → es ≡ appended_from 0 None t → HasRows s t (runs_from options bytes 0 0 outermost es)
-rows-of-events s options bytes same given t h es e =
-    let runs : List Sequence = tree_runs options bytes 0 0 0 None t in
-    let is : runs_from options bytes 0 0 outermost es ≡ runs =
-    ap (runs_from options bytes 0 0 outermost) (e ∙ sym (append-nil _)) ∙ tree-runs options bytes t 0 0 None outermost [] h ∙ append-nil runs in
-    subst (HasRows s t) (sym is) (has-rows s options bytes same given t h)
+pub rows-of-events : (s : Setting) (options : ParseOptions) (bytes : List ℕ) (content : List Code) → s.bytes ≡ bytes → s.options ≡ options → s.content ≡ content → (t : Forest) → HasRuns bytes t
+    → (es : List Event) → es ≡ appended_from 0 None t → HasRows s t (runs_from options bytes content 0 0 outermost es)
+rows-of-events s options bytes content same given held t h es e =
+    let runs : List Sequence = tree_runs options bytes content 0 0 0 None t in
+    let is : runs_from options bytes content 0 0 outermost es ≡ runs =
+    ap (runs_from options bytes content 0 0 outermost) (e ∙ sym (append-nil _)) ∙ tree-runs options bytes content t 0 0 None outermost [] h ∙ append-nil runs in
+    subst (HasRows s t) (sym is) (has-rows s options bytes content same given held t h)

@@ -16,6 +16,7 @@ use Rattle.markdown_attention.specs.RunsRead.{Container, row_around, is_text, is
 use Rattle.markdown_attention.specs.PairScan.{Numbered}
 use Rattle.markdown_attention.specs.declared.attention.reading.Where.{Where}
 use Rattle.markdown_attention.specs.declared.attention.runs.Sequence.{Sequence}
+use Rattle.markdown_content.specs.Codes.{Code}
 
 -- the first of the events from i on, and those behind it
 pub first-event : (events : List Event) (i : ℕ) (e : Event) → i < length events → e ≡ get_or events i e →
@@ -60,16 +61,16 @@ one-opened : (e : Event) → as_opened e ≤ 1
 one-opened e = elim (cases_Bool (opens_text e)) [ inl is ↦ rw is (omega arith) | inr off ↦ rw off (omega arith) ]
 
 -- the runs so far, and those that are still to come
-pub record RunsSoFar (options : ParseOptions) (bytes : List ℕ) (events : List Event) (i : ℕ) (list : List Sequence) (w : Where) : Type 0 where
-  pub all : list ++ runs_from options bytes (length list) i w (drop i events) ≡ runs_from options bytes 0 0 outermost events
+pub record RunsSoFar (options : ParseOptions) (bytes : List ℕ) (content : List Code) (events : List Event) (i : ℕ) (list : List Sequence) (w : Where) : Type 0 where
+  pub all : list ++ runs_from options bytes content (length list) i w (drop i events) ≡ runs_from options bytes content 0 0 outermost events
   pub numbered : Numbered list
   pub places : HaveRunPlaces bytes (drop i events)
   pub counted : w.texts + count_by opens_text (drop i events) ≡ count_by opens_text events
   pub few : w.texts ≤ i
 
-pub reading-start : (options : ParseOptions) (bytes : List ℕ) (events : List Event) → HaveRunPlaces bytes events →
-    RunsSoFar options bytes events 0 [] outermost
-reading-start options bytes events h =
+pub reading-start : (options : ParseOptions) (bytes : List ℕ) (content : List Code) (events : List Event) → HaveRunPlaces bytes events →
+    RunsSoFar options bytes content events 0 [] outermost
+reading-start options bytes content events h =
     record { all = refl; numbered = λ i l. absurd (omega arith); places = h; counted = omega arith; few = omega arith }
 
 numbered-one : (list : List Sequence) (r : Sequence) → Numbered list → r.number ≡ length list →
@@ -83,36 +84,36 @@ numbered-one list r h e i l =
           ap (λ j. (run_at (list ++ r ∷ []) j).number) at ∙ ap (λ (x : Sequence). x.number) (get_or_push list r no_run (length list) refl) ∙ e ∙ sym at
     ]
 
-numbered-more : (options : ParseOptions) (bytes : List ℕ) (i : ℕ) (c : Container) (list : List Sequence) (es : List Event) → Numbered list
-    → Numbered (list ++ first_run options bytes (length list) i c es)
-numbered-more options bytes i c list [] h = subst Numbered (sym (append-nil list)) h
-numbered-more options bytes i c list (e ∷ []) h = subst Numbered (sym (append-nil list)) h
-numbered-more options bytes i c list (e ∷ x ∷ es) h =
+numbered-more : (options : ParseOptions) (bytes : List ℕ) (content : List Code) (i : ℕ) (c : Container) (list : List Sequence) (es : List Event) → Numbered list
+    → Numbered (list ++ first_run options bytes content (length list) i c es)
+numbered-more options bytes content i c list [] h = subst Numbered (sym (append-nil list)) h
+numbered-more options bytes content i c list (e ∷ []) h = subst Numbered (sym (append-nil list)) h
+numbered-more options bytes content i c list (e ∷ x ∷ es) h =
     elim (cases_Bool (opens_run e)) [
-      | inl on ↦ rw on (numbered-one list (sequence_at options bytes (length list) i c e.point x.point) h refl)
+      | inl on ↦ rw on (numbered-one list (sequence_at options bytes content (length list) i c e.point x.point) h refl)
       | inr off ↦ rw off (subst Numbered (sym (append-nil list)) h)
     ]
 
-pub reading-more : (options : ParseOptions) (bytes : List ℕ) (events : List Event) (i : ℕ) (list list' : List Sequence) (w w' : Where) (e : Event)
-    → i < length events → e ≡ get_or events i e → list' ≡ list ++ first_run options bytes (length list) i w.container (drop i events) → w' ≡ where_after i e w
-    → RunsSoFar options bytes events i list w → RunsSoFar options bytes events (i + 1) list' w'
-reading-more options bytes events i list list' w w' e l h lists wheres r =
-    let first : List Sequence = first_run options bytes (length list) i w.container (drop i events) in
+pub reading-more : (options : ParseOptions) (bytes : List ℕ) (content : List Code) (events : List Event) (i : ℕ) (list list' : List Sequence) (w w' : Where) (e : Event)
+    → i < length events → e ≡ get_or events i e → list' ≡ list ++ first_run options bytes content (length list) i w.container (drop i events) → w' ≡ where_after i e w
+    → RunsSoFar options bytes content events i list w → RunsSoFar options bytes content events (i + 1) list' w'
+reading-more options bytes content events i list list' w w' e l h lists wheres r =
+    let first : List Sequence = first_run options bytes content (length list) i w.container (drop i events) in
     let es : List Event = drop (i + 1) events in
     let split : drop i events ≡ e ∷ es = first-event events i e l h in
-    let head : first ≡ first_run options bytes (length list) i w.container (e ∷ es) = ap (first_run options bytes (length list) i w.container) split in
+    let head : first ≡ first_run options bytes content (length list) i w.container (e ∷ es) = ap (first_run options bytes content (length list) i w.container) split in
     let size : length list' ≡ length list + length first = ap length lists ∙ length-append list first in
-    let rest : runs_from options bytes (length list) i w (drop i events) ≡ first ++ runs_from options bytes (length list') (i + 1) w' es =
-    ap (runs_from options bytes (length list) i w) split
-    ∙ ap (λ (f : List Sequence). f ++ runs_from options bytes (length list + length f) (suc i) (where_after i e w) es) (sym head)
-    ∙ (λ z. first ++ runs_from options bytes (sym size z) (sym (add-one i) z) (sym wheres z) es) in
+    let rest : runs_from options bytes content (length list) i w (drop i events) ≡ first ++ runs_from options bytes content (length list') (i + 1) w' es =
+    ap (runs_from options bytes content (length list) i w) split
+    ∙ ap (λ (f : List Sequence). f ++ runs_from options bytes content (length list + length f) (suc i) (where_after i e w) es) (sym head)
+    ∙ (λ z. first ++ runs_from options bytes content (sym size z) (sym (add-one i) z) (sym wheres z) es) in
     let more : w'.texts ≡ w.texts + as_opened e = ap (λ (x : Where). x.texts) wheres ∙ texts-after i e w in
     let front : count_by opens_text (drop i events) ≡ as_opened e + count_by opens_text es = ap (λ xs. count_by opens_text xs) split ∙ texts-more e es in
     let counted = r.counted in
     let few = r.few in
     record {
-      all = ap (λ xs. xs ++ runs_from options bytes (length list') (i + 1) w' es) lists ∙ append_assoc list first _ ∙ ap (λ xs. list ++ xs) (sym rest) ∙ r.all;
-      numbered = subst Numbered (sym lists) (numbered-more options bytes i w.container list (drop i events) r.numbered);
+      all = ap (λ xs. xs ++ runs_from options bytes content (length list') (i + 1) w' es) lists ∙ append_assoc list first _ ∙ ap (λ xs. list ++ xs) (sym rest) ∙ r.all;
+      numbered = subst Numbered (sym lists) (numbered-more options bytes content i w.container list (drop i events) r.numbered);
       places = (let p : HaveRunPlaces bytes (e ∷ es) = subst (HaveRunPlaces bytes) split r.places in p.1);
       counted = omega (arith, more, front, counted);
       few = omega (arith, more, one-opened e, few);
@@ -128,14 +129,14 @@ nothing-left [] (suc i) l = refl
 nothing-left (e ∷ es) zero l = absurd (omega arith)
 nothing-left (e ∷ es) (suc i) l = nothing-left es i (omega arith)
 
-pub reading-end : (options : ParseOptions) (bytes : List ℕ) (events : List Event) (i : ℕ) (list : List Sequence) (w : Where) → length events ≤ i
-    → RunsSoFar options bytes events i list w → list ≡ runs_from options bytes 0 0 outermost events
-reading-end options bytes events i list w l r =
-    sym (append-nil list) ∙ ap (λ es. list ++ runs_from options bytes (length list) i w es) (sym (nothing-left events i l)) ∙ r.all
+pub reading-end : (options : ParseOptions) (bytes : List ℕ) (content : List Code) (events : List Event) (i : ℕ) (list : List Sequence) (w : Where) → length events ≤ i
+    → RunsSoFar options bytes content events i list w → list ≡ runs_from options bytes content 0 0 outermost events
+reading-end options bytes content events i list w l r =
+    sym (append-nil list) ∙ ap (λ es. list ++ runs_from options bytes content (length list) i w es) (sym (nothing-left events i l)) ∙ r.all
 
-pub texts-end : (options : ParseOptions) (bytes : List ℕ) (events : List Event) (i : ℕ) (list : List Sequence) (w : Where) → length events ≤ i
-    → RunsSoFar options bytes events i list w → w.texts ≡ count_by opens_text events
-texts-end options bytes events i list w l r =
+pub texts-end : (options : ParseOptions) (bytes : List ℕ) (content : List Code) (events : List Event) (i : ℕ) (list : List Sequence) (w : Where) → length events ≤ i
+    → RunsSoFar options bytes content events i list w → w.texts ≡ count_by opens_text events
+texts-end options bytes content events i list w l r =
     let none : count_by opens_text (drop i events) ≡ 0 = ap (λ es. count_by opens_text es) (nothing-left events i l) in
     let counted = r.counted in
     omega (arith, none, counted)
@@ -173,34 +174,34 @@ before-after high i e w = by_test (is_text e.name) (is_enter e.kind)
         record { container = left-before high w.outer h.outer; outer = rest-before high w.outer h.outer }
     by_test false b l h = h
 
-first-read : (options : ParseOptions) (bytes : List ℕ) (high n i : ℕ) (k : Container) (es : List Event) → FirstHasPlaces bytes es → row_around k ≤ high
-    → All (IsRunAsRead high) (first_run options bytes n i k es)
-first-read options bytes high n i k [] h l = All-nil (IsRunAsRead high)
-first-read options bytes high n i k (e ∷ []) h l = All-nil (IsRunAsRead high)
-first-read options bytes high n i k (e ∷ x ∷ es) h l = by_test (opens_run e) h
+first-read : (options : ParseOptions) (bytes : List ℕ) (content : List Code) (high n i : ℕ) (k : Container) (es : List Event) → FirstHasPlaces bytes es → row_around k ≤ high
+    → All (IsRunAsRead high) (first_run options bytes content n i k es)
+first-read options bytes content high n i k [] h l = All-nil (IsRunAsRead high)
+first-read options bytes content high n i k (e ∷ []) h l = All-nil (IsRunAsRead high)
+first-read options bytes content high n i k (e ∷ x ∷ es) h l = by_test (opens_run e) h
   where
     by_test : (b : Bool) → (b ≡ true → IsRunPlace bytes e.point x.point) →
-        All (IsRunAsRead high) (cond b (sequence_at options bytes n i k e.point x.point ∷ []) [])
+        All (IsRunAsRead high) (cond b (sequence_at options bytes content n i k e.point x.point ∷ []) [])
     by_test true p =
-        All-cons (IsRunAsRead high) (sequence_at options bytes n i k e.point x.point) [] (record { whole = refl; marker = (p refl).marker; row = l }) (All-nil (IsRunAsRead high))
+        All-cons (IsRunAsRead high) (sequence_at options bytes content n i k e.point x.point) [] (record { whole = refl; marker = (p refl).marker; row = l }) (All-nil (IsRunAsRead high))
     by_test false p = All-nil (IsRunAsRead high)
 
-pub are-read : (options : ParseOptions) (bytes : List ℕ) (high : ℕ) (es : List Event) (n i : ℕ) (w : Where) → HaveRunPlaces bytes es → w.texts + count_by opens_text es ≤ high → AreBefore high w
-    → All (IsRunAsRead high) (runs_from options bytes n i w es)
-are-read options bytes high [] n i w h l b = All-nil (IsRunAsRead high)
-are-read options bytes high (e ∷ es) n i w h l b =
-    let first : List Sequence = first_run options bytes n i w.container (e ∷ es) in
+pub are-read : (options : ParseOptions) (bytes : List ℕ) (content : List Code) (high : ℕ) (es : List Event) (n i : ℕ) (w : Where) → HaveRunPlaces bytes es → w.texts + count_by opens_text es ≤ high → AreBefore high w
+    → All (IsRunAsRead high) (runs_from options bytes content n i w es)
+are-read options bytes content high [] n i w h l b = All-nil (IsRunAsRead high)
+are-read options bytes content high (e ∷ es) n i w h l b =
+    let first : List Sequence = first_run options bytes content n i w.container (e ∷ es) in
     let more = texts-more e es in
-    All-append (IsRunAsRead high) first (runs_from options bytes (n + length first) (suc i) (where_after i e w) es)
-    (first-read options bytes high n i w.container (e ∷ es) h.0 b.container)
-    (are-read options bytes high es (n + length first) (suc i) (where_after i e w) h.1 (omega (arith, l, more, texts-after i e w)) (before-after high i e w (omega (arith, l, more)) b))
+    All-append (IsRunAsRead high) first (runs_from options bytes content (n + length first) (suc i) (where_after i e w) es)
+    (first-read options bytes content high n i w.container (e ∷ es) h.0 b.container)
+    (are-read options bytes content high es (n + length first) (suc i) (where_after i e w) h.1 (omega (arith, l, more, texts-after i e w)) (before-after high i e w (omega (arith, l, more)) b))
 
 -- of all runs
-pub all-read : (options : ParseOptions) (bytes : List ℕ) (es : List Event) (list : List Sequence) → HaveRunPlaces bytes es → list ≡ runs_from options bytes 0 0 outermost es
+pub all-read : (options : ParseOptions) (bytes : List ℕ) (content : List Code) (es : List Event) (list : List Sequence) → HaveRunPlaces bytes es → list ≡ runs_from options bytes content 0 0 outermost es
     → (i : ℕ) → i < length list → IsRunAsRead (count_by opens_text es) (run_at list i)
-all-read options bytes es list h e i l =
+all-read options bytes content es list h e i l =
     let high : ℕ = count_by opens_text es in
     let read : All (IsRunAsRead high) list =
     subst (All (IsRunAsRead high)) (sym e)
-    (are-read options bytes high es 0 0 outermost h (omega arith) (record { container = omega arith; outer = All-nil (λ k. row_around k ≤ high) })) in
+    (are-read options bytes content high es 0 0 outermost h (omega arith) (record { container = omega arith; outer = All-nil (λ k. row_around k ≤ high) })) in
     read i no_run l

@@ -2,7 +2,7 @@
 use Rattle.std.specs.Prelude.{◌≡◌, ℕ, suc, ◌+◌, Bool, true, false, ◌||◌, if◌then◌else◌, List, [], ◌∷◌, ◌++◌, length, map, slice_index_or, Some, All}
 use Rattle.markdown_content.specs.Codes.{Code, stop_of, document_start}
 use Rattle.markdown_content.specs.declared.configuration.ParseOptions.{ParseOptions}
-use Rattle.markdown_content.specs.Tree.{Forest, empty, leaf_then, group_then, event_count, start_of}
+use Rattle.markdown_content.specs.Tree.{Forest, empty, leaf_then, group_then, event_count, start_of, leaf_codes}
 use Rattle.markdown_event.specs.declared.event.Name.{Name}
 use Rattle.markdown_event.specs.declared.event.Point.{Point}
 use Rattle.markdown_engine.specs.declared.tokenizer.Tokenizer.{Tokenizer}
@@ -14,8 +14,8 @@ use Rattle.markdown_attention.specs.RunsRead.{Container, is_run, is_text, sequen
 use Rattle.markdown_attention.specs.declared.attention.runs.Sequence.{Sequence}
 
 -- the run of a leaf from one place to another
-abbrev pub leaf_run : ParseOptions → List ℕ → ℕ → ℕ → Container → Name → Point → Point → List Sequence
-leaf_run options bytes n i k name from to = if is_run name then sequence_at options bytes n i k from to ∷ [] else []
+abbrev pub leaf_run : ParseOptions → List ℕ → List Code → ℕ → ℕ → Container → Name → Point → Point → List Sequence
+leaf_run options bytes content n i k name from to = if is_run name then sequence_at options bytes content n i k from to ∷ [] else []
 
 -- the container of what stands in a group, where i events and m texts come before
 abbrev pub inner : ℕ → ℕ → Container → Name → Container
@@ -32,14 +32,14 @@ text_count (leaf_then name link cs rest) = text_count rest
 text_count (group_then name enter exit inside rest) = as_text name + text_count inside + text_count rest
 
 -- the runs among siblings that stand in this container, and inside them, where n runs, i events and m texts come before
-abbrev pub tree_runs : ParseOptions → List ℕ → ℕ → ℕ → ℕ → Container → Forest → List Sequence
-tree_runs options bytes n i m k empty = []
-tree_runs options bytes n i m k (leaf_then name link cs rest) =
-    let here = leaf_run options bytes n i k name (start_of cs) (stop_of document_start cs) in
-    here ++ tree_runs options bytes (n + length here) (i + 2) m k rest
-tree_runs options bytes n i m k (group_then name enter exit inside rest) =
-    let front = tree_runs options bytes n (i + 1) (m + as_text name) (inner i m k name) inside in
-    front ++ tree_runs options bytes (n + length front) (i + 2 + event_count inside) (m + as_text name + text_count inside) k rest
+abbrev pub tree_runs : ParseOptions → List ℕ → List Code → ℕ → ℕ → ℕ → Container → Forest → List Sequence
+tree_runs options bytes content n i m k empty = []
+tree_runs options bytes content n i m k (leaf_then name link cs rest) =
+    let here = leaf_run options bytes content n i k name (start_of cs) (stop_of document_start cs) in
+    here ++ tree_runs options bytes content (n + length here) (i + 2) m k rest
+tree_runs options bytes content n i m k (group_then name enter exit inside rest) =
+    let front = tree_runs options bytes content n (i + 1) (m + as_text name) (inner i m k name) inside in
+    front ++ tree_runs options bytes content (n + length front) (i + 2 + event_count inside) (m + as_text name + text_count inside) k rest
 
 -- the text of each label with its number, where m texts come before
 abbrev pub texts_of : ℕ → Forest → List (ℕ × Forest)
@@ -65,10 +65,11 @@ HasRuns bytes (leaf_then name link cs rest) = ((is_text name ≡ false) × (is_r
 HasRuns bytes (group_then name enter exit inside rest) =
     ((is_run name ≡ false) × (is_text name ≡ false → has_run inside ≡ false)) × (HasRuns bytes inside × HasRuns bytes rest)
 
--- what the tokenizer is given is this
-pub record IsOf (s : Setting) (T : Tokenizer) : Type 0 where
+-- what the tokenizer is given is this, and the tree is one of the content that it reads
+pub record IsOf (s : Setting) (tree : Forest) (T : Tokenizer) : Type 0 where
   pub bytes : s.bytes ≡ T.parse_state.now.bytes.now
   pub options : s.options ≡ T.parse_state.now.options.now
+  pub codes : leaf_codes tree ≡ T.cursor.codes
 
 -- the runs of each container are those that the definition has, in order
 pub record HasRows (s : Setting) (tree : Forest) (list : List Sequence) : Type 0 where

@@ -1,6 +1,7 @@
 -- Reading the runs off a list of events.
 use Rattle.std.specs.Prelude.{◌≡◌, ℕ, suc, ◌+◌, ◌-◌, ◌<◌, ◌≤◌, Bool, true, false, ◌&&◌, if◌then◌else◌, List, [], ◌∷◌, ◌++◌, length, slice_index_or, Option, Some, None}
 use Rattle.std.specs.Str.{IsCharBoundary}
+use Rattle.markdown_content.specs.Codes.{Code}
 use Rattle.markdown_content.specs.ListFunctions.{rest_of}
 use Rattle.markdown_content.specs.declared.configuration.ParseOptions.{ParseOptions}
 use Rattle.markdown_event.specs.declared.event.Event.{Event}
@@ -8,8 +9,7 @@ use Rattle.markdown_event.specs.declared.event.Kind.{Kind}
 use Rattle.markdown_event.specs.declared.event.Name.{Name}
 use Rattle.markdown_event.specs.declared.event.Name.TheVariants as N
 use Rattle.markdown_event.specs.declared.event.Point.{Point}
-use Rattle.markdown_model.specs.Runs.{is_flanking, may_act}
-use Rattle.markdown_util.specs.Neighbours.{before_index, after_index}
+use Rattle.markdown_model.specs.Runs.{before_run, after_run, is_flanking, may_act}
 use Rattle.markdown_attention.specs.OpenRuns.{IsMarker}
 use Rattle.markdown_attention.specs.NumberedPairs.{row_of}
 use Rattle.markdown_attention.specs.declared.attention.reading.Text.{Text}
@@ -51,12 +51,12 @@ text_around (Some text) = Some text.number
 abbrev pub row_around : Container → ℕ
 row_around k = row_of (text_around k)
 
--- the run from one place to another
-abbrev pub sequence_at : ParseOptions → List ℕ → ℕ → ℕ → Container → Point → Point → Sequence
-sequence_at options bytes n i k from to =
+-- the run from one place to another, in a content of these codes
+abbrev pub sequence_at : ParseOptions → List ℕ → List Code → ℕ → ℕ → Container → Point → Point → Sequence
+sequence_at options bytes content n i k from to =
     let marker = slice_index_or bytes from.index 0 in
-    let b = before_index bytes from.index in
-    let a = after_index bytes to.index in
+    let b = before_run options bytes content from.index in
+    let a = after_run options bytes content to.index in
     let left = is_flanking options marker b a in
     let right = is_flanking options marker a b in
     record {
@@ -96,17 +96,17 @@ abbrev pub where_after : ℕ → Event → Where → Where
 where_after i e w = if is_text e.name then (if is_enter e.kind then into_text i w else out_of_text w) else w
 
 -- the run in this container that the first of these events, which is event i, begins
-abbrev pub first_run : ParseOptions → List ℕ → ℕ → ℕ → Container → List Event → List Sequence
-first_run options bytes n i k [] = []
-first_run options bytes n i k (e ∷ []) = []
-first_run options bytes n i k (e ∷ x ∷ es) = if opens_run e then sequence_at options bytes n i k e.point x.point ∷ [] else []
+abbrev pub first_run : ParseOptions → List ℕ → List Code → ℕ → ℕ → Container → List Event → List Sequence
+first_run options bytes content n i k [] = []
+first_run options bytes content n i k (e ∷ []) = []
+first_run options bytes content n i k (e ∷ x ∷ es) = if opens_run e then sequence_at options bytes content n i k e.point x.point ∷ [] else []
 
 -- the runs of these events, numbered from n on
-abbrev pub runs_from : ParseOptions → List ℕ → ℕ → ℕ → Where → List Event → List Sequence
-runs_from options bytes n i w [] = []
-runs_from options bytes n i w (e ∷ es) =
-    let first = first_run options bytes n i w.container (e ∷ es) in
-    first ++ runs_from options bytes (n + length first) (suc i) (where_after i e w) es
+abbrev pub runs_from : ParseOptions → List ℕ → List Code → ℕ → ℕ → Where → List Event → List Sequence
+runs_from options bytes content n i w [] = []
+runs_from options bytes content n i w (e ∷ es) =
+    let first = first_run options bytes content n i w.container (e ∷ es) in
+    first ++ runs_from options bytes content (n + length first) (suc i) (where_after i e w) es
 
 -- Of which events this is said: behind the Enter of a run stands another event, and the two are between characters of the document, the
 -- first before a marker.

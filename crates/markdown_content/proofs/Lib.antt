@@ -13,6 +13,7 @@ pub mod WalkSteps
 pub mod ContentCodes
 pub mod CursorInvariant
 pub mod ContentEnd
+pub mod CodesBeside
 pub mod LaterPieces
 pub mod CursorSteps
 pub mod NestingLemmas

@@ -3,6 +3,7 @@
 pub mod DefaultOptions
 pub mod CommonMark
 pub mod Codes
+pub mod Beside
 pub mod Content
 pub mod DocumentWalk
 pub mod KnownPlaces

@@ -1,5 +1,6 @@
 //! A place in a content, which hides the pieces, the tabs and what is left out of the lines.
 ghost use Rattle.std.specs.Prelude.{◌≡◌, ◌∷◌, [], ℕ, List, drop, length, nat_le, ◌<◌, ◌≤◌, true, false, IsSome, IfSome, IsTrue};
+ghost use Rattle.markdown_content.specs.Beside.{has_code_before, has_code_behind};
 ghost use Rattle.markdown_content.specs.Codes.{count_among, line_feed, place_of};
 ghost use Rattle.markdown_content.specs.Content.{IsContent, has_no_blank_line};
 ghost use Rattle.markdown_content.specs.KnownPlaces.{first_place};
@@ -9,6 +10,7 @@ ghost use Rattle.markdown_content.specs.PlainBytes.{ArePlain, spares_words};
 ghost use Rattle.markdown_content.specs.Stretch.{is_free, past_stretch};
 ghost use Rattle.markdown_content.specs.DocumentWalk.{IsPoint};
 
+use crate::beside::{have_code_before, have_code_behind};
 use crate::byte_counts::have_fewer;
 use crate::bytes::{ByteSet, NO_BYTES};
 use crate::lanes::{EIGHT, LANES, ordinary_among, others_among, plain_among, plain_among_eight};
@@ -166,6 +168,22 @@ impl<'a> Cursor<'a> {
         } else {
             self.pieces[self.pieces.len() - 1].end.0
         }
+    }
+
+    /// Answers whether a code of the whole content stands right before the byte of an index: none does where a piece begins, unless another one ends
+    /// there. The pieces are searched by halving.
+    pub fn has_code_before(&self, index: usize) -> bool
+        ensures { result ≡ has_code_before self.now.codes index }
+    {
+        have_code_before(self.bytes, self.pieces, index)
+    }
+
+    /// Answers whether a code of the whole content has the byte of an index: none does where a piece ends, unless another one begins there. The
+    /// pieces are searched by halving.
+    pub fn has_code_behind(&self, index: usize) -> bool
+        ensures { result ≡ has_code_behind self.now.codes index }
+    {
+        have_code_behind(self.bytes, self.pieces, index)
     }
 
     /// Answers the bytes of the document that it reads.

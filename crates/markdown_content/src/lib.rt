@@ -2,6 +2,7 @@
 //! them, and trees.
 #![tactic(auto)]
 
+mod beside;
 mod byte_counts;
 pub mod bytes;
 pub mod configuration;

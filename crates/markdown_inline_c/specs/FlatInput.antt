@@ -48,6 +48,7 @@ string_setting i = record {
   definitions = [];
   footnotes = [];
   first_of_item = false;
+  content = [];
 }
 
 abbrev pub text_setting : Input → Setting

@@ -1,5 +1,5 @@
 -- What a caller in C hands in to read many contents of one document, and what it gets.
-use Rattle.std.specs.Prelude.{ℕ, ◌≤◌, Bool, false, not, ◌==◌, List, length, slice_range}
+use Rattle.std.specs.Prelude.{ℕ, ◌≤◌, Bool, false, not, ◌==◌, List, [], length, slice_range}
 use Rattle.markdown_content.specs.Content.{IsContent, IsTextContent}
 use Rattle.markdown_content.specs.DefaultOptions.{options_of}
 use Rattle.markdown_content.specs.declared.configuration.ParseOptions.{ParseOptions}
@@ -47,6 +47,7 @@ setting_by bytes options labels definitions footnotes = record {
   definitions = identifiers labels definitions;
   footnotes = identifiers labels footnotes;
   first_of_item = false;
+  content = [];
 }
 
 abbrev pub many_setting : Input → Setting

@@ -17,11 +17,11 @@ use Rattle.markdown_innermost.specs.InnermostEvents.{HasLeaves, IsSpanInOrder, c
 use Rattle.markdown_innermost.proofs.InnermostEventsLaws.{innermost-leaves, leaves-in-order, lent-covers}
 use Rattle.markdown_model.specs.Elements.{elements_of, string_elements_of}
 use Rattle.markdown_model.specs.BracketGroups.{paired}
-use Rattle.markdown_model.specs.InlineTree.{label_tree, raw_tree, finished_text, finished_string, text_tree, string_tree, text_events, string_events}
+use Rattle.markdown_model.specs.InlineTree.{label_tree, raw_tree, finished_text, finished_string, text_tree, string_tree, text_events, string_events, paired_whole}
 use Rattle.markdown_model.specs.LabelEnd.{Element}
 use Rattle.markdown_model.specs.Pairs.{pair_list}
 use Rattle.markdown_model.specs.Passes.{no_breaks, breaks, labels_of, merged, trimmed, with_emails_apart}
-use Rattle.markdown_model.specs.Setting.{Setting, rules}
+use Rattle.markdown_model.specs.Setting.{Setting, rules, within}
 use Rattle.markdown_model.proofs.PassesKeepCodes.{codes-paired}
 use Rattle.markdown_model.proofs.OneElementList.{text_elements, string_elements}
 use Rattle.markdown_model.proofs.LabelsCover.{codes-labels_of}
@@ -35,6 +35,7 @@ use Rattle.markdown_innermost.proofs.OneLineLeafLemmas.{lined-leaves-of}
 use Rattle.markdown_innermost.proofs.OneLinePairs.{apart-paired}
 use Rattle.markdown_innermost.proofs.OneLineTrees.{lined-weaker, lined-merged, lined-trimmed, lined-mailed}
 use Rattle.markdown_innermost.proofs.LineEndingsAreSpace.{spaced-content}
+use Rattle.markdown_model.proofs.PairListsWithin.{whole-pairs}
 
 -- a tree that is apart, by the codes that it covers
 stands-in : (B : Point → Point → Type 0) (t : Forest) (cs : List Code) → leaf_codes t ≡ cs → IsApartTree B t →
@@ -69,15 +70,20 @@ module _ (s : Setting) (pieces : List Piece) (content : IsContent s.bytes pieces
   good = good-tree s.bytes s all (singles-content s.bytes pieces content.in_order)
 
   abbrev paired_row : Forest
-  paired_row = paired s (pair_list s) label_row
+  paired_row = paired_whole s (pair_list s) label_row
+
+  -- the setting in which they are paired
+  abbrev there : Setting
+  there = within (leaf_codes label_row) s
 
   lined-pairs : IsLined E paired_row
   lined-pairs =
       let stripes : HasStripes label_row = good.1.0 in
       let unlinked : IsUnlinkedRow label_row = good.1.1.0 in
-      stands-in (HoldsOrIsBetween AtStart all) paired_row all (codes-paired s (pair_list s) label_row ∙ codes-labels)
-      (apart-paired (HoldsOrIsBetween AtStart all) s (pair_list s) label_row (flat-row s label_row stripes (λ _. unlinked))
-      (ready-row s label_row stripes) lined-labels)
+      stands-in (HoldsOrIsBetween AtStart all) paired_row all (codes-paired there (pair_list s) label_row ∙ codes-labels)
+      (subst (λ t. IsApartTree (HoldsOrIsBetween AtStart all) t) (sym (whole-pairs s label_row))
+      (apart-paired (HoldsOrIsBetween AtStart all) there (pair_list there) label_row (flat-row there label_row stripes (λ _. unlinked))
+      (ready-row there label_row stripes) lined-labels))
 
   abbrev trimmed_row : Forest
   trimmed_row = trimmed (breaks s) true true (merged paired_row)

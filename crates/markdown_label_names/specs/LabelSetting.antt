@@ -1,5 +1,5 @@
 -- What a run is given, and what an end of a label reads by, as the definitions see it.
-use Rattle.std.specs.Prelude.{◌≡◌, Some, false, map, string_bytes}
+use Rattle.std.specs.Prelude.{◌≡◌, Some, false, [], map, string_bytes}
 use Rattle.markdown_notes.specs.BracketIndex.{brackets_between}
 use Rattle.markdown_notes.specs.NameIndex.{names_in_order}
 use Rattle.markdown_notes.specs.declared.name_index.Names.{Names}
@@ -16,6 +16,7 @@ setting_of p = record {
   definitions = map string_bytes p.definitions.items;
   footnotes = map string_bytes p.gfm_footnote_definitions.items;
   first_of_item = false;
+  content = [];
 }
 
 abbrev pub setting_in : Tokenizer → Setting

@@ -101,7 +101,7 @@ pub record Finding (bytes : List ℕ) (start p : Place) (found : List ℕ) (o : 
   pub reaches : ReachesOver bytes p o
 
 restarted : (bytes : List ℕ) (start : Place) → IsText bytes start → IsText bytes (record start { at = 0 })
-restarted bytes start k = record { text = k.text; end = k.end; first = k.first; next = k.next; stop = k.stop; byte = k.byte; behind = k.behind }
+restarted bytes start k = record { text = k.text; end = k.end; first = k.first; next = k.next; stop = k.stop; byte = k.byte; past = k.past; behind = k.behind }
 
 pub finding-start : (bytes : List ℕ) (start p : Place) (found : List ℕ) (o : Outlook) → p ≡ record start { at = 0 } →
     found ≡ [] → o.end ≡ 0 → IsText bytes start → Finding bytes start p found o

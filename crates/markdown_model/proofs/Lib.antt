@@ -19,6 +19,7 @@ pub mod PlainConstructs
 pub mod ElementsReadACode
 pub mod OneElementList
 pub mod OnePairList
+pub mod PairListsWithin
 pub mod OneTree
 pub mod LabelsMatch
 pub mod PairListFacts

@@ -5,15 +5,15 @@ use Rattle.std.proofs.lemmas.Bool.{not-true}
 use Rattle.markdown_event.specs.declared.event.Name.{Name}
 use Rattle.markdown_content.specs.declared.label_kind.LabelKind.{LabelKind}
 use Rattle.markdown_content.specs.Codes.{Code, stop_of, document_start}
-use Rattle.markdown_content.specs.Tree.{Forest, leaf, ◌⊕◌, group, text_group, start_of}
+use Rattle.markdown_content.specs.Tree.{Forest, leaf, ◌⊕◌, group, text_group, start_of, leaf_codes}
 use Rattle.markdown_model.specs.Grammar.{Reading, ◌>>=◌, ◌>>◌, gives, provided, either}
-use Rattle.markdown_model.specs.Setting.{Setting}
+use Rattle.markdown_model.specs.Setting.{Setting, within}
 use Rattle.markdown_model.specs.LabelEnd.{Element, plain, starts, ends, Label, label_before, is_image, is_footnote, is_barred, makes_link, footnote_call, link_or_image, link_kind, outcome_of, label_end}
 use Rattle.markdown_model.specs.Elements.{as_plain, line_ending, data_code, attention_run, text_element, Choice, AreElementsFrom, code_before, text_choice, elements_of}
 use Rattle.markdown_model.specs.Pairs.{pair_list}
-use Rattle.markdown_model.specs.BracketGroups.{paired, nest, nested, onto, after_loose, joined, loose}
+use Rattle.markdown_model.specs.BracketGroups.{nest, nested, onto, after_loose, joined, loose}
 use Rattle.markdown_model.specs.Passes.{breaks, Start, End, as_bracket, start_marker, start_tree, label_name, label_group, loose_start, loose_end, labelled, labels_of, merged, trimmed, with_emails_apart}
-use Rattle.markdown_model.specs.InlineTree.{raw_tree, finished_text, text_tree}
+use Rattle.markdown_model.specs.InlineTree.{raw_tree, finished_text, text_tree, paired_whole}
 use Rattle.markdown_model.specs.Laws.{UnusedStart, with_link, unused_starts, IsLabelOf, is_link, holds_link, AreApart, LinksDoNotNest}
 use Rattle.markdown_model.proofs.OneElementList.{text_elements}
 use Rattle.markdown_model.proofs.EndsTakeTheNearest.{ends_take_the_nearest}
@@ -347,11 +347,11 @@ links_do_not_nest s cs = by_test s.options.constructs.gfm_autolink_literal
     labels = apart-labels_of es (all_allowed (text_choice s cs) (λ earlier previous. allowed_text_element s _ earlier previous) es [] None cs (text_elements s cs))
 
     tree : Forest
-    tree = trimmed (breaks s) true true (merged (paired s (pair_list s) (labels_of es)))
+    tree = trimmed (breaks s) true true (merged (paired_whole s (pair_list s) (labels_of es)))
 
     trimmed_apart : AreApart tree
     trimmed_apart =
-        apart-trimmed (breaks s) true true _ (apart-merged _ (apart-paired s (pair_list s) (labels_of es) labels))
+        apart-trimmed (breaks s) true true _ (apart-merged _ (apart-paired (within (leaf_codes (labels_of es)) s) (pair_list s) (labels_of es) labels))
 
     by_test : (b : Bool) → AreApart (elim b [ true ↦ with_emails_apart tree | false ↦ tree ])
     by_test true = apart-mailed tree trimmed_apart

@@ -2,14 +2,14 @@
 use Rattle.std.proofs.Common.{◌≡◌, ℕ, suc, Bool, true, false, List, [], ◌∷◌, refl}
 use Rattle.markdown_event.specs.declared.event.Name.{Name}
 use Rattle.markdown_content.specs.Codes.{Code}
-use Rattle.markdown_content.specs.Tree.{Forest, empty, leaf_then, group_then, leaf}
-use Rattle.markdown_model.specs.Setting.{Setting}
+use Rattle.markdown_content.specs.Tree.{Forest, empty, leaf_then, group_then, leaf, leaf_codes}
+use Rattle.markdown_model.specs.Setting.{Setting, within}
 use Rattle.markdown_model.specs.Runs.{Run, run_of, runs_of}
 use Rattle.markdown_model.specs.Pairs.{Pair, pair_list}
 use Rattle.markdown_model.specs.Elements.{elements_of}
 use Rattle.markdown_model.specs.BracketGroups.{Token, run_tokens, assembled, tokens_of, paired}
 use Rattle.markdown_model.specs.Passes.{HardBreaks, breaks, merged, trimmed, with_emails_apart, labels_of}
-use Rattle.markdown_model.specs.InlineTree.{raw_tree, finished_text, text_tree}
+use Rattle.markdown_model.specs.InlineTree.{raw_tree, finished_text, text_tree, paired_whole}
 use Rattle.markdown_model.specs.Laws.{is_run, HasNoRun, NoRunIsLeft}
 use Rattle.markdown_model.proofs.GivenNames.{pair-named, email-named}
 use Rattle.markdown_model.proofs.BracketGroupFacts.{word-append}
@@ -75,10 +75,10 @@ unfolding text_tree finished_text raw_tree
 no_run_is_left s cs = by_test s.options.constructs.gfm_autolink_literal
   where
     done : Forest
-    done = trimmed (breaks s) true true (merged (paired s (pair_list s) (labels_of (elements_of s cs))))
+    done = trimmed (breaks s) true true (merged (paired_whole s (pair_list s) (labels_of (elements_of s cs))))
 
     has_none : HasNoRun done
-    has_none = no_run-trimmed (breaks s) true true _ (no_run-merged _ (no_run-paired s (pair_list s) (labels_of (elements_of s cs))))
+    has_none = no_run-trimmed (breaks s) true true _ (no_run-merged _ (no_run-paired (within (leaf_codes (labels_of (elements_of s cs))) s) (pair_list s) (labels_of (elements_of s cs))))
 
     by_test : (b : Bool) → HasNoRun (elim b [ true ↦ with_emails_apart done | false ↦ done ])
     by_test true = no_run-mailed done has_none

@@ -8,14 +8,13 @@ use Rattle.markdown_content.specs.Codes.{Code}
 use Rattle.markdown_content.specs.Tree.{Forest, empty, leaf_then, group_then, leaf_codes, event_count, events_from, events_of}
 use Rattle.markdown_model.specs.Grammar.{Reading}
 use Rattle.markdown_content.specs.declared.configuration.Rules.{Rules}
-use Rattle.markdown_model.specs.Setting.{Setting, rules}
+use Rattle.markdown_model.specs.Setting.{Setting, rules, within}
 use Rattle.markdown_model.specs.LabelEnd.{Element}
 use Rattle.markdown_model.specs.Elements.{elements_of, string_elements_of, text_choice, string_choice}
 use Rattle.markdown_model.specs.Runs.{Run}
 use Rattle.markdown_model.specs.Pairs.{Pair, pair_list}
-use Rattle.markdown_model.specs.BracketGroups.{paired}
 use Rattle.markdown_model.specs.Passes.{breaks, no_breaks, labels_of, merged, trimmed, with_emails_apart}
-use Rattle.markdown_model.specs.InlineTree.{IsTextTree, IsStringTree, raw_tree, finished_text, finished_string, text_tree, string_tree}
+use Rattle.markdown_model.specs.InlineTree.{IsTextTree, IsStringTree, raw_tree, finished_text, finished_string, text_tree, string_tree, paired_whole}
 use Rattle.markdown_model.specs.Laws.{OnePairList, OneElementList, OneTree, AreNestedIn, EventsNest, LeavesCover, HasOneEnd, OneEnd}
 use Rattle.markdown_model.proofs.ReadingsCover.{At, Covers, covers_label, covers_title, covers_destination, covers_resource}
 use Rattle.markdown_model.proofs.PassesKeepCodes.{codes-merged, codes-trimmed, codes-mailed, codes-paired}
@@ -78,11 +77,11 @@ codes-of_string_elements s cs =
 pub codes-finished_text : (s : Setting) (pairs_of : List Run → List Pair) (es : List Element) →
     leaf_codes (finished_text s pairs_of es) ≡ elements_codes 0 es
 unfolding finished_text raw_tree
-codes-finished_text s pairs_of es = by_test s.options.constructs.gfm_autolink_literal ∙ codes-trimmed _ true true _ ∙ codes-merged _ ∙ codes-paired s pairs_of _ ∙ codes-labels_of es
+codes-finished_text s pairs_of es = by_test s.options.constructs.gfm_autolink_literal ∙ codes-trimmed _ true true _ ∙ codes-merged _ ∙ codes-paired (within (leaf_codes (labels_of es)) s) pairs_of _ ∙ codes-labels_of es
   where
     trimmed_tree : Forest
     trimmed_tree =
-        trimmed (breaks s) true true (merged (paired s pairs_of (labels_of es)))
+        trimmed (breaks s) true true (merged (paired_whole s pairs_of (labels_of es)))
 
     by_test : (b : Bool) →
         leaf_codes (elim b [ true ↦ with_emails_apart trimmed_tree | false ↦ trimmed_tree ]) ≡ leaf_codes trimmed_tree

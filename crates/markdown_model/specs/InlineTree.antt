@@ -4,9 +4,9 @@ use Rattle.markdown_content.specs.declared.parser.Piece.{Piece}
 use Rattle.markdown_event.specs.declared.event.Event.{Event}
 use Rattle.markdown_content.specs.Codes.{Code}
 use Rattle.markdown_content.specs.Content.{content_of}
-use Rattle.markdown_content.specs.Tree.{Forest, events_of}
+use Rattle.markdown_content.specs.Tree.{Forest, events_of, leaf_codes}
 use Rattle.markdown_content.specs.declared.configuration.Rules.{Rules}
-use Rattle.markdown_model.specs.Setting.{Setting, rules}
+use Rattle.markdown_model.specs.Setting.{Setting, rules, within}
 use Rattle.markdown_model.specs.LabelEnd.{Element}
 use Rattle.markdown_model.specs.Elements.{elements_of, string_elements_of, AreElements, AreStringElements}
 use Rattle.markdown_model.specs.Runs.{Run, containers_of}
@@ -18,9 +18,13 @@ use Rattle.markdown_model.specs.Passes.{breaks, no_breaks, labels_of, merged, tr
 unfoldable pub label_tree : Setting → List Code → Forest
 label_tree s cs = labels_of (elements_of s cs)
 
+-- The pairs of each container of the tree of labels of a whole content.
+abbrev pub paired_whole : Setting → (List Run → List Pair) → Forest → Forest
+paired_whole s pairs_of tree = paired (within (leaf_codes tree) s) pairs_of tree
+
 -- The raw tree: labels, then the pairs of each container.
 unfoldable pub raw_tree : Setting → (List Run → List Pair) → List Element → Forest
-raw_tree s pairs_of es = paired s pairs_of (labels_of es)
+raw_tree s pairs_of es = paired_whole s pairs_of (labels_of es)
 
 -- the tree of a text with these elements and pairs
 unfoldable pub finished_text : Setting → (List Run → List Pair) → List Element → Forest

@@ -2,15 +2,16 @@
 use Rattle.std.specs.Prelude.{ℕ, Bool, true, false, if◌then◌else◌, ◌&&◌, ◌||◌, not, ◌==◌, List, [], ◌∷◌, ◌++◌, Option, Some, None}
 use Rattle.std.specs.Str.{byte}
 use Rattle.markdown_event.specs.declared.event.Name.{Name}
+use Rattle.markdown_content.specs.Beside.{has_code_before, has_code_behind}
 use Rattle.markdown_content.specs.Codes.{Code, stop_of}
 use Rattle.markdown_content.specs.CommonMark.{rules_of}
 use Rattle.markdown_content.specs.declared.configuration.ParseOptions.{ParseOptions}
 use Rattle.markdown_content.specs.declared.configuration.Rules.{Rules}
-use Rattle.markdown_content.specs.Tree.{Forest, empty, leaf_then, group_then}
+use Rattle.markdown_content.specs.Tree.{Forest, empty, leaf_then, group_then, leaf_codes}
 use Rattle.markdown_util.specs.Neighbours.{class_of, listed_class_of, before_index, after_index}
 use Rattle.markdown_util.specs.declared.util.char.Kind.{Kind}
 use Rattle.markdown_model.specs.GfmAutolinkLiteral.{is_other}
-use Rattle.markdown_model.specs.Setting.{Setting}
+use Rattle.markdown_model.specs.Setting.{Setting, within}
 
 -- A run of equal markers, and whether it may open and may close.
 pub record Run : Type 0 where
@@ -55,12 +56,22 @@ abbrev pub may_act : ParseOptions → ℕ → Option ℕ → Bool → Bool → B
 may_act o marker beside here there =
     here && (not (marker == byte "_") || (not (is_other (class_beside (rules_of o) beside)) || not there))
 
--- The characters beside a run are those of the document, left-out bytes included.
+-- The characters beside a run that begins or ends at an index. Here they are those of the document, left-out bytes included; in CommonMark (6.2)
+-- those of the content, so that none stands where its codes leave off.
+
+abbrev pub before_run : ParseOptions → List ℕ → List Code → ℕ → Option ℕ
+before_run o bytes content i =
+    if (rules_of o).neighbours_in_content && not (has_code_before content i) then None else before_index bytes i
+
+abbrev pub after_run : ParseOptions → List ℕ → List Code → ℕ → Option ℕ
+after_run o bytes content i =
+    if (rules_of o).neighbours_in_content && not (has_code_behind content i) then None else after_index bytes i
+
 unfoldable pub run_of : Setting → List Code → Run
 run_of s [] = record { codes = []; may_open = false; may_close = false }
 run_of s (c ∷ cs) =
-    let b = before_index s.bytes c.start.index in
-    let a = after_index s.bytes (stop_of c.stop cs).index in
+    let b = before_run s.options s.bytes s.content c.start.index in
+    let a = after_run s.options s.bytes s.content (stop_of c.stop cs).index in
     let left = is_flanking s.options c.value b a in
     let right = is_flanking s.options c.value a b in
     record { codes = c ∷ cs; may_open = may_act s.options c.value b left right; may_close = may_act s.options c.value a right left }
@@ -81,6 +92,10 @@ rows_inside s empty = []
 rows_inside s (leaf_then name link cs rest) = rows_inside s rest
 rows_inside s (group_then name enter exit inside rest) = (runs_of s inside ∷ rows_inside s inside) ++ rows_inside s rest
 
--- the runs of all siblings and of those inside each group; those that make no container have none
-unfoldable pub containers_of : Setting → Forest → List (List Run)
-containers_of s tree = runs_of s tree ∷ rows_inside s tree
+-- the runs of all siblings and of those inside each group
+unfoldable pub rows_of : Setting → Forest → List (List Run)
+rows_of s tree = runs_of s tree ∷ rows_inside s tree
+
+-- The same of the tree of a whole content; those that make no container have none.
+abbrev pub containers_of : Setting → Forest → List (List Run)
+containers_of s tree = rows_of (within (leaf_codes tree) s) tree

@@ -2,6 +2,7 @@
 use Rattle.std.specs.Prelude.{ℕ, Bool, true, false, ◌==◌, ◌&&◌, ◌||◌, not, List, [], ◌∷◌}
 use Rattle.std.specs.List.{list_any}
 use Rattle.std.specs.Str.{byte, bytes_eq}
+use Rattle.markdown_content.specs.Codes.{Code}
 use Rattle.markdown_content.specs.CommonMark.{rules_of}
 use Rattle.markdown_content.specs.declared.configuration.ParseOptions.{ParseOptions}
 use Rattle.markdown_content.specs.declared.configuration.Rules.{Rules}
@@ -18,6 +19,12 @@ pub record Setting : Type 0 where
   pub footnotes : List (List ℕ)
   -- the content is the first paragraph of a list item
   pub first_of_item : Bool
+  -- the codes of the content whose runs are to be paired, as `within` gives them; until then none
+  pub content : List Code
+
+-- the runs that are paired are those of this content
+abbrev pub within : List Code → Setting → Setting
+within cs s = record s { content = cs }
 
 -- the rules that the options choose
 abbrev pub rules : Setting → Rules

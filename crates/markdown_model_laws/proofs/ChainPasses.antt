@@ -4,14 +4,14 @@ use Rattle.markdown_event.specs.declared.event.Name.{Name}
 use Rattle.markdown_event.specs.declared.event.Name.TheVariants as N
 use Rattle.markdown_event.specs.declared.event.Content.{Content}
 use Rattle.markdown_content.specs.Codes.{Code}
-use Rattle.markdown_content.specs.Tree.{Forest, empty, leaf_then, group_then, leaf}
+use Rattle.markdown_content.specs.Tree.{Forest, empty, leaf_then, group_then, leaf, leaf_codes}
 use Rattle.markdown_model.specs.GfmEmailLiteral.{with_emails}
 use Rattle.markdown_model.specs.BracketGroups.{Token, run_tokens, assembled, tokens_of, paired}
 use Rattle.markdown_model.specs.InlineTree.{text_tree, string_tree}
 use Rattle.markdown_model.specs.Pairs.{Pair, pair_list}
 use Rattle.markdown_model.specs.Passes.{HardBreaks, breaks_where, data_onto, merged, begins_line_ending, is_nothing, trimmed_data, trimmed, with_emails_apart}
 use Rattle.markdown_model.specs.Runs.{Run, run_of, runs_of}
-use Rattle.markdown_model.specs.Setting.{Setting}
+use Rattle.markdown_model.specs.Setting.{Setting, within}
 use Rattle.markdown_model.proofs.BracketGroupFacts.{word-append}
 use Rattle.markdown_model.proofs.PairGroupFacts.{Any, any-parts, HasWord, run-has, assembled-has}
 use Rattle.markdown_model.proofs.PassedTrees.{trimmed_data-has, with_emails-has}
@@ -145,4 +145,4 @@ mailed-chains (group_then name a b inside rest) (inr h, more) = (inr (linked-mai
 pub trees-have-chains : (s : Setting) (cs : List Code) → HasChains (text_tree s cs) × HasChains (string_tree s cs)
 trees-have-chains s cs =
     trees-have HasChains (record { merging = merged-chains; trimming = trimmed-chains; mailing = mailed-chains }) s cs
-    (paired-chains s (pair_list s) (labels_in s cs) (text-labels s cs)) (string-labels s cs)
+    (paired-chains (within (leaf_codes (labels_in s cs)) s) (pair_list s) (labels_in s cs) (text-labels s cs)) (string-labels s cs)

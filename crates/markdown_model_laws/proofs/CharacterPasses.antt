@@ -15,7 +15,7 @@ use Rattle.markdown_model.specs.Grammar.{span}
 use Rattle.markdown_model.specs.InlineTree.{finished_string, text_tree, string_tree}
 use Rattle.markdown_model.specs.Pairs.{pair_list}
 use Rattle.markdown_model.specs.Passes.{no_breaks, HardBreaks, breaks, data_onto, merged, trimmed_data, trimmed, with_emails_apart, labels_of, blank_name}
-use Rattle.markdown_model.specs.Setting.{Setting, rules}
+use Rattle.markdown_model.specs.Setting.{Setting, rules, within}
 use Rattle.markdown_model.proofs.DefinitionSteps.{span-all}
 use Rattle.markdown_model.proofs.LabelsCover.{codes-labels_of}
 use Rattle.markdown_model.proofs.LeafCodes.{codes-leaf}
@@ -263,8 +263,8 @@ module _ (s : Setting) (cs : List Code) (starts : Starts cs) where
 
   merged-text : AreWhole (merged paired_row)
   merged-text =
-      led-whole (merged paired_row) (merged-led false paired_row (paired-fits s (pair_list s) label_row (text-labels-fit s cs starts.1 starts.0)))
-      (subst HasNoStrays (sym (codes-merged paired_row ∙ codes-paired s (pair_list s) label_row ∙ codes-text)) starts.1)
+      led-whole (merged paired_row) (merged-led false paired_row (paired-fits (within (leaf_codes label_row) s) (pair_list s) label_row (text-labels-fit s cs starts.1 starts.0)))
+      (subst HasNoStrays (sym (codes-merged paired_row ∙ codes-paired (within (leaf_codes label_row) s) (pair_list s) label_row ∙ codes-text)) starts.1)
 
   pub text-whole : AreWhole (text_tree s cs)
   text-whole = text-has AreWhole s cs (mailed-whole (unmailed s cs) done) done

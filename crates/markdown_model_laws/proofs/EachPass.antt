@@ -3,8 +3,7 @@ use Rattle.std.proofs.Common.{Bool, true, false, List}
 use Rattle.markdown_content.specs.Codes.{Code}
 use Rattle.markdown_content.specs.Tree.{Forest}
 use Rattle.markdown_model.specs.Elements.{elements_of, string_elements_of}
-use Rattle.markdown_model.specs.BracketGroups.{paired}
-use Rattle.markdown_model.specs.InlineTree.{raw_tree, finished_text, finished_string, text_tree, string_tree}
+use Rattle.markdown_model.specs.InlineTree.{raw_tree, finished_text, finished_string, text_tree, string_tree, paired_whole}
 use Rattle.markdown_model.specs.Pairs.{pair_list}
 use Rattle.markdown_model.specs.Passes.{no_breaks, HardBreaks, breaks, merged, trimmed, with_emails_apart, labels_of}
 use Rattle.markdown_model.specs.Setting.{Setting, rules}
@@ -14,7 +13,7 @@ abbrev pub labels_in : Setting → List Code → Forest
 labels_in s cs = labels_of (elements_of s cs)
 
 abbrev pub pairs_in : Setting → List Code → Forest
-pairs_in s cs = paired s (pair_list s) (labels_in s cs)
+pairs_in s cs = paired_whole s (pair_list s) (labels_in s cs)
 
 abbrev pub unmailed : Setting → List Code → Forest
 unmailed s cs = trimmed (breaks s) true true (merged (pairs_in s cs))

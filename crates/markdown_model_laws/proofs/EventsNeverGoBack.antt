@@ -22,12 +22,11 @@ use Rattle.markdown_content.proofs.PlaceOrder.{is_before, before-asym, at_or_aft
 use Rattle.markdown_content.proofs.DocumentPlaces.{chain-document}
 use Rattle.markdown_model.specs.Elements.{elements_of, string_elements_of}
 use Rattle.markdown_model.specs.GfmEmailLiteral.{with_emails}
-use Rattle.markdown_model.specs.BracketGroups.{paired}
-use Rattle.markdown_model.specs.InlineTree.{label_tree, finished_string, text_tree, string_tree, text_events, string_events}
+use Rattle.markdown_model.specs.InlineTree.{label_tree, finished_string, text_tree, string_tree, text_events, string_events, paired_whole}
 use Rattle.markdown_model.specs.LabelEnd.{Element}
 use Rattle.markdown_model.specs.Pairs.{pair_list}
 use Rattle.markdown_model.specs.Passes.{no_breaks, HardBreaks, breaks_where, breaks, data_onto, merged, begins_line_ending, is_nothing, trimmed_data, trimmed, with_emails_apart, labels_of}
-use Rattle.markdown_model.specs.Setting.{Setting, rules}
+use Rattle.markdown_model.specs.Setting.{Setting, rules, within}
 use Rattle.markdown_model.proofs.PassesKeepCodes.{codes-trimmed_data}
 use Rattle.markdown_model.proofs.LabelsCover.{codes-labels_of}
 use Rattle.markdown_model.proofs.LiteralCodes.{codes-with_emails}
@@ -42,6 +41,7 @@ use Rattle.markdown_model_laws.proofs.PlacesInOrder.{BytePlace, IsAtOrBehind, on
 use Rattle.markdown_model_laws.proofs.TreePlaces.{ends_of, ends-join, ends-last, places_of, places-join, fit-labels}
 use Rattle.markdown_innermost.proofs.LeafOrder.{EachCode, NotBefore, Later, content-later}
 use Rattle.markdown_innermost.proofs.OneLineTrees.{AreLeaves, leaves-trimmed_data, leaves-with_emails}
+use Rattle.markdown_model.proofs.PairListsWithin.{whole-pairs}
 
 -- Rows of leaves.
 
@@ -236,7 +236,11 @@ module _ (s : Setting) (pieces : List Piece) (content : IsContent s.bytes pieces
   good = good-tree s.bytes s all (singles-content s.bytes pieces content.in_order)
 
   abbrev paired_row : Forest
-  paired_row = paired s (pair_list s) label_row
+  paired_row = paired_whole s (pair_list s) label_row
+
+  -- the setting in which they are paired
+  abbrev there : Setting
+  there = within (leaf_codes label_row) s
 
   pairs-allow : Allows (ends_of all) (places_of paired_row)
   pairs-allow =
@@ -244,7 +248,8 @@ module _ (s : Setting) (pieces : List Piece) (content : IsContent s.bytes pieces
       let unlinked : IsUnlinkedRow label_row = good.1.1.0 in
       subst (λ xs. Allows (ends_of xs) (places_of paired_row)) codes-labels
       (allows-then (ends_of (leaf_codes label_row)) (places_of label_row) (places_of paired_row) (fit-labels read_elements (good-text s all))
-      (paired-allows s (pair_list s) label_row (flat-row s label_row stripes (λ _. unlinked)) (ready-row s label_row stripes)))
+      (subst (λ t. Allows (places_of label_row) (places_of t)) (sym (whole-pairs s label_row))
+      (paired-allows there (pair_list there) label_row (flat-row there label_row stripes (λ _. unlinked)) (ready-row there label_row stripes))))
 
   trimmed-same : places_of (unmailed s all) ≡ places_of paired_row
   trimmed-same = trimmed-places (breaks s) true true (merged paired_row) ∙ merged-places paired_row

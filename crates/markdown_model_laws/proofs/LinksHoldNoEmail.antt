@@ -5,7 +5,7 @@ use Rattle.markdown_model.proofs.GivenNames.{pair-named}
 use Rattle.markdown_event.specs.declared.event.Name.{Name}
 use Rattle.markdown_event.specs.declared.event.Point.{Point}
 use Rattle.markdown_content.specs.Codes.{Code}
-use Rattle.markdown_content.specs.Tree.{Forest, empty, leaf_then, group_then, leaf, ◌⊕◌}
+use Rattle.markdown_content.specs.Tree.{Forest, empty, leaf_then, group_then, leaf, ◌⊕◌, leaf_codes}
 use Rattle.markdown_model.specs.CodeTests.{is_empty}
 use Rattle.markdown_model.specs.Elements.{string_elements_of}
 use Rattle.markdown_model.specs.GfmEmailLiteral.{with_emails}
@@ -15,7 +15,7 @@ use Rattle.markdown_model.specs.InlineTree.{finished_string, string_tree}
 use Rattle.markdown_model.specs.Pairs.{Pair, pair_list}
 use Rattle.markdown_model.specs.Passes.{HardBreaks, breaks, no_breaks, merged, trimmed, with_emails_apart, labels_of}
 use Rattle.markdown_model.specs.Runs.{Run, run_of, runs_of}
-use Rattle.markdown_model.specs.Setting.{Setting, rules}
+use Rattle.markdown_model.specs.Setting.{Setting, rules, within}
 use Rattle.markdown_model_laws.specs.EmailsInData.{is_email, holds_email, HasPlainLinks, LinksHoldNoEmail}
 use Rattle.markdown_model_laws.specs.TreesFilled.{is_label_text}
 use Rattle.markdown_model_laws.specs.MarkersHeld.{is_data}
@@ -256,4 +256,4 @@ links_hold_no_email s cs =
     is_plain : SealsNoEmail (unmailed s cs)
     is_plain =
         plain-trimmed (breaks s) true true (merged (pairs_in s cs))
-        (plain-merged (pairs_in s cs) (plain-paired s (pair_list s) (labels_in s cs) (plain-made (labels_in s cs) (made-text-labels s cs))))
+        (plain-merged (pairs_in s cs) (plain-paired (within (leaf_codes (labels_in s cs)) s) (pair_list s) (labels_in s cs) (plain-made (labels_in s cs) (made-text-labels s cs))))

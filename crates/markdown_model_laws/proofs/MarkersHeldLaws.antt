@@ -16,7 +16,7 @@ use Rattle.markdown_content.specs.Tree.{Forest, empty, leaf_then, group_then, le
 use Rattle.markdown_model.specs.CodeTests.{is_value}
 use Rattle.markdown_model.specs.Grammar.{span}
 use Rattle.markdown_model.specs.GfmEmailLiteral.{with_emails}
-use Rattle.markdown_model.specs.Setting.{Setting}
+use Rattle.markdown_model.specs.Setting.{Setting, within}
 use Rattle.markdown_model.specs.Runs.{Run, run_of, runs_of, marker_of}
 use Rattle.markdown_model.specs.Pairs.{Pair, pair_list}
 use Rattle.markdown_model.specs.BracketGroups.{Token, pair_names, pair_group, run_tokens, assembled, tokens_of, paired}
@@ -29,6 +29,7 @@ use Rattle.markdown_model.proofs.DefinitionSteps.{span-all}
 use Rattle.markdown_model_laws.specs.MarkersHeld.{by_code, may_hold_marker, AreAlso, EachMarkerIsHeld}
 use Rattle.markdown_model_laws.proofs.EachPass.{labels_in, pairs_in, unmailed, text-has}
 use Rattle.markdown_model_laws.proofs.LabelTreeRuns.{is_marker, HasApartRuns, apart-text-labels}
+use Rattle.markdown_model.proofs.PairListsWithin.{whole-pairs}
 
 -- Codes with a mark.
 
@@ -365,7 +366,7 @@ each_marker_is_held s cs =
 
     kept : AreHeld (runs_marked labels) (held done)
     kept =
-        held-kept (runs_marked labels) (held pairs) (held done) (held-paired s labels (apart-text-labels s cs))
+        held-kept (runs_marked labels) (held pairs) (held done) (subst (λ f. AreHeld (runs_marked labels) (held f)) (sym (whole-pairs s labels)) (held-paired (within (leaf_codes labels) s) labels (apart-text-labels s cs)))
         (subst (λ x. KeepMarks x (held done)) (held-merged pairs) (kept-trimmed (breaks s) true true (merged pairs)))
 
     also : (f : Forest) → AreHeld (runs_marked labels) (held f) →

@@ -6,15 +6,16 @@ use Rattle.std.proofs.lemmas.Bool.Decides.{nat_tests}
 use Rattle.markdown_model.proofs.GivenNames.{pair-named}
 use Rattle.markdown_event.specs.declared.event.Name.{Name}
 use Rattle.markdown_content.specs.Codes.{Code, stop_of, document_start}
-use Rattle.markdown_content.specs.Tree.{Forest, empty, leaf_then, group_then, leaf, ◌⊕◌, start_of}
-use Rattle.markdown_model.specs.Setting.{Setting}
-use Rattle.markdown_model.specs.Runs.{Run, runs_of, run_of, marker_of, rows_inside, containers_of}
+use Rattle.markdown_content.specs.Tree.{Forest, empty, leaf_then, group_then, leaf, ◌⊕◌, start_of, leaf_codes}
+use Rattle.markdown_model.specs.Setting.{Setting, within as within_content}
+use Rattle.markdown_model.specs.Runs.{Run, runs_of, run_of, marker_of, rows_inside, rows_of}
 use Rattle.markdown_model.specs.Pairs.{Pair, pair_list, ArePairsFrom}
 use Rattle.markdown_model.specs.BracketGroups.{Token, item, opens, closes, nested, joined, loose, pair_names, pair_group, closing_sizes, opening_sizes, cut_front, run_tokens, assembled, tokens_of, paired}
-use Rattle.markdown_model.specs.InlineTree.{pair_count}
+use Rattle.markdown_model.specs.InlineTree.{pair_count, paired_whole}
 use Rattle.markdown_model.proofs.OnePairList.{some_pair_list}
 use Rattle.markdown_model.proofs.BracketSums.{Adds, sum_of, sum-joined, sum-nested, word_sum}
 use Rattle.markdown_model_laws.specs.PairGroups.{is_pair, pair_groups}
+use Rattle.markdown_model.proofs.PairListsWithin.{lists-within}
 
 -- Groups of rows.
 
@@ -239,9 +240,16 @@ module _ (s : Setting) where
   law (group_then name enter exit inside rest) pairs n total h k =
       omega (arith, whole-row inside (law inside), law rest pairs n total h k, sum_by-append (λ runs. length (pair_list s runs)) (runs_of s inside ∷ rows_inside s inside) (rows_inside s rest), sum_by-cons (λ runs. length (pair_list s runs)) (runs_of s inside) (rows_inside s inside))
 
--- grouping the pairs of all containers makes one group for each
-pub groups-paired : (s : Setting) (tree : Forest) →
-    pair_groups (paired s (pair_list s) tree) ≡ pair_groups tree + pair_count s tree
-unfolding paired containers_of
-groups-paired s tree =
+-- grouping the pairs of all rows makes one group for each
+groups-rows : (s : Setting) (tree : Forest) →
+    pair_groups (paired s (pair_list s) tree) ≡ pair_groups tree + sum_by (λ runs. length (pair_list s runs)) (rows_of s tree)
+unfolding paired rows_of
+groups-rows s tree =
     omega (arith, whole-row s tree (law s tree), sum_by-cons (λ runs. length (pair_list s runs)) (runs_of s tree) (rows_inside s tree))
+
+-- and so it does with all containers of a whole content
+pub groups-paired : (s : Setting) (tree : Forest) →
+    pair_groups (paired_whole s (pair_list s) tree) ≡ pair_groups tree + pair_count s tree
+groups-paired s tree =
+    let there : Setting = within_content (leaf_codes tree) s in
+    subst (λ pairs_of. pair_groups (paired there pairs_of tree) ≡ pair_groups tree + sum_by (λ runs. length (pairs_of runs)) (rows_of there tree)) (lists-within (leaf_codes tree) s) (groups-rows there tree)

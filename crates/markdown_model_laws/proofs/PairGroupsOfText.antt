@@ -1,10 +1,10 @@
 -- The groups of pairs in the inline tree of a text.
-use Rattle.std.proofs.Common.{◌≡◌, ℕ, ◌+◌, Bool, true, false, ◌&&◌, ◌||◌, not, List, [], ◌∷◌, length, if◌then◌else◌, refl, sym, ap, subst, ◌∙◌, arith, None}
+use Rattle.std.proofs.Common.{◌≡◌, ℕ, ◌+◌, Bool, true, false, ◌&&◌, ◌||◌, not, List, [], ◌∷◌, length, if◌then◌else◌, refl, sym, ap, subst, ◌∙◌, arith, None, Contains}
 use Rattle.std.proofs.lemmas.Bool.{and_parts}
 use Rattle.markdown_event.specs.declared.event.Name.{Name}
 use Rattle.markdown_event.specs.declared.event.Point.{Point}
 use Rattle.markdown_content.specs.Codes.{Code}
-use Rattle.markdown_content.specs.Tree.{Forest, empty, leaf_then, group_then, leaf, ◌⊕◌}
+use Rattle.markdown_content.specs.Tree.{Forest, empty, leaf_then, group_then, leaf, ◌⊕◌, leaf_codes}
 use Rattle.markdown_model.specs.CodeTests.{is_empty}
 use Rattle.markdown_model.specs.GfmEmailLiteral.{with_emails}
 use Rattle.markdown_model.specs.Passes.{HardBreaks, breaks_where, breaks, data_onto, merged, begins_line_ending, is_nothing, trimmed_data, trimmed, with_emails_apart}
@@ -20,6 +20,10 @@ use Rattle.markdown_model_laws.proofs.MadeElements.{made-text-labels}
 use Rattle.markdown_model_laws.proofs.PairGroupLaws.{groups-leaf, groups-join, groups-paired}
 use Rattle.markdown_model_laws.proofs.PairSides.{right-paired, pairs, pairs-join}
 use Rattle.markdown_model_laws.proofs.LabelTreeRuns.{apart-text-labels}
+use Rattle.markdown_model.specs.Setting.{Setting, within}
+use Rattle.markdown_model.proofs.PairListsWithin.{lists-within, whole-pairs}
+use Rattle.markdown_model.specs.BracketGroups.{paired}
+use Rattle.markdown_model.specs.Pairs.{pair_list}
 
 -- The passes keep the groups of pairs.
 
@@ -202,21 +206,6 @@ module _ (P : List Code → List Code → Type 0) where
       walks-mailed (pairs P) (λ cs _. with_emails-has (EachPairHas P) (pairs-join P) (pairs-leaf Name.Data) (λ before ds. pairs-leaf _ ds) cs)
       (λ name a b inside _ g e. sides-kept with_emails_apart mailed-keeps inside (g e)) f h
 
-pub pairs_take_their_markers : PairsTakeTheirMarkers
-unfolding label_tree
-pairs_take_their_markers s cs = text-has (EachPairHas P) s cs (pairs-mailed P (unmailed s cs) kept) kept
-  where
-    labels : Forest
-    labels = labels_in s cs
-
-    P : List Code → List Code → Type 0
-    P front back = AreOfPair s labels front back
-
-    kept : EachPairHas P (unmailed s cs)
-    kept =
-        pairs-trimmed P (breaks s) true true (merged (pairs_in s cs))
-        (pairs-merged P (pairs_in s cs) (right-paired s labels (no-groups labels (made-text-labels s cs)) (made-filled labels (made-text-labels s cs)) (apart-text-labels s cs)).0)
-
 -- What is said of the sides of pairs may be weakened.
 
 module _ (P R : List Code → List Code → Type 0) (weaker : (front back : List Code) → P front back → R front back) where
@@ -229,6 +218,40 @@ module _ (P R : List Code → List Code → Type 0) (weaker : (front back : List
   pairs-weaker (leaf_then name link cs rest) h = pairs-weaker rest h
   pairs-weaker (group_then name enter exit inside rest) h =
       ((λ e. sides-weaker inside (h.0 e)), pairs-weaker inside h.1, pairs-weaker rest h.2)
+
+pub pairs_take_their_markers : PairsTakeTheirMarkers
+unfolding label_tree
+pairs_take_their_markers s cs = text-has (EachPairHas P) s cs (pairs-mailed P (unmailed s cs) kept) kept
+  where
+    labels : Forest
+    labels = labels_in s cs
+
+    P : List Code → List Code → Type 0
+    P front back = AreOfPair s labels front back
+
+    there : Setting
+    there = within (leaf_codes labels) s
+
+    right : EachPairHas (AreOfPair there labels) (paired there (pair_list there) labels)
+    right =
+        (right-paired s labels (no-groups labels (made-text-labels s cs)) (made-filled labels (made-text-labels s cs)) (apart-text-labels s cs)).0
+
+    same_lists : (front back : List Code) → AreOfPair there labels front back → P front back
+    same_lists front back h = record {
+      runs = h.runs;
+      pair = h.pair;
+      container = h.container;
+      listed = subst (λ pairs_of. Contains (pairs_of h.runs) h.pair) (lists-within (leaf_codes labels) s) h.listed;
+      opener = h.opener;
+      closer = h.closer;
+      opener_size = h.opener_size;
+      closer_size = h.closer_size;
+    }
+
+    kept : EachPairHas P (unmailed s cs)
+    kept =
+        pairs-trimmed P (breaks s) true true (merged (pairs_in s cs))
+        (pairs-merged P (pairs_in s cs) (subst (EachPairHas P) (sym (whole-pairs s labels)) (pairs-weaker (AreOfPair there labels) P same_lists (paired there (pair_list there) labels) right)))
 
 pub pairs_are_even : PairsAreEven
 pairs_are_even s cs =

@@ -11,10 +11,10 @@ use Rattle.std.proofs.lemmas.List.Sums.{sum_by-append, sum_by-cons}
 use Rattle.markdown_model.proofs.GivenNames.{pair-named}
 use Rattle.markdown_event.specs.declared.event.Name.{Name}
 use Rattle.markdown_content.specs.Codes.{Code}
-use Rattle.markdown_content.specs.Tree.{Forest, empty, leaf_then, group_then, leaf, ◌⊕◌}
+use Rattle.markdown_content.specs.Tree.{Forest, empty, leaf_then, group_then, leaf, ◌⊕◌, leaf_codes}
 use Rattle.markdown_model.specs.CodeTests.{is_value, is_empty}
-use Rattle.markdown_model.specs.Setting.{Setting}
-use Rattle.markdown_model.specs.Runs.{Run, runs_of, run_of, marker_of, rows_inside, containers_of}
+use Rattle.markdown_model.specs.Setting.{Setting, within}
+use Rattle.markdown_model.specs.Runs.{Run, runs_of, run_of, marker_of, rows_inside, rows_of, containers_of}
 use Rattle.markdown_model.specs.Pairs.{Pair, run_at, remaining, taken_by, is_strictly_within, pair_list, ArePairsFrom}
 use Rattle.markdown_model.specs.BracketGroups.{Token, item, opens, closes, nest, onto, after_loose, joined, loose, pair_names, pair_group, closing_sizes, opening_sizes, cut_front, run_tokens, assembled, tokens_of, paired}
 use Rattle.markdown_model.specs.Passes.{is_nothing}
@@ -705,9 +705,11 @@ module _ (s : Setting) where
             whole-row inside l (w (runs_of s inside) (Contains-append_left (runs_of s inside ∷ rows_inside s inside) (rows_inside s rest) (runs_of s inside) (0, omega arith, refl))) (omega (arith, g)) f.1 a.0
             (λ rs h. w rs (Contains-append_left (runs_of s inside ∷ rows_inside s inside) (rows_inside s rest) rs (Contains-append_right (runs_of s inside ∷ []) (rows_inside s inside) rs h)))
 
-  -- of a tree that has no group of a pair yet
-  pub right-paired : (tree : Forest) → pair_groups tree ≡ 0 → IsFilled tree → HasApartRuns 0 tree →
-      IsRight (AreOfPair s tree) (paired s (pair_list s) tree)
-  unfolding paired containers_of
-  right-paired tree g f a =
-      whole-row tree tree (law tree tree) (0, omega arith, refl) g f a (λ rs h. Contains-append_right (runs_of s tree ∷ []) (rows_inside s tree) rs h)
+-- of the tree of a whole content that has no group of a pair yet
+pub right-paired : (s : Setting) (tree : Forest) → pair_groups tree ≡ 0 → IsFilled tree → HasApartRuns 0 tree →
+    (let there : Setting = within (leaf_codes tree) s in IsRight (AreOfPair there tree) (paired there (pair_list there) tree))
+unfolding paired rows_of
+right-paired s tree g f a =
+    let there : Setting = within (leaf_codes tree) s in
+    whole-row there tree tree (law there tree tree) (0, omega arith, refl) g f a
+    (λ rs h. Contains-append_right (runs_of there tree ∷ []) (rows_inside there tree) rs h)

@@ -7,9 +7,9 @@ use Rattle.std.proofs.Math.Nat.{mul-le-mul_left}
 use Rattle.markdown_event.specs.declared.event.Name.{Name}
 use Rattle.markdown_content.specs.Codes.{Code}
 use Rattle.markdown_content.specs.Tree.{Forest, empty, leaf_then, group_then, leaf_codes}
-use Rattle.markdown_model.specs.Setting.{Setting}
+use Rattle.markdown_model.specs.Setting.{Setting, within}
 use Rattle.markdown_model.specs.Elements.{elements_of, text_choice}
-use Rattle.markdown_model.specs.Runs.{Run, run_of, runs_of, rows_inside, containers_of}
+use Rattle.markdown_model.specs.Runs.{Run, run_of, runs_of, rows_inside, rows_of, containers_of}
 use Rattle.markdown_model.specs.Pairs.{pair_list}
 use Rattle.markdown_model.specs.InlineTree.{label_tree, run_count, pair_count, probe_bound, list_probe_bound}
 use Rattle.markdown_model.proofs.ElementsCover.{codes-elements, covers_text_element}
@@ -125,16 +125,24 @@ module _ (s : Setting) where
   tree-pairs f =
       for-each-pair (pair_count s f) (run_count s f) λ h. omega (arith, all-pairs (containers_of s f), no-runs (containers_of s f) h)
 
-  tree-probes : (f : Forest) → list_probe_bound s f ≤ 11 * length (leaf_codes f)
-  unfolding containers_of
-  tree-probes f =
-      let marked = marked-first (runs_of s f) (rows_inside s f) (row-marked f) (rows-marked f) in
-      omega (arith, marked.0, marked.1, all-pairs (runs_of s f ∷ rows_inside s f), sum_by-cons markers (runs_of s f) (rows_inside s f), markers-codes f)
+  -- what the rows open and close is no more than their markers, and these are codes of the tree
+  tree-sums : (f : Forest) → AllMarked (rows_of s f) × (all_markers (rows_of s f) ≤ length (leaf_codes f))
+  unfolding rows_of
+  tree-sums f = (
+    marked-first (runs_of s f) (rows_inside s f) (row-marked f) (rows-marked f),
+    omega (arith, sum_by-cons markers (runs_of s f) (rows_inside s f), markers-codes f),
+  )
 
   label-codes : (cs : List Code) → leaf_codes (label_tree s cs) ≡ cs
   unfolding label_tree
   label-codes cs =
       codes-labels_of (elements_of s cs) ∙ codes-elements (text_choice s cs) (λ earlier previous. covers_text_element s _ earlier previous) (elements_of s cs) [] None cs (text_elements s cs)
+
+tree-probes : (s : Setting) (f : Forest) → list_probe_bound s f ≤ 11 * length (leaf_codes f)
+tree-probes s f =
+    let there : Setting = within (leaf_codes f) s in
+    let sums = tree-sums there f in
+    omega (arith, sums.0.0, sums.0.1, sums.1, all-pairs s (rows_of there f))
 
 pub probes_are_few : ProbesAreFew
 probes_are_few s cs = record {

@@ -2,13 +2,13 @@
 use Rattle.std.proofs.Common.{◌≡◌, ℕ, suc, Bool, true, false, ◌&&◌, ◌||◌, List, None, refl, ap, ◌∙◌, inl, inr}
 use Rattle.markdown_event.specs.declared.event.Name.TheVariants as N
 use Rattle.markdown_content.specs.Codes.{Code}
-use Rattle.markdown_content.specs.Tree.{Forest, empty, leaf_then, group_then, leaf}
+use Rattle.markdown_content.specs.Tree.{Forest, empty, leaf_then, group_then, leaf, leaf_codes}
 use Rattle.markdown_model.specs.GfmEmailLiteral.{with_emails}
 use Rattle.markdown_model.specs.BracketGroups.{Token, run_tokens, assembled, tokens_of, paired}
 use Rattle.markdown_model.specs.Pairs.{Pair, pair_list}
 use Rattle.markdown_model.specs.Passes.{HardBreaks, breaks_where, data_onto, merged, begins_line_ending, is_nothing, trimmed_data, trimmed, with_emails_apart}
 use Rattle.markdown_model.specs.Runs.{Run, run_of, runs_of}
-use Rattle.markdown_model.specs.Setting.{Setting}
+use Rattle.markdown_model.specs.Setting.{Setting, within}
 use Rattle.markdown_model.proofs.BracketGroupFacts.{word-append}
 use Rattle.markdown_model.proofs.GivenNames.{pair-named, email-named}
 use Rattle.markdown_model.proofs.PairGroupFacts.{Any, any-parts, HasWord, run-has, assembled-has}
@@ -137,4 +137,4 @@ mailed-refers (group_then name a b inside rest) h = (h.0, (mailed-refers inside 
 pub references-known : ReferencesAreKnown
 references-known s cs =
     trees-have HasReferences (record { merging = merged-refers; trimming = trimmed-refers; mailing = mailed-refers }) s cs
-    (paired-refers s (pair_list s) (labels_in s cs) (text-labels s cs)) (string-labels s cs)
+    (paired-refers (within (leaf_codes (labels_in s cs)) s) (pair_list s) (labels_in s cs) (text-labels s cs)) (string-labels s cs)

@@ -1,5 +1,5 @@
 -- Nothing in the inline tree is empty but the texts of labels.
-use Rattle.std.proofs.Common.{◌≡◌, Bool, true, false, ◌&&◌, ◌||◌, List, [], ◌∷◌, ◌++◌, length, refl, sym, ap, ◌∙◌, None}
+use Rattle.std.proofs.Common.{◌≡◌, Bool, true, false, ◌&&◌, ◌||◌, List, [], ◌∷◌, ◌++◌, length, refl, sym, ap, ◌∙◌, None, subst}
 use Rattle.std.proofs.lemmas.Bool.{both_ways}
 use Rattle.markdown_event.specs.declared.event.Name.{Name}
 use Rattle.markdown_content.specs.Codes.{Code}
@@ -18,6 +18,7 @@ use Rattle.markdown_model_laws.proofs.LabelTreeRuns.{apart-text-labels}
 use Rattle.markdown_model_laws.proofs.PairGroupsOfText.{no-groups}
 use Rattle.markdown_model_laws.proofs.MadeElements.{made-text-labels, made-string-labels}
 use Rattle.markdown_model_laws.proofs.DataIsTightLaws.{emails-begin}
+use Rattle.markdown_model.proofs.PairListsWithin.{whole-pairs}
 
 -- Merging.
 
@@ -88,5 +89,5 @@ trees_are_filled s cs =
     let labels : Forest = labels_in s cs in
     let text = made-text-labels s cs in
     trees-have IsFilled (record { merging = filled-merged; trimming = filled-trimmed; mailing = filled-mailed }) s cs
-    (right-paired s labels (no-groups labels text) (made-filled labels text) (apart-text-labels s cs)).1
+    (subst IsFilled (sym (whole-pairs s labels)) (right-paired s labels (no-groups labels text) (made-filled labels text) (apart-text-labels s cs)).1)
     (made-filled (labels_of (string_elements_of s cs)) (made-string-labels s cs))

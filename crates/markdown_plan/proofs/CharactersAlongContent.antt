@@ -8,7 +8,7 @@ use Rattle.markdown_plan.specs.Characters.{IsText, ReadsText}
 
 pub text-moved : (bytes : List ℕ) (p : Place) → IsText bytes p → IsText bytes (moved p)
 unfolding moved
-text-moved bytes p k = record { text = k.text; end = k.end; first = k.first; next = k.next; stop = k.stop; byte = k.byte; behind = k.behind }
+text-moved bytes p k = record { text = k.text; end = k.end; first = k.first; next = k.next; stop = k.stop; byte = k.byte; past = k.past; behind = k.behind }
 
 pub text-consumed : (r : TokenizeState) (T : Tokenizer) → ReadsText T → ReadsText (scratched r (done (Consume ∷ []) T))
 unfolding scratched applied

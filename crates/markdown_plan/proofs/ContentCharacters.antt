@@ -303,6 +303,17 @@ byte-at bytes pieces n c content e h =
     ap (λ (x : Point). x.index) (sym (standing-point bytes pieces (drop f.0 pieces) f.1 (suc n) s) ∙ stays) ∙ plain-stop bytes p (subst (λ v. 32 < v) byte low) in
     subst (λ (x : Code). (get_or bytes x.start.index 0 ≡ x.value) × ((start_or (slice_get (content_of bytes pieces) (suc n)) (content_end bytes pieces)).index ≡ x.start.index + 1)) same (sym byte, next)
 
+past-at : (bytes : List ℕ) (pieces : List Piece) (n : ℕ) (c : Code) → IsContent bytes pieces →
+    slice_get (content_of bytes pieces) n ≡ Some c → 32 < c.value → c.stop.index ≡ c.start.index + 1
+past-at bytes pieces n c content e h =
+    let r : Reached bytes pieces n = reached bytes pieces content n c e in
+    let p : Point = r.point in
+    let here : IsOpenStanding bytes pieces p n = open-standing bytes pieces (drop r.piece pieces) p n r.standing r.opens in
+    let same : code_here bytes p ≡ c = same-code _ _ _ here.code e in
+    let low : 32 < value_at bytes p = subst (λ (x : Code). 32 < x.value) (sym same) h in
+    let byte : value_at bytes p ≡ get_or bytes p.index 0 = plain-value (get_or bytes p.index 0) p.vs low in
+    subst (λ (x : Code). x.stop.index ≡ x.start.index + 1) same (plain-stop bytes p (subst (λ v. 32 < v) byte low))
+
 -- at each place of a content the text is read as characters
 pub content-text : (bytes : List ℕ) (pieces : List Piece) (n : ℕ) → IsContent bytes pieces →
     IsText bytes (content_place bytes pieces n)
@@ -314,6 +325,7 @@ content-text bytes pieces n content = record {
   next = λ k c d e f h. after-at bytes pieces k c d content e f h;
   stop = λ k c e h. ends-at bytes pieces k c content e h;
   byte = λ k c e h. (byte-at bytes pieces k c content e h).0;
+  past = λ k c e h. past-at bytes pieces k c content e h;
   behind = λ k c e h. (byte-at bytes pieces k c content e h).1;
 }
 

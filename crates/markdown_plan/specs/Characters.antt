@@ -19,7 +19,7 @@ at_later (Some v) = later_value v
 
 -- The document is a text, and the codes of the content are those of its bytes: each but a later byte of a character begins where
 -- one does, no later byte follows an ASCII code, a code ends between characters unless a later byte follows, and so does the content.
--- A code above the space is the byte at its place, and what comes next stands right behind that byte.
+-- A code above the space is the byte at its place, it ends right behind that byte, and what comes next stands there.
 pub record IsText (bytes : List ℕ) (p : Place) : Type 0 where
   pub text : IsUtf8 bytes
   pub end : IsCharBoundary bytes p.end.index
@@ -27,6 +27,7 @@ pub record IsText (bytes : List ℕ) (p : Place) : Type 0 where
   pub next : (n : ℕ) (c d : Code) → slice_get p.codes n ≡ Some c → slice_get p.codes (suc n) ≡ Some d → nat_lt c.value 128 ≡ true → is_later_byte d ≡ false
   pub stop : (n : ℕ) (c : Code) → slice_get p.codes n ≡ Some c → at_later (value_of (slice_get p.codes (suc n))) ≡ false → IsCharBoundary bytes c.stop.index
   pub byte : (n : ℕ) (c : Code) → slice_get p.codes n ≡ Some c → 32 < c.value → get_or bytes c.start.index 0 ≡ c.value
+  pub past : (n : ℕ) (c : Code) → slice_get p.codes n ≡ Some c → 32 < c.value → c.stop.index ≡ c.start.index + 1
   pub behind : (n : ℕ) (c : Code) → slice_get p.codes n ≡ Some c → 32 < c.value → (start_or (slice_get p.codes (suc n)) p.end).index ≡ c.start.index + 1
 
 abbrev pub ReadsText : Tokenizer → Type 0

@@ -17,6 +17,7 @@ setting_by words bytes = record {
   definitions = defined_by (codes "label=") words;
   footnotes = defined_by (codes "note=") words;
   first_of_item = reads_text words && has_word (codes "task") words;
+  content = [];
 }
 
 -- the events of the document's inline tree, as a text or as a string

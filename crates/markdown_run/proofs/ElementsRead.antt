@@ -60,6 +60,7 @@ use Rattle.markdown_run.specs.RunConstruct.{Asks, IsConstruct, EndsBy, Construct
 use Rattle.markdown_run_text.specs.ReaderEnds.{ReadsOrStays}
 use Rattle.markdown_run.proofs.IndexedRows.{advances-indexed, mark-indexed, row-alone}
 use Rattle.markdown_run.proofs.StartsAndEnds.{image-begun, link-begun, footnote-begun, image-fails, link-fails, footnote-fails, end-made}
+use Rattle.markdown_run_text.specs.ElementsAsRead.{source_of}
 
 -- An element is read.
 
@@ -67,7 +68,7 @@ data-stops-same : (T U : Tokenizer) → KeepsTheRest T U → data_stops U ≡ da
 data-stops-same T U e i = reader_stops (e.codes i) (e.input i).now.options.now.constructs.gfm_autolink_literal
 
 -- each code of the content where data does not stop is read as data
-as-data : (T : Tokenizer) → MayTry T → AreReadAsData (bytes_of T) (text_choice_of T) (data_stops T) T.cursor.codes
+as-data : (T : Tokenizer) → MayTry T → AreReadAsData (source_of T) (text_choice_of T) (data_stops T) T.cursor.codes
 as-data T r = text-read (text_setting T) T.cursor T.parse_state.now.options.now.constructs.gfm_autolink_literal r.start.ends.text refl
 
 pub may-past : (T U : Tokenizer) → KeepsTheRest T U → codes_left U ≤ codes_left T → AreStartsWithin U U.tokenize_state.label_starts →
@@ -93,13 +94,13 @@ element-passes T U r within a =
 
 -- None is, and the code at hand is data.
 
-alone-ends : (T : Tokenizer) → AreReadAsData (bytes_of T) (text_choice_of T) (data_stops T) T.cursor.codes → current_of T ≢ None →
+alone-ends : (T : Tokenizer) → AreReadAsData (source_of T) (text_choice_of T) (data_stops T) T.cursor.codes → current_of T ≢ None →
     StandsAlone T → (V : Tokenizer) → EndsByData T V → FinishesAt T V
 alone-ends T read some alone V k =
     let a = some-ahead T (ahead T) refl some in
     advances-finishes (text_choice_of T) text_passed T k.behind V
     (data-advances (text_choice_of T) (data_stops T) T k.behind a.0 a.1.0 a.1.1 k.data_read (λ earlier previous stands. alone earlier previous a.0 a.1.0 stands a.1.1)
-    (subst (λ xs. AreReadAsData (bytes_of T) (text_choice_of T) (data_stops T) xs) a.1.1 (read-ahead (bytes_of T) (text_choice_of T) (data_stops T) T read)))
+    (subst (λ xs. AreReadAsData (source_of T) (text_choice_of T) (data_stops T) xs) a.1.1 (read-ahead (source_of T) (text_choice_of T) (data_stops T) T read)))
     k.finishes
 
 has-code : (T : Tokenizer) (v : ℕ) → current_of T ≡ Some v → HasCode T
@@ -309,7 +310,7 @@ link-behind T U V ok r here k h =
 -- Ends of labels.
 
 lost-ends : (T : Tokenizer) → current_of T ≡ Some (byte "]") → LabelEnd.is_on T ≡ true → LabelEnd.end_reading T (ahead T) ≡ None →
-    AreReadAsData (bytes_of T) (text_choice_of T) (data_stops T) T.cursor.codes → (F : Tokenizer) → F ≡ past_mark loses T →
+    AreReadAsData (source_of T) (text_choice_of T) (data_stops T) T.cursor.codes → (F : Tokenizer) → F ≡ past_mark loses T →
     text_choice_of F ≡ text_choice_of T → data_stops F ≡ data_stops T → (V : Tokenizer) → EndsByData F V → FinishesAt T V
 lost-ends T here on none read F left choice stops V k =
     let there : DataFinishes (text_choice_of T) (data_up_to (data_stops T)) text_passed F V =

@@ -5,7 +5,7 @@ use Rattle.markdown_content.specs.CommonMark.{rules_of}
 use Rattle.markdown_content.specs.Content.{IsContent, content_of, document_limit}
 use Rattle.markdown_engine.specs.Operations.{registered, ahead}
 use Rattle.markdown_engine.specs.PastTree.{appended_from}
-use Rattle.markdown_content.specs.Place.{start_of_content, ahead_at}
+use Rattle.markdown_content.specs.Place.{start_of_content, ahead_at, Place}
 use Rattle.markdown_engine.specs.PassesInOrder.{MayResolve, Resolves}
 use Rattle.markdown_content.specs.Tree.{Forest, leaf_codes}
 use Rattle.markdown_event.specs.declared.event.Event.{Event}
@@ -26,7 +26,7 @@ use Rattle.markdown_attention.proofs.RunPlaces.{MeetsPass, good-meets}
 use Rattle.markdown_model.specs.BracketGroups.{paired}
 use Rattle.markdown_model.specs.Pairs.{pair_list}
 use Rattle.markdown_model.specs.Passes.{no_breaks, hard_breaks, merged, trimmed}
-use Rattle.markdown_model.specs.Setting.{Setting}
+use Rattle.markdown_model.specs.Setting.{Setting, within}
 use Rattle.markdown_model.proofs.PassesKeepCodes.{codes-merged, codes-paired}
 use Rattle.markdown_passes.specs.TrimmedEvents.{HasParts}
 use Rattle.markdown_passes.proofs.TrimPassLaw.{places-of}
@@ -37,6 +37,7 @@ use Rattle.markdown_run.specs.RunWithPasses.{may_end_of, MayMerge}
 use Rattle.markdown_run.proofs.DataInDocument.{parts-of, HasLines-merged, HasLines-HasData}
 use Rattle.markdown_run.proofs.PairsKeepLines.{HasLines-paired}
 use Rattle.markdown_run.proofs.TreesWithoutRuns.{paired-runless, unprobed}
+use Rattle.markdown_model.specs.InlineTree.{paired_whole}
 
 -- these passes, before them that of runs if it is registered
 abbrev pub passes_first : Bool → List ResolveName → List ResolveName
@@ -116,6 +117,7 @@ pub record HasTreeEvents (p : ParseState) (pieces : List Piece) (tree : Forest) 
   pub map : X.map ≡ []
   pub events : X.events ≡ appended_from 0 None tree
   pub input : X.parse_state.now ≡ p
+  pub reads : X.cursor.codes ≡ content_of p.bytes.now pieces
 
 merged-parts : (p : ParseState) (pieces : List Piece) (tree : Forest) (X : Tokenizer) → HasTreeEvents p pieces tree X →
     HasParts p.bytes.now (merged tree)
@@ -189,9 +191,13 @@ pub record IsGiven (s : Setting) (p : ParseState) : Type 0 where
   pub bytes : s.bytes ≡ p.bytes.now
   pub options : s.options ≡ p.options.now
 
-given-of : (s : Setting) (p : ParseState) (X : Tokenizer) → IsGiven s p → X.parse_state.now ≡ p → IsOf s X
-given-of s p X g e =
-    record { bytes = g.bytes ∙ ap (λ (x : ParseState). x.bytes.now) (sym e); options = g.options ∙ ap (λ (x : ParseState). x.options.now) (sym e) }
+given-of : (s : Setting) (p : ParseState) (tree : Forest) (X : Tokenizer) → IsGiven s p → X.parse_state.now ≡ p → leaf_codes tree ≡ X.cursor.codes →
+    IsOf s tree X
+given-of s p tree X g e codes = record {
+  bytes = g.bytes ∙ ap (λ (x : ParseState). x.bytes.now) (sym e);
+  options = g.options ∙ ap (λ (x : ParseState). x.options.now) (sym e);
+  codes = codes;
+}
 
 may-pair : (p : ParseState) (pieces : List Piece) (tree : Forest) (X : Tokenizer) → HasTreeEvents p pieces tree X →
     IsGood p.bytes.now tree → MayPair X
@@ -204,8 +210,8 @@ may-pair p pieces tree X h good =
       places = subst (λ (x : ParseState). HaveRunPlaces x.bytes.now X.events) (sym h.input) (subst (λ (es : List Event). HaveRunPlaces p.bytes.now es) (sym h.events) m.places);
       ends = subst (λ (es : List Event). HaveRunEnds es) (sym h.events) m.ends;
       room = subst (λ (es : List Event). HaveRunRoom es) (sym h.events) m.room;
-      small = subst (λ (x : ParseState). IsSmall (runs_from x.options.now x.bytes.now 0 0 outermost X.events)) (sym h.input)
-          (tree-small p.options.now p.bytes.now tree X.events m.runs h.events (omega (arith, codes, content_fits p.bytes.now pieces h.content)));
+      small = subst (λ (x : ParseState). IsSmall (runs_from x.options.now x.bytes.now X.cursor.codes 0 0 outermost X.events)) (sym h.input)
+          (tree-small p.options.now p.bytes.now X.cursor.codes tree X.events m.runs h.events (omega (arith, codes, content_fits p.bytes.now pieces h.content)));
     }
 
 module _ (p : ParseState) (pieces : List Piece) (tree : Forest) (s : Setting) (given : IsGiven s p) (X V : Tokenizer) (h : HasTreeEvents p pieces tree X) (good : IsGood p.bytes.now tree) (m : PairsRuns X V) where
@@ -215,23 +221,28 @@ module _ (p : ParseState) (pieces : List Piece) (tree : Forest) (s : Setting) (g
   runs : HasRuns X.parse_state.now.bytes.now tree
   runs = subst (λ (x : ParseState). HasRuns x.bytes.now tree) (sym h.input) meets.runs
 
+  -- it is the pass of a tree of the content
+  is_of : IsOf s tree X
+  is_of = given-of s p tree X given h.input (h.codes ∙ sym h.reads)
+
   -- it leaves the events of the paired tree
-  paired-read : HasTreeEvents p pieces (paired s (pair_list s) tree) V
+  paired-read : HasTreeEvents p pieces (paired_whole s (pair_list s) tree) V
   paired-read = record {
     content = h.content;
-    has_lines = HasLines-paired s (pair_list s) tree h.has_lines meets.striped.1;
-    codes = codes-paired s (pair_list s) tree ∙ h.codes;
+    has_lines = HasLines-paired (within (leaf_codes tree) s) (pair_list s) tree h.has_lines meets.striped.1;
+    codes = codes-paired (within (leaf_codes tree) s) (pair_list s) tree ∙ h.codes;
     map = ap (λ (x : Tokenizer). x.map) m.same ∙ h.map;
-    events = m.paired s tree (given-of s p X given h.input) runs meets.striped h.events;
+    events = m.paired s tree is_of runs meets.striped h.events;
     input = ap (λ (x : Tokenizer). x.parse_state.now) m.same ∙ h.input;
+    reads = ap (λ (x : Tokenizer). x.cursor.codes) m.same ∙ h.reads;
   }
 
   paired-probes : IsProbed s tree V.tokenize_state.probes
-  paired-probes = m.probed s tree (given-of s p X given h.input) runs h.events
+  paired-probes = m.probed s tree is_of runs h.events
 
 -- what the passes of a run over a content leave of its tree: its pairs grouped, merged and finished, and the number of looks that pairing took
 pub record IsResolved (s : Setting) (finish : Forest → Forest) (tree : Forest) (V : Tokenizer) : Type 0 where
-  pub events : V.events ≡ appended_from 0 None (finish (merged (paired s (pair_list s) tree)))
+  pub events : V.events ≡ appended_from 0 None (finish (merged (paired_whole s (pair_list s) tree)))
   pub probed : IsProbed s tree V.tokenize_state.probes
 
 -- the passes behind that of labels: those of runs, if a run stands somewhere, of data and of the whole
@@ -240,7 +251,7 @@ module _ (p : ParseState) (pieces : List Piece) (tree : Forest) (s : Setting) (g
       MayResolve may_end_of resolves_of (passes_first b (R.Data ∷ last ∷ [])) X
   first-may true good = (
     may-pair p pieces tree X read (good refl),
-    λ V m. passes-may p pieces (paired s (pair_list s) tree) last finish V t (paired-read p pieces tree s given X V read (good refl) m),
+    λ V m. passes-may p pieces (paired_whole s (pair_list s) tree) last finish V t (paired-read p pieces tree s given X V read (good refl) m),
   )
   first-may false good = passes-may p pieces tree last finish X t read
 
@@ -248,7 +259,7 @@ module _ (p : ParseState) (pieces : List Piece) (tree : Forest) (s : Setting) (g
       → Resolves resolves_of (passes_first b (R.Data ∷ last ∷ [])) X V → IsResolved s (finish p) tree V
   first-leaves true good runless none V r =
       let m : PairsRuns X r.0 = r.1.0 in
-      let l = passes-leave p pieces (paired s (pair_list s) tree) last finish r.0 V t (paired-read p pieces tree s given X r.0 read (good refl) m) r.1.1 in
+      let l = passes-leave p pieces (paired_whole s (pair_list s) tree) last finish r.0 V t (paired-read p pieces tree s given X r.0 read (good refl) m) r.1.1 in
       record {
         events = l.0;
         probed = subst (λ (x : TokenizeState). IsProbed s tree x.probes) (sym l.1) (paired-probes p pieces tree s given X r.0 read (good refl) m);
@@ -256,7 +267,7 @@ module _ (p : ParseState) (pieces : List Piece) (tree : Forest) (s : Setting) (g
   first-leaves false good runless none V r =
       let l = passes-leave p pieces tree last finish X V t read r in
       record {
-        events = l.0 ∙ ap (λ x. appended_from 0 None (finish p (merged x))) (sym (paired-runless s (pair_list s) tree (runless refl)));
+        events = l.0 ∙ ap (λ x. appended_from 0 None (finish p (merged x))) (sym (paired-runless (within (leaf_codes tree) s) (pair_list s) tree (runless refl)));
         probed = subst (λ (n : ℕ). IsProbed s tree n) (sym (ap (λ (x : TokenizeState). x.probes) l.1 ∙ none)) (unprobed s tree (runless refl));
       }
 
@@ -276,3 +287,8 @@ pub codes-ahead : (p : ParseState) (pieces : List Piece) (S : Tokenizer) →
     S.cursor ≡ start_of_content p.bytes.now pieces → ahead S ≡ content_of p.bytes.now pieces
 unfolding start_of_content ahead_at
 codes-ahead p pieces S e = ap ahead_at e
+
+pub codes-read : (p : ParseState) (pieces : List Piece) (S : Tokenizer) →
+    S.cursor ≡ start_of_content p.bytes.now pieces → S.cursor.codes ≡ content_of p.bytes.now pieces
+unfolding start_of_content
+codes-read p pieces S e = ap (λ (x : Place). x.codes) e

@@ -19,12 +19,13 @@ use Rattle.markdown_run_text.specs.OpenStarts.{brackets_of}
 use Rattle.markdown_run_text.specs.Row.{Row, past_row, row_codes, row_has_run, IsRowAt}
 use Rattle.markdown_run_text.proofs.RowBrackets.{row-brackets}
 use Rattle.markdown_run_text.proofs.RowTreeFacts.{grouped-lines, grouped-codes, grouped-runless}
-use Rattle.markdown_run_text.proofs.RowScratch.{past-rest}
+use Rattle.markdown_run_text.proofs.RowScratch.{past-rest, row-content}
 use Rattle.markdown_run_text.proofs.RowWithoutLabels.{flat-grouped}
 use Rattle.markdown_run_text.specs.RowTreeNames.{IsRunless}
 use Rattle.markdown_run_text.specs.ContentPasses.{GroupsLabels, resolves_of}
 use Rattle.markdown_run.specs.RunWithPasses.{may_end_of}
-use Rattle.markdown_run.proofs.PassesAfterRun.{passes_first, labels_first, IsTrimming, HasTreeEvents, IsGiven, IsRunStart, IsResolved, codes-ahead, first-may, first-leaves}
+use Rattle.markdown_run.proofs.PassesAfterRun.{passes_first, labels_first, IsTrimming, HasTreeEvents, IsGiven, IsRunStart, IsResolved, codes-ahead, first-may, first-leaves, codes-read}
+use Rattle.markdown_content.specs.Content.{content_of}
 
 module _ (p : ParseState) (pieces : List Piece) (s : Setting) (given : IsGiven s p) (row : Row) (last : ResolveName) (finish : ParseState → Forest → Forest) (S U : Tokenizer) (t : IsTrimming last finish) (start : IsRunStart p pieces S) (fresh : IsFreshRow S)
     (at : IsRowAt [] row) (codes : row_codes row ≡ ahead S) (good : row_has_run row ≡ true → IsGood p.bytes.now (grouped (brackets_of row))) (left : U ≡ registered last (registered R.Data (past_row row S))) where
@@ -57,19 +58,23 @@ module _ (p : ParseState) (pieces : List Piece) (s : Setting) (given : IsGiven s
   probes : P.tokenize_state.probes ≡ 0
   probes = ap (λ (x : TokenizeState). x.probes) rest.fields ∙ start.probes
 
+  reads : P.cursor.codes ≡ content_of p.bytes.now pieces
+  reads = row-content row S ∙ codes-read p pieces S start.place
+
   runless : row_has_run row ≡ false → IsRunless tree
   runless e = grouped-runless row at e
 
   -- with the events of the grouped tree
   read-with : (Y : Tokenizer) → Y.map ≡ [] → Y.events ≡ appended_from 0 None tree → Y.parse_state.now ≡ p →
-      HasTreeEvents p pieces tree Y
-  read-with Y map events input = record {
+      Y.cursor.codes ≡ content_of p.bytes.now pieces → HasTreeEvents p pieces tree Y
+  read-with Y map events input reads = record {
     content = start.content;
     has_lines = grouped-lines row at;
     codes = grouped-codes row at ∙ codes ∙ codes-ahead p pieces S start.place;
     map = map;
     events = events;
     input = input;
+    reads = reads;
   }
 
   -- U is past the row, with the passes of data and of the whole registered, and before them those of labels and runs if such stand in it
@@ -82,7 +87,7 @@ module _ (p : ParseState) (pieces : List Piece) (s : Setting) (given : IsGiven s
   -- where no label is looked for, the brackets are trees alone
   read-plain : row_registers row ≡ false → HasTreeEvents p pieces tree X
   unfolding unregistered
-  read-plain e = read-with X map-none (has.events ∙ ap (appended_from 0 None) (flat-grouped row e)) input
+  read-plain e = read-with X map-none (has.events ∙ ap (appended_from 0 None) (flat-grouped row e)) input reads
 
   may-group : MayGroup X
   unfolding unregistered
@@ -97,6 +102,7 @@ module _ (p : ParseState) (pieces : List Piece) (s : Setting) (given : IsGiven s
   unfolding unregistered
   read-grouped Y g =
       read-with Y (ap (λ (x : Tokenizer). x.map) g.same ∙ map-none) (g.grouped B has) (ap (λ (x : Tokenizer). x.parse_state.now) g.same ∙ input)
+      (ap (λ (x : Tokenizer). x.cursor.codes) g.same ∙ reads)
 
   grouped-probes : (Y : Tokenizer) → GroupsLabels X Y → Y.tokenize_state.probes ≡ 0
   unfolding unregistered

@@ -5,14 +5,14 @@ use Rattle.markdown_content.specs.Content.{IsContent, content_of}
 use Rattle.markdown_engine.specs.Operations.{scratched}
 use Rattle.markdown_engine.specs.RestingFields.{at_rest}
 use Rattle.markdown_engine.specs.PassesInOrder.{MayResolve, Resolves, unregistered}
-use Rattle.markdown_content.specs.Tree.{events_of}
+use Rattle.markdown_content.specs.Tree.{events_of, leaf_codes}
 use Rattle.markdown_content.specs.declared.parser.ParseState.{ParseState}
 use Rattle.markdown_content.specs.declared.parser.Piece.{Piece}
 use Rattle.markdown_event.specs.declared.resolve.ResolveName.TheVariants as R
 use Rattle.markdown_engine.specs.declared.tokenizer.TokenizeState.{TokenizeState}
 use Rattle.markdown_engine.specs.declared.tokenizer.Tokenizer.{Tokenizer}
 use Rattle.markdown_model.specs.Elements.{AreElementsFrom, AreStringElements, string_choice}
-use Rattle.markdown_model.specs.InlineTree.{string_events}
+use Rattle.markdown_model.specs.InlineTree.{string_events, paired_whole}
 use Rattle.markdown_model.specs.LabelEnd.{Element}
 use Rattle.markdown_model.specs.Passes.{no_breaks, trimmed}
 use Rattle.markdown_content.specs.CommonMark.{rules_of}
@@ -42,6 +42,7 @@ use Rattle.markdown_run.proofs.RowsWithoutRuns.{row-still}
 use Rattle.markdown_run.proofs.DataInDocument.{HasLines-HasCodes}
 use Rattle.markdown_run_text.proofs.CutDataLemmas.{merged-same}
 use Rattle.markdown_model.proofs.StringTreeIsElements.{row_of}
+use Rattle.markdown_model.specs.Setting.{within}
 
 -- where data stops at the markers of a string
 marked-start : (p : ParseState) (pieces : List Piece) (T : Tokenizer) → StartsContent p pieces at_rest T →
@@ -99,7 +100,7 @@ module _ (p : ParseState) (pieces : List Piece) (content : IsContent p.bytes.now
     still = string-still (setting_of p) found.elements [] None (content_of p.bytes.now pieces) are
 
     as_they_are : found.read ≡ found.elements
-    as_they_are = read-runless p.bytes.now found.elements found.read found.read_as still
+    as_they_are = read-runless (record { bytes = p.bytes.now; content = content_of p.bytes.now pieces }) found.elements found.read found.read_as still
 
     labels : labels_of found.read ≡ row_of found.elements
     labels = ap labels_of as_they_are ∙ string-labels (setting_of p) (content_of p.bytes.now pieces) found.elements are
@@ -129,8 +130,8 @@ module _ (p : ParseState) (pieces : List Piece) (content : IsContent p.bytes.now
       pub string-run : chained V.events ≡ string_events (setting_of p) pieces
       string-run =
           ap chained left.events
-          ∙ chained-whole (trimmed (no_breaks (rules_of p.options.now)) false false (merged (paired (setting_of p) (pair_list (setting_of p)) label_row)))
-          ∙ ap (λ t. events_of (trimmed (no_breaks (rules_of p.options.now)) false false (merged t))) (paired-runless (setting_of p) (pair_list (setting_of p)) label_row runless)
+          ∙ chained-whole (trimmed (no_breaks (rules_of p.options.now)) false false (merged (paired_whole (setting_of p) (pair_list (setting_of p)) label_row)))
+          ∙ ap (λ t. events_of (trimmed (no_breaks (rules_of p.options.now)) false false (merged t))) (paired-runless (within (leaf_codes label_row) (setting_of p)) (pair_list (setting_of p)) label_row runless)
           ∙ ap (λ t. events_of (trimmed (no_breaks (rules_of p.options.now)) false false t)) (merged-same label_row (labels_of found.read) (HasLines-HasCodes label_row (grouped-lines E.row found.is_row)) found.have_codes found.trees)
           ∙ ap (λ t. events_of (trimmed (no_breaks (rules_of p.options.now)) false false (merged t))) labels
           ∙ ap events_of (sym (string-finished (setting_of p) (content_of p.bytes.now pieces) found.elements are))

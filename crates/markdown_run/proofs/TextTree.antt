@@ -9,8 +9,7 @@ use Rattle.markdown_content.specs.declared.configuration.Constructs.{Constructs}
 use Rattle.markdown_content.specs.declared.label_kind.LabelKind.{LabelKind}
 use Rattle.markdown_model.specs.Elements.{attention_run, as_plain, line_ending, data_code, text_element, text_choice, AreElements, elements_of}
 use Rattle.markdown_model.specs.Grammar.{Reading}
-use Rattle.markdown_model.specs.BracketGroups.{paired}
-use Rattle.markdown_model.specs.InlineTree.{label_tree, raw_tree, finished_text, text_tree}
+use Rattle.markdown_model.specs.InlineTree.{label_tree, raw_tree, finished_text, text_tree, paired_whole}
 use Rattle.markdown_model.specs.LabelEnd.{Element, plain, starts, ends, label_end}
 use Rattle.markdown_model.specs.Pairs.{Pair, pair_list}
 use Rattle.markdown_model.specs.Passes.{HardBreaks, breaks, labels_of, merged, trimmed, with_emails_apart}
@@ -114,7 +113,7 @@ finish hard literals t =
     let u = trimmed hard true true (merged t) in elim literals [ true ↦ with_emails_apart u | false ↦ u ]
 
 finished-is : (s : Setting) (pairs_of : List Run → List Pair) (es : List Element)
-    → finished_text s pairs_of es ≡ finish (breaks s) s.options.constructs.gfm_autolink_literal (paired s pairs_of (labels_of es))
+    → finished_text s pairs_of es ≡ finish (breaks s) s.options.constructs.gfm_autolink_literal (paired_whole s pairs_of (labels_of es))
 unfolding finished_text raw_tree finish
 finished-is s pairs_of es = refl
 
@@ -125,9 +124,9 @@ finish-where hard true t = refl
 finish-where hard false t = refl
 
 pub text-finished : (s : Setting) (cs : List Code) (es : List Element) → AreElements s cs es
-    → text_tree s cs ≡ mailed_where s.options.constructs.gfm_autolink_literal (trimmed (breaks s) true true (merged (paired s (pair_list s) (labels_of es))))
+    → text_tree s cs ≡ mailed_where s.options.constructs.gfm_autolink_literal (trimmed (breaks s) true true (merged (paired_whole s (pair_list s) (labels_of es))))
 unfolding text_tree
 text-finished s cs es are =
     ap (finished_text s (pair_list s)) (same_text_elements s cs (elements_of s cs) es (text_elements s cs) are)
     ∙ finished-is s (pair_list s) es
-    ∙ finish-where (breaks s) s.options.constructs.gfm_autolink_literal (paired s (pair_list s) (labels_of es))
+    ∙ finish-where (breaks s) s.options.constructs.gfm_autolink_literal (paired_whole s (pair_list s) (labels_of es))

@@ -2,7 +2,7 @@
 use Rattle.std.proofs.Common.{◌≡◌, ℕ, ◌+◌, ◌*◌, ◌≤◌, false, List, [], ◌∷◌, ◌++◌, length, sum_by, Option, refl, sym, ap, subst, ◌∙◌, append-nil, arith}
 use Rattle.std.proofs.lemmas.List.Sums.{sum_by-append, sum_by-cons}
 use Rattle.markdown_content.specs.Codes.{Code}
-use Rattle.markdown_content.specs.Tree.{Forest, empty, leaf_then, group_then}
+use Rattle.markdown_content.specs.Tree.{Forest, empty, leaf_then, group_then, leaf_codes}
 use Rattle.markdown_event.specs.declared.event.Content.{Content}
 use Rattle.markdown_event.specs.declared.event.Name.{Name}
 use Rattle.markdown_event.specs.declared.event.Name.TheVariants as N
@@ -11,8 +11,8 @@ use Rattle.markdown_attention.specs.AttentionPass.{IsProbed}
 use Rattle.markdown_model.specs.BracketGroups.{nest, after_loose, joined, loose, pair_group, assembled, tokens_of, paired, Token, item}
 use Rattle.markdown_model.specs.InlineTree.{run_count}
 use Rattle.markdown_model.specs.Pairs.{Pair, pairs_after, pair_list}
-use Rattle.markdown_model.specs.Runs.{Run, runs_of, rows_inside, containers_of}
-use Rattle.markdown_model.specs.Setting.{Setting}
+use Rattle.markdown_model.specs.Runs.{Run, runs_of, rows_inside, containers_of, rows_of}
+use Rattle.markdown_model.specs.Setting.{Setting, within}
 use Rattle.markdown_run_text.specs.RowTreeNames.{IsRunless}
 
 module _ (s : Setting) (pairs_of : List Run → List Pair) where
@@ -79,11 +79,17 @@ module _ (s : Setting) where
         sum_by-append f (runs_of s inside ∷ rows_inside s inside) (rows_inside s rest),
       )
 
-  none-in : (f : List Run → ℕ) → f [] ≡ 0 → (t : Forest) → IsRunless t → sum_by f (containers_of s t) ≡ 0
-  unfolding containers_of
-  none-in f e t h =
+  none-rows : (f : List Run → ℕ) → f [] ≡ 0 → (t : Forest) → IsRunless t → sum_by f (rows_of s t) ≡ 0
+  unfolding rows_of
+  none-rows f e t h =
       let here : f (runs_of s t) ≡ 0 = ap f (no-runs t h) ∙ e in
       omega (arith, here, none-inside f e t h, sum_by-cons f (runs_of s t) (rows_inside s t))
+
+-- The same of the tree of a whole content.
+
+module _ (s : Setting) where
+  none-in : (f : List Run → ℕ) → f [] ≡ 0 → (t : Forest) → IsRunless t → sum_by f (containers_of s t) ≡ 0
+  none-in f e t h = none-rows (within (leaf_codes t) s) f e t h
 
   no-pairs : length (pair_list s []) ≡ 0
   unfolding pair_list pairs_after

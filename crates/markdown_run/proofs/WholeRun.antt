@@ -10,7 +10,7 @@ use Rattle.markdown_engine.specs.Operations.{ahead, registered}
 use Rattle.markdown_content.specs.Place.{Place, start_of_content, last_of}
 use Rattle.markdown_engine.specs.RestingFields.{at_rest}
 use Rattle.markdown_engine.specs.PassesInOrder.{MayResolve, Resolves, unregistered}
-use Rattle.markdown_content.specs.Tree.{Forest, events_of}
+use Rattle.markdown_content.specs.Tree.{Forest, events_of, leaf_codes}
 use Rattle.markdown_content.specs.declared.parser.ParseState.{ParseState}
 use Rattle.markdown_content.specs.declared.parser.Piece.{Piece}
 use Rattle.markdown_event.specs.declared.resolve.ResolveName.{ResolveName}
@@ -31,9 +31,9 @@ use Rattle.markdown_model.specs.BracketGroups.{paired}
 use Rattle.markdown_model.specs.LabelEnd.{Element}
 use Rattle.markdown_model.specs.Pairs.{pair_list}
 use Rattle.markdown_model.specs.Passes.{labels_of, merged}
-use Rattle.markdown_model.specs.Setting.{Setting}
+use Rattle.markdown_model.specs.Setting.{Setting, within}
 use Rattle.markdown_plan.specs.Characters.{bytes_of}
-use Rattle.markdown_run_text.specs.ElementsAsRead.{AreReadAs}
+use Rattle.markdown_run_text.specs.ElementsAsRead.{AreReadAs, Source, source_of}
 use Rattle.markdown_run_text.specs.RunOverElements.{AllElements, Finishes, StandsAfter}
 use Rattle.markdown_run_text.specs.RowStart.{IsFreshRow}
 use Rattle.markdown_run_text.specs.OpenStarts.{brackets_of}
@@ -42,11 +42,13 @@ use Rattle.markdown_run_text.proofs.RowElements.{grouped-alike}
 use Rattle.markdown_run_text.proofs.RowTreeFacts.{grouped-lines, codes-labels}
 use Rattle.markdown_run_text.specs.ContentPasses.{may_resolve_of, resolves_of}
 use Rattle.markdown_run.specs.RunWithPasses.{may_end_of}
-use Rattle.markdown_run.proofs.PassesAfterRun.{may-weaker}
+use Rattle.markdown_run.proofs.PassesAfterRun.{may-weaker, codes-read}
 use Rattle.markdown_run.proofs.DataInDocument.{HasLines-HasCodes}
 use Rattle.markdown_run.proofs.PassesAfterRun.{IsTrimming, IsRunStart, IsGiven, IsResolved, codes-ahead}
 use Rattle.markdown_run.proofs.ProbeBoundsOfCutData.{probes-alike}
 use Rattle.markdown_run.proofs.RowPasses.{row-may, row-left}
+use Rattle.markdown_model.specs.InlineTree.{paired_whole}
+use Rattle.markdown_run_text.proofs.RunsOfCutData.{codes-same}
 
 -- T stands at the start of the content of these pieces, with no events and these scratch fields
 pub record StartsContent (p : ParseState) (pieces : List Piece) (s : TokenizeState) (T : Tokenizer) : Type 0 where
@@ -128,7 +130,7 @@ pub record IsRowRead (bytes : List ℕ) (choice : Choice) (cs : List Code) (row 
   pub elements : List Element
   pub are : AreElementsFrom choice [] None cs elements
   pub read : List Element
-  pub read_as : AreReadAs bytes elements read
+  pub read_as : AreReadAs (record { bytes = bytes; content = cs }) elements read
   pub have_codes : HasCodes (labels_of read)
   pub alike : split_row row ≡ split_row (row_of_elements read)
   pub is_row : IsRowAt [] row
@@ -146,14 +148,18 @@ module _ (last : ResolveName) (finish : ParseState → Forest → Forest) (trims
   is_row : IsRowAt [] k.row
   is_row = subst (λ ks. IsRowAt ks k.row) (ap (λ (x : TokenizeState). map (λ (l : LabelStart). l.kind) x.label_starts) start.fields ∙ ap (map (λ (l : LabelStart). l.kind)) fresh.starts) k.is_row
 
+  -- it reads the content of the document
+  source-is : ◌≡◌ {A = Source} (source_of T) (record { bytes = p.bytes.now; content = content_of p.bytes.now pieces })
+  source-is = λ i. record { bytes = (start.input i).bytes.now; content = codes-read p pieces T start.place i }
+
   pub finished-elements : IsRowRead p.bytes.now choice (content_of p.bytes.now pieces) k.row
   finished-elements =
-      let all : AllElements (bytes_of T) choice [] None k.row (ahead T) = k.elements [] None (start-stands p pieces s T fresh.starts start) in
+      let all : AllElements (source_of T) choice [] None k.row (ahead T) = k.elements [] None (start-stands p pieces s T fresh.starts start) in
       record {
         elements = all.elements;
         are = subst (λ cs. AreElementsFrom choice [] None cs all.elements) (start-ahead p pieces s T start) all.are;
         read = all.read;
-        read_as = subst (λ bytes. AreReadAs bytes all.elements all.read) (ap (λ (x : ParseState). x.bytes.now) start.input) all.read_as;
+        read_as = subst (λ x. AreReadAs x all.elements all.read) source-is all.read_as;
         have_codes = codes-labels all.read all.have_codes;
         alike = all.alike;
         is_row = is_row;
@@ -175,10 +181,13 @@ module _ (last : ResolveName) (finish : ParseState → Forest → Forest) (trims
 
     -- what the passes leave, of a tree that differs from it only in how data is cut
     pub finished-events : (V : Tokenizer) (labels : Forest) → HasCodes labels → split Grouped ≡ split labels → Resolves resolves_of U.resolvers (unregistered U) V
-        → chained V.events ≡ events_of (finish p (merged (paired setting (pair_list setting) labels)))
+        → chained V.events ≡ events_of (finish p (merged (paired_whole setting (pair_list setting) labels)))
     finished-events V labels codes alike r =
-        let t : Forest = paired setting (pair_list setting) Grouped in
-        let same : merged t ≡ merged (paired setting (pair_list setting) labels) = merged-paired setting (pair_list setting) Grouped labels (HasLines-HasCodes Grouped (grouped-lines k.row is_row)) codes alike in
+        let there : Setting = within (leaf_codes labels) setting in
+        let t : Forest = paired_whole setting (pair_list setting) Grouped in
+        let same : merged t ≡ merged (paired_whole setting (pair_list setting) labels) =
+        (λ i. merged (paired (within (codes-same Grouped labels alike i) setting) (pair_list setting) Grouped))
+        ∙ merged-paired there (pair_list setting) Grouped labels (HasLines-HasCodes Grouped (grouped-lines k.row is_row)) codes alike in
         ap chained (finished-left V r).events ∙ chained-whole (finish p (merged t)) ∙ ap (λ x. events_of (finish p x)) same
 
     pub finished-probes : (V : Tokenizer) (labels : Forest) → split Grouped ≡ split labels →

@@ -1,7 +1,7 @@
 -- From one element of a content to the next.
 use Rattle.std.proofs.Common.{◌≡◌, ◌≢◌, ℕ, ◌+◌, ◌<◌, ◌≤◌, Bool, true, false, not, ◌&&◌, ◌||◌, List, [], ◌∷◌, ◌++◌, length, slice_get, Option, None, Some, refl, sym, ap, subst, ◌∙◌, arith, length-append, append_assoc, add-one, append-nil, inl, inr}
 use Rattle.std.specs.Prelude.{map}
-use Rattle.markdown_run_text.proofs.RowScratch.{kinds-row, row-input}
+use Rattle.markdown_run_text.proofs.RowScratch.{kinds-row, row-input, row-content}
 use Rattle.std.specs.List.{list_any}
 use Rattle.markdown_content.specs.Codes.{Code, is_line_ending, document_start, stop_of}
 use Rattle.markdown_content.specs.ListFunctions.{first_of, rest_of}
@@ -31,8 +31,7 @@ use Rattle.markdown_model.specs.TextLines.{linked_leaf, data_up_to, line_leaf, l
 use Rattle.markdown_model.proofs.StringTreeIsElements.{code_leaves}
 use Rattle.markdown_model.proofs.DefinitionSteps.{code_before-append}
 use Rattle.markdown_model.proofs.LeafCodes.{until-append}
-use Rattle.markdown_plan.specs.Characters.{bytes_of}
-use Rattle.markdown_run_text.specs.ElementsAsRead.{IsReadAs, AreReadAs}
+use Rattle.markdown_run_text.specs.ElementsAsRead.{IsReadAs, AreReadAs, Source, source_of}
 use Rattle.markdown_run_text.specs.RunOverElements.{AreSingle, AreReadAsData, StandsAfter, ReadsRow, Advances, AllElements, Finishes}
 use Rattle.markdown_run_text.specs.Row.{Row, row_end, row_then, loses, tree_onto, joined_rows, past_tree, past_row, row_codes, kinds_of, split_row, row_of_elements, element_onto, HasElementCodes, HaveCodes, IsRowAt}
 use Rattle.markdown_innermost.specs.OneLineLeaves.{makes_data}
@@ -68,27 +67,31 @@ have-append : (es fs : List Element) → HaveCodes es → HaveCodes fs → HaveC
 have-append [] fs h k = k
 have-append (e ∷ es) fs h k = (h.0, have-append es fs h.1 k)
 
-read-append : (bytes : List ℕ) (es fs gs hs : List Element) → AreReadAs bytes es fs → AreReadAs bytes gs hs →
-    AreReadAs bytes (es ++ gs) (fs ++ hs)
-read-append bytes [] [] gs hs h k = k
-read-append bytes (e ∷ es) (f ∷ fs) gs hs h k = (h.0, read-append bytes es fs gs hs h.1 k)
-read-append bytes [] (f ∷ fs) gs hs h k = absurd h
-read-append bytes (e ∷ es) [] gs hs h k = absurd h
+read-append : (source : Source) (es fs gs hs : List Element) → AreReadAs source es fs → AreReadAs source gs hs →
+    AreReadAs source (es ++ gs) (fs ++ hs)
+read-append source [] [] gs hs h k = k
+read-append source (e ∷ es) (f ∷ fs) gs hs h k = (h.0, read-append source es fs gs hs h.1 k)
+read-append source [] (f ∷ fs) gs hs h k = absurd h
+read-append source (e ∷ es) [] gs hs h k = absurd h
 
 -- After an advance.
 
 elements-all : (choice : Choice) (earlier : List Element) (previous : Option Code) (r q : Row) (T U : Tokenizer) →
-    (k : ReadsRow choice earlier previous r T U) → AllElements (bytes_of T) choice k.later k.last q (ahead U) →
-    AllElements (bytes_of T) choice earlier previous (joined_rows r q) (ahead T)
+    (k : ReadsRow choice earlier previous r T U) → AllElements (source_of T) choice k.later k.last q (ahead U) →
+    AllElements (source_of T) choice earlier previous (joined_rows r q) (ahead T)
 elements-all choice earlier previous r q T U k a =
     record {
       elements = k.elements ++ a.elements;
       are = k.follow a.elements a.are;
       read = k.read ++ a.read;
-      read_as = read-append (bytes_of T) k.elements k.read a.elements a.read k.read_as a.read_as;
+      read_as = read-append (source_of T) k.elements k.read a.elements a.read k.read_as a.read_as;
       have_codes = have-append k.read a.read k.have_codes a.have_codes;
       alike = split-joined r q ∙ (λ i. joined_rows (k.alike i) (a.alike i)) ∙ sym (split-joined (row_of_elements k.read) (row_of_elements a.read)) ∙ ap split_row (sym (elements-append k.read a.read));
     }
+
+-- a row leaves what is read as it is
+source-past : (row : Row) (T : Tokenizer) → source_of (past_row row T) ≡ source_of T
+source-past row T = λ i. record { bytes = (row-input row T i).now.bytes.now; content = row-content row T i }
 
 -- what follows an advance, follows from before it
 pub advances-finishes : (choice : Choice) (passed : Tokenizer → Tokenizer) (T U V : Tokenizer) → Advances choice T U →
@@ -101,8 +104,8 @@ advances-finishes choice passed T U V p k =
       left = k.left ∙ ap (λ (x : Tokenizer). passed (past_row k.row x)) p.left ∙ ap passed (past-joined (kinds_of T) p.row k.row T p.is_row);
       elements = λ earlier previous s.
           let e = p.elements earlier previous s in
-          let same : bytes_of U ≡ bytes_of T = ap (λ (x : Tokenizer). bytes_of x) p.left ∙ ap (λ x. x.now.bytes.now) (row-input p.row T) in
-          elements-all choice earlier previous p.row k.row T U e (subst (λ (bs : List ℕ). AllElements bs choice e.later e.last k.row (ahead U)) same (k.elements e.later e.last e.stands));
+          let same : source_of U ≡ source_of T = ap (λ (x : Tokenizer). source_of x) p.left ∙ source-past p.row T in
+          elements-all choice earlier previous p.row k.row T U e (subst (λ (x : Source). AllElements x choice e.later e.last k.row (ahead U)) same (k.elements e.later e.last e.stands));
     }
 
 -- at the content's end
@@ -177,45 +180,45 @@ data-next choice earlier previous e c cs es h k =
     (cs, h, subst (λ o. AreElementsFrom choice (e ∷ earlier) o cs es) (sym (code_before-append (c ∷ []) cs)) k)
 
 -- an element by itself is read as itself
-pub single-read : (bytes : List ℕ) (choice : Choice) (stops : List Code → Bool) (whole : List Code) → AreSingle choice stops whole → AreReadAsData bytes choice stops whole
-single-read bytes choice stops whole single front earlier previous c cs e free =
+pub single-read : (source : Source) (choice : Choice) (stops : List Code → Bool) (whole : List Code) → AreSingle choice stops whole → AreReadAsData source choice stops whole
+single-read source choice stops whole single front earlier previous c cs e free =
     (plain (code_leaf c), (single front earlier previous c cs e free, inl refl))
 
 -- what is said of each code, is said of those behind the first
-read-behind : (bytes : List ℕ) (choice : Choice) (stops : List Code → Bool) (c : Code) (cs : List Code) →
-    AreReadAsData bytes choice stops (c ∷ cs) → AreReadAsData bytes choice stops cs
-read-behind bytes choice stops c cs others front earlier previous d ds e free =
+read-behind : (source : Source) (choice : Choice) (stops : List Code → Bool) (c : Code) (cs : List Code) →
+    AreReadAsData source choice stops (c ∷ cs) → AreReadAsData source choice stops cs
+read-behind source choice stops c cs others front earlier previous d ds e free =
     others (c ∷ front) earlier previous d ds (ap (λ xs. c ∷ xs) e) free
 
 -- the elements of these codes, each read as data, and those that follow behind them, where these codes are left
-pub record ElementsOfData (bytes : List ℕ) (choice : Choice) (earlier : List Element) (previous : Option Code) (cs these left : List Code) : Type 0 where
+pub record ElementsOfData (source : Source) (choice : Choice) (earlier : List Element) (previous : Option Code) (cs these left : List Code) : Type 0 where
   pub elements : List Element
-  pub read_as : AreReadAs bytes elements (leaf_elements these)
+  pub read_as : AreReadAs source elements (leaf_elements these)
   pub follow : (es : List Element) → AreElementsFrom choice (past_elements earlier elements) (past_code previous these) left es → AreElementsFrom choice earlier previous cs (elements ++ es)
 
-no-data : (bytes : List ℕ) (choice : Choice) (earlier : List Element) (previous : Option Code) (cs : List Code) →
-    ElementsOfData bytes choice earlier previous cs [] cs
+no-data : (source : Source) (choice : Choice) (earlier : List Element) (previous : Option Code) (cs : List Code) →
+    ElementsOfData source choice earlier previous cs [] cs
 unfolding leaf_elements past_elements past_code
-no-data bytes choice earlier previous cs = record { elements = []; read_as = tt; follow = λ es h. h }
+no-data source choice earlier previous cs = record { elements = []; read_as = tt; follow = λ es h. h }
 
-more-data : (bytes : List ℕ) (choice : Choice) (earlier : List Element) (previous : Option Code) (e : Element) (c : Code) (cs these left : List Code) → choice earlier previous (c ∷ cs) ≡ Some (e, cs) → IsReadAs bytes e (plain (code_leaf c))
-    → ElementsOfData bytes choice (e ∷ earlier) (Some c) cs these left → ElementsOfData bytes choice earlier previous (c ∷ cs) (c ∷ these) left
+more-data : (source : Source) (choice : Choice) (earlier : List Element) (previous : Option Code) (e : Element) (c : Code) (cs these left : List Code) → choice earlier previous (c ∷ cs) ≡ Some (e, cs) → IsReadAs source e (plain (code_leaf c))
+    → ElementsOfData source choice (e ∷ earlier) (Some c) cs these left → ElementsOfData source choice earlier previous (c ∷ cs) (c ∷ these) left
 unfolding leaf_elements past_elements past_code
-more-data bytes choice earlier previous e c cs these left h a k =
+more-data source choice earlier previous e c cs these left h a k =
     record { elements = e ∷ k.elements; read_as = (a, k.read_as); follow = λ es f. data-next choice earlier previous e c cs (k.elements ++ es) h (k.follow es f) }
 
-data-others : (bytes : List ℕ) (choice : Choice) (stops : List Code → Bool) (earlier : List Element) (previous : Option Code) (cs : List Code) →
-    AreReadAsData bytes choice stops cs →
-    ElementsOfData bytes choice earlier previous cs (until stops cs).0 (until stops cs).1
-data-others bytes choice stops earlier previous [] others = no-data bytes choice earlier previous []
-data-others bytes choice stops earlier previous (c ∷ cs) others =
+data-others : (source : Source) (choice : Choice) (stops : List Code → Bool) (earlier : List Element) (previous : Option Code) (cs : List Code) →
+    AreReadAsData source choice stops cs →
+    ElementsOfData source choice earlier previous cs (until stops cs).0 (until stops cs).1
+data-others source choice stops earlier previous [] others = no-data source choice earlier previous []
+data-others source choice stops earlier previous (c ∷ cs) others =
     let s : List Code × List Code = until stops cs in
     let cut : Bool → List Code × List Code = λ b. elim b [ true ↦ ([], c ∷ cs) | false ↦ (c ∷ s.0, s.1) ] in
-    elim (stops (c ∷ cs)) as (λ b. stops (c ∷ cs) ≡ b → ElementsOfData bytes choice earlier previous (c ∷ cs) (cut b).0 (cut b).1) [
-      | true ↦ λ e. no-data bytes choice earlier previous (c ∷ cs)
+    elim (stops (c ∷ cs)) as (λ b. stops (c ∷ cs) ≡ b → ElementsOfData source choice earlier previous (c ∷ cs) (cut b).0 (cut b).1) [
+      | true ↦ λ e. no-data source choice earlier previous (c ∷ cs)
       | false ↦ λ e.
           let here = others [] earlier previous c cs refl e in
-          more-data bytes choice earlier previous here.0 c cs s.0 s.1 here.1.0 here.1.1 (data-others bytes choice stops (here.0 ∷ earlier) (Some c) cs (read-behind bytes choice stops c cs others))
+          more-data source choice earlier previous here.0 c cs s.0 s.1 here.1.0 here.1.1 (data-others source choice stops (here.0 ∷ earlier) (Some c) cs (read-behind source choice stops c cs others))
     ] refl
 
 -- no escape stands before, past a code
@@ -224,21 +227,21 @@ unescaped-leaf : (b : Bool) (c : Code) (earlier : List Element) →
 unescaped-leaf true c earlier = refl
 unescaped-leaf false c earlier = refl
 
-unescaped-read : (bytes : List ℕ) (e : Element) (c : Code) (earlier : List Element) → IsReadAs bytes e (plain (code_leaf c)) →
+unescaped-read : (source : Source) (e : Element) (c : Code) (earlier : List Element) → IsReadAs source e (plain (code_leaf c)) →
     ends_escaped (e ∷ earlier) ≡ false
-unescaped-read bytes e c earlier (inl h) =
+unescaped-read source e c earlier (inl h) =
     ap (λ x. ends_escaped (x ∷ earlier)) h ∙ unescaped-leaf (is_line_ending c) c earlier
-unescaped-read bytes e c earlier (inr h) = ap (λ x. ends_escaped (x ∷ earlier)) h.1.1.0
+unescaped-read source e c earlier (inr h) = ap (λ x. ends_escaped (x ∷ earlier)) h.1.1.0
 
 -- nor past elements that are read as data
-unescaped-past : (bytes : List ℕ) (earlier es : List Element) (cs : List Code) → AreReadAs bytes es (leaf_elements cs) →
+unescaped-past : (source : Source) (earlier es : List Element) (cs : List Code) → AreReadAs source es (leaf_elements cs) →
     ends_escaped earlier ≡ false → ends_escaped (past_elements earlier es) ≡ false
 unfolding leaf_elements past_elements
-unescaped-past bytes earlier [] [] h e = e
-unescaped-past bytes earlier (x ∷ es) (c ∷ cs) h e =
-    unescaped-past bytes (x ∷ earlier) es cs h.1 (unescaped-read bytes x c earlier h.0)
-unescaped-past bytes earlier [] (c ∷ cs) h e = absurd h
-unescaped-past bytes earlier (x ∷ es) [] h e = absurd h
+unescaped-past source earlier [] [] h e = e
+unescaped-past source earlier (x ∷ es) (c ∷ cs) h e =
+    unescaped-past source (x ∷ earlier) es cs h.1 (unescaped-read source x c earlier h.0)
+unescaped-past source earlier [] (c ∷ cs) h e = absurd h
+unescaped-past source earlier (x ∷ es) [] h e = absurd h
 
 -- The leaf of a stretch, by what its first code is.
 
@@ -417,24 +420,24 @@ kept-tree t T U left earlier k =
     subst (λ (x : Tokenizer). StandFor x.events (unused_starts earlier) x.tokenize_state.label_starts) (sym left) (starts-plain earlier t T.events _ T.tokenize_state.label_starts k)
 
 -- the starts that no end has used are those before data
-read-starts : (bytes : List ℕ) (e : Element) (c : Code) (earlier : List Element) → IsReadAs bytes e (plain (code_leaf c)) →
+read-starts : (source : Source) (e : Element) (c : Code) (earlier : List Element) → IsReadAs source e (plain (code_leaf c)) →
     unused_starts (e ∷ earlier) ≡ unused_starts earlier
-read-starts bytes e c earlier (inl h) = ap (λ x. unused_starts (x ∷ earlier)) h
-read-starts bytes e c earlier (inr h) = ap (λ x. unused_starts (x ∷ earlier)) h.1.1.0
+read-starts source e c earlier (inl h) = ap (λ x. unused_starts (x ∷ earlier)) h
+read-starts source e c earlier (inr h) = ap (λ x. unused_starts (x ∷ earlier)) h.1.1.0
 
-past-starts : (bytes : List ℕ) (earlier es : List Element) (cs : List Code) → AreReadAs bytes es (leaf_elements cs) →
+past-starts : (source : Source) (earlier es : List Element) (cs : List Code) → AreReadAs source es (leaf_elements cs) →
     unused_starts (past_elements earlier es) ≡ unused_starts earlier
 unfolding leaf_elements past_elements
-past-starts bytes earlier [] [] h = refl
-past-starts bytes earlier (x ∷ es) (c ∷ cs) h =
-    past-starts bytes (x ∷ earlier) es cs h.1 ∙ read-starts bytes x c earlier h.0
-past-starts bytes earlier [] (c ∷ cs) h = absurd h
-past-starts bytes earlier (x ∷ es) [] h = absurd h
+past-starts source earlier [] [] h = refl
+past-starts source earlier (x ∷ es) (c ∷ cs) h =
+    past-starts source (x ∷ earlier) es cs h.1 ∙ read-starts source x c earlier h.0
+past-starts source earlier [] (c ∷ cs) h = absurd h
+past-starts source earlier (x ∷ es) [] h = absurd h
 
-kept-past : (bytes : List ℕ) (earlier es : List Element) (cs : List Code) (U : Tokenizer) → AreReadAs bytes es (leaf_elements cs) →
+kept-past : (source : Source) (earlier es : List Element) (cs : List Code) (U : Tokenizer) → AreReadAs source es (leaf_elements cs) →
     KeepsStarts earlier U → KeepsStarts (past_elements earlier es) U
-kept-past bytes earlier es cs U h k =
-    subst (λ us. StandFor U.events us U.tokenize_state.label_starts) (sym (past-starts bytes earlier es cs h)) k
+kept-past source earlier es cs U h k =
+    subst (λ us. StandFor U.events us U.tokenize_state.label_starts) (sym (past-starts source earlier es cs h)) k
 
 -- Data that is read where a run stands: the code at hand, and those up to where data stops.
 pub record DataRead (stops : List Code → Bool) (T U : Tokenizer) (c : Code) (cs : List Code) : Type 0 where
@@ -470,32 +473,32 @@ data-read stops T U c cs whole k =
     }
 
 -- what stands before the place behind data that begins with this element
-pub stands-behind : (stops : List Code → Bool) (T U : Tokenizer) (c : Code) (cs : List Code) (d : DataRead stops T U c cs) (bytes : List ℕ) (next es : List Element) → AreReadAs bytes es (leaf_elements (until stops cs).0) →
+pub stands-behind : (stops : List Code → Bool) (T U : Tokenizer) (c : Code) (cs : List Code) (d : DataRead stops T U c cs) (source : Source) (next es : List Element) → AreReadAs source es (leaf_elements (until stops cs).0) →
     ends_escaped next ≡ false → KeepsStarts next U →
     StandsAfter (past_elements next es) (past_code (Some c) (until stops cs).0) U
 unfolding past_code
-stands-behind stops T U c cs d bytes next es read plainly keeps =
+stands-behind stops T U c cs d source next es read plainly keeps =
     let s : List Code × List Code = until stops cs in
     record {
       escaped =
           ap follows_escape (events-past d.tree T U d.left)
           ∙ ap (λ x. follows_escape (T.events ++ appended_from (length T.events) None x)) d.alike
           ∙ data-unescaped T.events (length T.events) c s.0
-          ∙ sym (unescaped-past bytes next es s.0 read plainly);
+          ∙ sym (unescaped-past source next es s.0 read plainly);
       before = before-past d.tree (ahead U) T U d.some d.whole d.left ∙ same-last (ahead T) (leaf_codes d.tree) (c ∷ s.0) (ahead U) d.whole d.cut ∙ sym (past-last c s.0 None);
-      keeps = kept-past bytes next es s.0 U read keeps;
+      keeps = kept-past source next es s.0 U read keeps;
     }
 
 -- the elements behind the first of data, and those that follow
-pub follow-behind : (bytes : List ℕ) (choice : Choice) (stops : List Code → Bool) (T U : Tokenizer) (c : Code) (cs : List Code) (d : DataRead stops T U c cs) (next : List Element) → AreReadAsData bytes choice stops (c ∷ cs)
-    → ElementsOfData bytes choice next (Some c) cs (until stops cs).0 (ahead U)
-follow-behind bytes choice stops T U c cs d next others =
-    subst (λ xs. ElementsOfData bytes choice next (Some c) cs (until stops cs).0 xs) d.rest (data-others bytes choice stops next (Some c) cs (read-behind bytes choice stops c cs others))
+pub follow-behind : (source : Source) (choice : Choice) (stops : List Code → Bool) (T U : Tokenizer) (c : Code) (cs : List Code) (d : DataRead stops T U c cs) (next : List Element) → AreReadAsData source choice stops (c ∷ cs)
+    → ElementsOfData source choice next (Some c) cs (until stops cs).0 (ahead U)
+follow-behind source choice stops T U c cs d next others =
+    subst (λ xs. ElementsOfData source choice next (Some c) cs (until stops cs).0 xs) d.rest (data-others source choice stops next (Some c) cs (read-behind source choice stops c cs others))
 
 -- past data: the code at hand and those up to where data stops, each read as data by itself
 pub data-advances : (choice : Choice) (stops : List Code → Bool) (T U : Tokenizer) (c : Code) (cs : List Code) → ahead T ≡ c ∷ cs → Reads (data_up_to stops) None T.tokenize_state T U
     → ((earlier : List Element) (previous : Option Code) → StandsAfter earlier previous T → choice earlier previous (c ∷ cs) ≡ Some (plain (code_leaf c), cs))
-    → AreReadAsData (bytes_of T) choice stops (c ∷ cs) → Advances choice T U
+    → AreReadAsData (source_of T) choice stops (c ∷ cs) → Advances choice T U
 unfolding leaf_elements
 data-advances choice stops T U c cs whole k first others =
     let d : DataRead stops T U c cs = data-read stops T U c cs whole k in
@@ -509,12 +512,12 @@ data-advances choice stops T U c cs whole k first others =
       elements = λ earlier previous stands.
           let one : Element = plain (code_leaf c) in
           let next : List Element = one ∷ earlier in
-          let more : ElementsOfData (bytes_of T) choice next (Some c) cs s.0 (ahead U) = follow-behind (bytes_of T) choice stops T U c cs d next others in
+          let more : ElementsOfData (source_of T) choice next (Some c) cs s.0 (ahead U) = follow-behind (source_of T) choice stops T U c cs d next others in
           record {
             elements = one ∷ more.elements;
             later = past_elements next more.elements;
             last = past_code (Some c) s.0;
-            stands = stands-behind stops T U c cs d (bytes_of T) next more.elements more.read_as (unescaped-leaf (is_line_ending c) c earlier) (kept-tree d.tree T U d.left earlier stands.keeps);
+            stands = stands-behind stops T U c cs d (source_of T) next more.elements more.read_as (unescaped-leaf (is_line_ending c) c earlier) (kept-tree d.tree T U d.left earlier stands.keeps);
             follow = λ es h.
                 subst (λ xs. AreElementsFrom choice earlier previous xs ((one ∷ more.elements) ++ es)) (sym whole)
                 (data-next choice earlier previous one c cs (more.elements ++ es) (first earlier previous stands) (more.follow es h));

@@ -5,7 +5,7 @@ use Rattle.std.specs.Char.{is_ascii_punctuation}
 use Rattle.std.specs.Str.{byte}
 use Rattle.std.proofs.Math.Bool.{and-false}
 use Rattle.std.proofs.lemmas.Bool.Decides.{nat_tests}
-use Rattle.std.proofs.lemmas.Bool.{and_parts, eqb-true, ltb-true, ltb-false}
+use Rattle.std.proofs.lemmas.Bool.{and_parts, eqb-true, ltb-true, ltb-false, lt-ltb, le-ltb}
 use Rattle.std.proofs.lemmas.List.{drop_more, take_more, get_or_past}
 use Rattle.std.proofs.lemmas.Str.{IsUtf8-drop, IsUtf8-take, IsCharBoundary-before_ascii, IsCharBoundary-after_ascii, chars_past_char, encode_ascii}
 use Rattle.std.proofs.Math.Utf8.{encode}
@@ -35,6 +35,9 @@ use Rattle.markdown_util.specs.Neighbours.{after_index, before_index, class_of, 
 use Rattle.markdown_util.specs.declared.util.char.Kind.{Kind}
 use Rattle.markdown_util.proofs.AsciiClasses.{white_space_ascii, listed_space_ascii, punctuation_ascii}
 use Rattle.markdown_util.proofs.LastChar.{last_char}
+use Rattle.markdown_content.specs.Beside.{has_code_before, has_code_behind, reaches_to, goes_on_from}
+use Rattle.std.proofs.lemmas.List.Folds.{list_any-append}
+use Rattle.std.specs.List.{list_any}
 
 -- Letters and digits.
 
@@ -141,6 +144,31 @@ third : (front : List Code) (b c d : Code) (cs : List Code) → slice_get (front
 third [] b c d cs = refl
 third (e ∷ front) b c d cs = third front b c d cs
 
+-- The codes beside it.
+
+or-true : (b : Bool) → (b || true) ≡ true
+or-true true = refl
+or-true false = refl
+
+and-both : (a b : Bool) → a ≡ true → b ≡ true → (a && b) ≡ true
+and-both a b h k = λ i. h i && k i
+
+any-front : (f : Code → Bool) (front : List Code) (b : Code) (rest : List Code) → f b ≡ true → list_any f (front ++ b ∷ rest) ≡ true
+any-front f front b rest h =
+    list_any-append f front (b ∷ rest) ∙ ap (λ x. list_any f front || (x || list_any f rest)) h ∙ or-true (list_any f front)
+
+joins-before : (front : List Code) (b : Code) (rest all : List Code) → all ≡ front ++ b ∷ rest → (i : ℕ) → i ≡ b.start.index + 1 →
+    b.stop.index ≡ b.start.index + 1 → has_code_before all i ≡ true
+joins-before front b rest all whole i from past =
+    ap (λ xs. has_code_before xs i) whole ∙ any-front (reaches_to i) front b rest
+    (λ j. and-both (nat_lt b.start.index i) (not (nat_lt b.stop.index i)) (lt-ltb b.start.index i (omega (arith, from))) (ap not (le-ltb b.stop.index i (omega (arith, from, past)))) j)
+
+joins-behind : (front : List Code) (a : Code) (rest all : List Code) → all ≡ front ++ a ∷ rest → (i : ℕ) → a.start.index ≡ i →
+    a.stop.index ≡ a.start.index + 1 → has_code_behind all i ≡ true
+joins-behind front a rest all whole i from past =
+    ap (λ xs. has_code_behind xs i) whole ∙ any-front (goes_on_from i) front a rest
+    (λ j. and-both (not (nat_lt i a.start.index)) (nat_lt i a.stop.index) (ap not (le-ltb i a.start.index (omega (arith, from)))) (lt-ltb i a.stop.index (omega (arith, from, past))) j)
+
 module _ (bytes : List ℕ) (p : Place) (text : IsText bytes p) where
   -- what stands at a letter or digit
   record ByteStands (b : Code) : Type 0 where
@@ -154,7 +182,7 @@ module _ (bytes : List ℕ) (p : Place) (text : IsText bytes p) where
       record { in_bytes = within bytes b.start.index b.value here high; byte_is = here }
 
   inner-from : (front : List Code) (b c a : Code) (cs : List Code) → p.codes ≡ front ++ b ∷ c ∷ a ∷ cs →
-      c.value ≡ byte "_" → is_alphanumeric b ≡ true → is_alphanumeric a ≡ true → IsIntraword bytes c
+      c.value ≡ byte "_" → is_alphanumeric b ≡ true → is_alphanumeric a ≡ true → IsIntraword (record { bytes = bytes; content = p.codes }) c
   inner-from front b c a cs whole marker h k =
       let at_b : slice_get p.codes (length front) ≡ Some b = ap (λ xs. slice_get xs (length front)) whole ∙ there front b (c ∷ a ∷ cs) in
       let at_c : slice_get p.codes (suc (length front)) ≡ Some c = ap (λ xs. slice_get xs (suc (length front))) whole ∙ after front b c (a ∷ cs) in
@@ -171,11 +199,13 @@ module _ (bytes : List ℕ) (p : Place) (text : IsText bytes p) where
         after = λ r. ap (λ i. is_other (class_beside r (after_index bytes i))) (sym past)
             ∙ ap (λ o. is_other (class_beside r o)) (first-char bytes a.start.index a.value text.text sa.in_bytes (bounds a.value k).1 sa.byte_is)
             ∙ other-beside r a.value k;
+        joined_before = joins-before front b (c ∷ a ∷ cs) p.codes whole c.start.index from (text.past (length front) b at_b (bounds b.value h).0);
+        joined_behind = joins-behind (front ++ b ∷ c ∷ []) a cs p.codes (whole ∙ sym (append_assoc front (b ∷ c ∷ []) (a ∷ cs))) (c.start.index + 1) past (text.past (suc (suc (length front))) a at_a (bounds a.value k).0);
       }
 
   -- where the test holds, neither whitespace nor punctuation is beside the underscore
   inner-found : (front : List Code) (c : Code) (cs : List Code) → p.codes ≡ front ++ c ∷ cs →
-      is_inner_underscore p.codes (c ∷ cs) ≡ true → IsIntraword bytes c
+      is_inner_underscore p.codes (c ∷ cs) ≡ true → IsIntraword (record { bytes = bytes; content = p.codes }) c
   inner-found front c cs whole h = behind cs whole parts.1.1
     where
       parts : (is_value (byte "_") c ≡ true) × ((is_some_code is_alphanumeric (code_before p.codes (c ∷ cs)) ≡ true) × (next_is is_alphanumeric cs ≡ true))
@@ -186,7 +216,7 @@ module _ (bytes : List ℕ) (p : Place) (text : IsText bytes p) where
       last : (b : Code) × (EndsWith front b × (is_alphanumeric b ≡ true))
       last = ends-with front (ap (is_some_code is_alphanumeric) (sym (ap (λ xs. code_before xs (c ∷ cs)) whole ∙ code_before-append front (c ∷ cs))) ∙ parts.1.0)
 
-      behind : (cs : List Code) → p.codes ≡ front ++ c ∷ cs → next_is is_alphanumeric cs ≡ true → IsIntraword bytes c
+      behind : (cs : List Code) → p.codes ≡ front ++ c ∷ cs → next_is is_alphanumeric cs ≡ true → IsIntraword (record { bytes = bytes; content = p.codes }) c
       behind [] e k = cc
       behind (a ∷ cs) e k =
           inner-from last.1.0.front last.0 c a cs
@@ -214,16 +244,16 @@ underscore-leaf c e =
     ap (λ v. elim (v == line_feed) as (λ _. Forest) [ true ↦ leaf N.LineEnding (c ∷ []) | false ↦ leaf N.Data (c ∷ []) ]) e
 
 -- an element of one code that is read as data
-abbrev IsReadOne : Setting → ℕ → List Element → Option Code → Code → List Code → Type 0
-IsReadOne s end earlier previous c cs =
-    (e : Element) × ((text_element s end earlier previous (c ∷ cs) ≡ Some (e, cs)) × IsReadAs s.bytes e (plain (code_leaf c)))
+abbrev IsReadOne : Setting → List Code → ℕ → List Element → Option Code → Code → List Code → Type 0
+IsReadOne s content end earlier previous c cs =
+    (e : Element) × ((text_element s end earlier previous (c ∷ cs) ≡ Some (e, cs)) × IsReadAs (record { bytes = s.bytes; content = content }) e (plain (code_leaf c)))
 
-inner-read : (s : Setting) (end : ℕ) (earlier : List Element) (previous : Option Code) (c : Code) (cs : List Code) →
-    IsIntraword s.bytes c → next_is (is_value (byte "_")) cs ≡ false → IsReadOne s end earlier previous c cs
+inner-read : (s : Setting) (content : List Code) (end : ℕ) (earlier : List Element) (previous : Option Code) (c : Code) (cs : List Code) →
+    IsIntraword (record { bytes = s.bytes; content = content }) c → next_is (is_value (byte "_")) cs ≡ false → IsReadOne s content end earlier previous c cs
 unfolding switched
-inner-read s end earlier previous c cs inner none = by_switch s.options.constructs.attention refl
+inner-read s content end earlier previous c cs inner none = by_switch s.options.constructs.attention refl
   where
-    by_switch : (b : Bool) → s.options.constructs.attention ≡ b → IsReadOne s end earlier previous c cs
+    by_switch : (b : Bool) → s.options.constructs.attention ≡ b → IsReadOne s content end earlier previous c cs
     by_switch true on = (
       plain (leaf N.AttentionSequence (c ∷ [])),
       (
@@ -242,17 +272,17 @@ inner-read s end earlier previous c cs inner none = by_switch s.options.construc
 
 -- each code where the reader of data does not stop is read as data
 pub text-read : (s : Setting) (p : Place) (on : Bool) → IsText s.bytes p → on ≡ s.options.constructs.gfm_autolink_literal →
-    AreReadAsData s.bytes (text_choice s p.codes) (reader_stops p.codes on) p.codes
+    AreReadAsData (record { bytes = s.bytes; content = p.codes }) (text_choice s p.codes) (reader_stops p.codes on) p.codes
 text-read s p on text same front earlier previous c cs whole free = by_stop (text_stops on (c ∷ cs)) refl free
   where
     by_inner : (b : Bool) → is_inner_underscore p.codes (c ∷ cs) ≡ b → not b ≡ false →
-        IsReadOne s (stop_of document_start p.codes).index earlier previous c cs
+        IsReadOne s p.codes (stop_of document_start p.codes).index earlier previous c cs
     by_inner false e k = cc
     by_inner true e k =
-        inner-read s (stop_of document_start p.codes).index earlier previous c cs (inner-found s.bytes p text front c cs whole e)
+        inner-read s p.codes (stop_of document_start p.codes).index earlier previous c cs (inner-found s.bytes p text front c cs whole e)
         (no-marker cs (and_parts (is_some_code is_alphanumeric (code_before p.codes (c ∷ cs))) (next_is is_alphanumeric cs) (and_parts (is_value (byte "_") c) _ e).1).1)
 
     by_stop : (b : Bool) → text_stops on (c ∷ cs) ≡ b → (b && not (is_inner_underscore p.codes (c ∷ cs))) ≡ false →
-        IsReadOne s (stop_of document_start p.codes).index earlier previous c cs
+        IsReadOne s p.codes (stop_of document_start p.codes).index earlier previous c cs
     by_stop false e k = (plain (code_leaf c), (text-single s on p.codes same front earlier previous c cs whole e, inl refl))
     by_stop true e k = by_inner (is_inner_underscore p.codes (c ∷ cs)) refl k

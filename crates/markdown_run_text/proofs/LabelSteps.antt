@@ -36,12 +36,12 @@ use Rattle.markdown_model.specs.TextLines.{data_up_to, line_leaves, lines_of, co
 use Rattle.markdown_model.specs.Passes.{start_tree}
 use Rattle.markdown_passes.specs.DataOnLines.{HasLines}
 use Rattle.markdown_label.specs.AfterLabel.{IsTail}
-use Rattle.markdown_plan.specs.Characters.{bytes_of}
 use Rattle.markdown_run_text.specs.RunOverElements.{AreReadAsData, StandsAfter, Advances}
 use Rattle.markdown_run_text.specs.Row.{Mark, begins, makes, loses, row_end, row_then, tree_onto, past_tree, past_mark, past_row, mark_codes, kinds_of, IsFront, IsStartMarker, IsMade, IsMarkAt, split_row, row_of_elements, HasElementCodes}
 use Rattle.markdown_run_text.specs.RowTreeNames.{IsRowPart}
 use Rattle.markdown_run_text.proofs.ElementSteps.{DataRead, data-read, group-escaped, last-some, fewer-left, one-element, kept-tree, leaf_elements, have-leaves, data-next, past_elements, past_code, ElementsOfData, stands-behind, follow-behind, data-alike, leaves-first}
 use Rattle.markdown_run_text.proofs.PastTrees.{past_tree-empty}
+use Rattle.markdown_run_text.specs.ElementsAsRead.{source_of}
 
 pub empty-part : IsRowPart empty
 empty-part = record { lines = tt; outer = tt; apart = λ n. refl }
@@ -279,7 +279,7 @@ lost-alike c cs t plainly e =
 -- past the `]` of an end that makes none, and the data that it begins
 pub lost-advances : (choice : Choice) (stops : List Code → Bool) (T U : Tokenizer) (c : Code) (cs : List Code) → ahead T ≡ c ∷ cs → is_line_ending c ≡ false → (let L : Tokenizer = past_mark loses T in Reads (data_up_to stops) None L.tokenize_state L U)
     → ((earlier : List Element) (previous : Option Code) → StandsAfter earlier previous T → choice earlier previous (c ∷ cs) ≡ Some (ends (c ∷ []) None, cs))
-    → AreReadAsData (bytes_of T) choice stops (c ∷ cs) → Advances choice T U
+    → AreReadAsData (source_of T) choice stops (c ∷ cs) → Advances choice T U
 lost-advances choice stops T U c cs whole plainly k first others =
     let L : Tokenizer = past_mark loses T in
     let d : DataRead stops L U c cs = data-read stops L U c cs (lost-ahead T ∙ whole) k in
@@ -294,12 +294,12 @@ lost-advances choice stops T U c cs whole plainly k first others =
       elements = λ earlier previous stands.
           let lost : Element = ends (c ∷ []) None in
           let next : List Element = lost ∷ earlier in
-          let more : ElementsOfData (bytes_of T) choice next (Some c) cs s.0 (ahead U) = follow-behind (bytes_of T) choice stops L U c cs d next others in
+          let more : ElementsOfData (source_of T) choice next (Some c) cs s.0 (ahead U) = follow-behind (source_of T) choice stops L U c cs d next others in
           record {
             elements = lost ∷ more.elements;
             later = past_elements next more.elements;
             last = past_code (Some c) s.0;
-            stands = stands-behind stops L U c cs d (bytes_of T) next more.elements more.read_as refl (kept-tree d.tree L U d.left next (lost-keeps (c ∷ []) T earlier stands.keeps));
+            stands = stands-behind stops L U c cs d (source_of T) next more.elements more.read_as refl (kept-tree d.tree L U d.left next (lost-keeps (c ∷ []) T earlier stands.keeps));
             follow = λ es h.
                 subst (λ xs. AreElementsFrom choice earlier previous xs ((lost ∷ more.elements) ++ es)) (sym whole)
                 (data-next choice earlier previous lost c cs (more.elements ++ es) (first earlier previous stands) (more.follow es h));

@@ -12,7 +12,7 @@ use Rattle.markdown_attention.proofs.AttentionTreeLabels.{IsElementRead}
 use Rattle.markdown_model.specs.LabelEnd.{Element, plain, starts, ends}
 use Rattle.markdown_model.specs.Passes.{End, label_group, label_name, start_marker, start_tree, labels_of}
 use Rattle.markdown_model.proofs.ElementCases.{AllAre}
-use Rattle.markdown_run_text.specs.ElementsAsRead.{IsIntraword, IsReadAs, AreReadAs}
+use Rattle.markdown_run_text.specs.ElementsAsRead.{IsIntraword, IsReadAs, AreReadAs, Source}
 use Rattle.markdown_run_text.proofs.CutDataLemmas.{row-assoc}
 use Rattle.markdown_run_text.proofs.PairsOfCutData.{enter-same, exit-same}
 use Rattle.markdown_run_text.proofs.RowElements.{FoundLabels, wrapped, opened, read, word_of, finish, labels-read}
@@ -126,23 +126,23 @@ module _ (K : Forest → Forest → Type 0) (same : (t : Forest) → K t t) (tra
       opened-alike marker (read (word_of es)).0 (read (word_of fs)).0 (read (word_of es)).1 (read (word_of fs)).1 h.0 h.1
   itself-alike (ends back outcome) es fs h = (itself empty, (refl, (h.0, h.1)))
 
-  module _ (bytes : List ℕ) (run-step : (a : Forest) (c : Code) (b : Forest) → IsIntraword bytes c → c.stop.index ≡ c.start.index + 1 →
+  module _ (source : Source) (run-step : (a : Forest) (c : Code) (b : Forest) → IsIntraword source c → c.stop.index ≡ c.start.index + 1 →
       K (a ⊕ leaf_then N.AttentionSequence None (c ∷ []) b) (a ⊕ leaf_then N.Data None (c ∷ []) b)) where
-    run-alike : (c : Code) (e f : Element) (es fs : List Element) → IsIntraword bytes c →
-        e ≡ plain (leaf N.AttentionSequence (c ∷ [])) → f ≡ plain (leaf N.Data (c ∷ [])) → IsElementRead bytes e →
+    run-alike : (c : Code) (e f : Element) (es fs : List Element) → IsIntraword source c →
+        e ≡ plain (leaf N.AttentionSequence (c ∷ [])) → f ≡ plain (leaf N.Data (c ∷ [])) → IsElementRead source.bytes e →
         Alike (read (word_of es)) (read (word_of fs)) → Alike (read (word_of (e ∷ es))) (read (word_of (f ∷ fs)))
     run-alike c e f es fs h x y k r =
         subst (λ z. Alike (read (word_of (z ∷ es))) (read (word_of (f ∷ fs)))) (sym x)
         (subst (λ z. Alike (read (word_of (plain (leaf N.AttentionSequence (c ∷ [])) ∷ es))) (read (word_of (z ∷ fs)))) (sym y)
-        (rows (leaf N.AttentionSequence (c ∷ [])) (leaf N.Data (c ∷ [])) (read (word_of es)).0 (read (word_of fs)).0 (λ a b. run-step a c b h (stop-sound bytes c (subst (IsElementRead bytes) x k))) r.0, r.1))
+        (rows (leaf N.AttentionSequence (c ∷ [])) (leaf N.Data (c ∷ [])) (read (word_of es)).0 (read (word_of fs)).0 (λ a b. run-step a c b h (stop-sound source.bytes c (subst (IsElementRead source.bytes) x k))) r.0, r.1))
 
-    first-alike : (e f : Element) (es fs : List Element) → IsReadAs bytes e f → IsElementRead bytes e →
+    first-alike : (e f : Element) (es fs : List Element) → IsReadAs source e f → IsElementRead source.bytes e →
         Alike (read (word_of es)) (read (word_of fs)) → Alike (read (word_of (e ∷ es))) (read (word_of (f ∷ fs)))
     first-alike e f es fs (inl x) k r =
         subst (λ z. Alike (read (word_of (e ∷ es))) (read (word_of (z ∷ fs)))) x (itself-alike e es fs r)
     first-alike e f es fs (inr x) k r = run-alike x.0 e f es fs x.1.0 x.1.1.0 x.1.1.1 k r
 
-    words-alike : (es fs : List Element) → AreReadAs bytes es fs → AllAre (IsElementRead bytes) es →
+    words-alike : (es fs : List Element) → AreReadAs source es fs → AllAre (IsElementRead source.bytes) es →
         Alike (read (word_of es)) (read (word_of fs))
     words-alike [] [] h k = (itself empty, tt)
     words-alike (e ∷ es) (f ∷ fs) h k = first-alike e f es fs h.0 k.0 (words-alike es fs h.1 k.1)
@@ -150,7 +150,7 @@ module _ (K : Forest → Forest → Type 0) (same : (t : Forest) → K t t) (tra
     words-alike (e ∷ es) [] h k = absurd h
 
     -- each inner underscore may be a run here and data there
-    pub labels-as-read : (es fs : List Element) → AreReadAs bytes es fs → AllAre (IsElementRead bytes) es → K (labels_of es) (labels_of fs)
+    pub labels-as-read : (es fs : List Element) → AreReadAs source es fs → AllAre (IsElementRead source.bytes) es → K (labels_of es) (labels_of fs)
     labels-as-read es fs h k =
         let r : Alike (read (word_of es)) (read (word_of fs)) = words-alike es fs h k in
         subst (λ x. K x (labels_of fs)) (sym (labels-read es))

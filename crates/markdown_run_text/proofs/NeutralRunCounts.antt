@@ -8,25 +8,25 @@ use Rattle.markdown_content.specs.Tree.{Forest, empty, leaf_then, group_then, �
 use Rattle.markdown_event.specs.declared.event.Name.{Name}
 use Rattle.markdown_event.specs.declared.event.Name.TheVariants as N
 use Rattle.markdown_event.specs.declared.event.Point.{Point}
-use Rattle.markdown_model.specs.Runs.{Run, run_of, runs_of, rows_inside, containers_of}
+use Rattle.markdown_model.specs.Runs.{Run, run_of, runs_of, rows_inside, rows_of}
 use Rattle.markdown_model.specs.Setting.{Setting}
 use Rattle.markdown_run_text.proofs.NeutralRuns.{runs-row, runs-inside}
 
 module _ (s : Setting) (m : List Run → ℕ) where
   -- what a count of the runs of a row comes to over all rows, and over those inside groups
   abbrev pub over_rows : Forest → ℕ
-  over_rows t = sum_by m (containers_of s t)
+  over_rows t = sum_by m (rows_of s t)
 
   abbrev over_inside : Forest → ℕ
   over_inside t = sum_by m (rows_inside s t)
 
   rows-is : (t : Forest) → over_rows t ≡ m (runs_of s t) + over_inside t
-  unfolding containers_of
+  unfolding rows_of
   rows-is t = sum_by-cons m (runs_of s t) (rows_inside s t)
 
   inside-group : (name : Name) (p q : Point) (t rest : Forest) →
       over_inside (group_then name p q t rest) ≡ over_rows t + over_inside rest
-  unfolding rows_inside containers_of
+  unfolding rows_inside rows_of
   inside-group name p q t rest = sum_by-append m (runs_of s t ∷ rows_inside s t) (rows_inside s rest)
 
   inside-join : (t u : Forest) → over_inside (t ⊕ u) ≡ over_inside t + over_inside u

@@ -1,5 +1,5 @@
 -- A run that may neither open nor close is data: the tree with its pairs is that of the tree with data in its place.
-use Rattle.std.proofs.Common.{◌≡◌, ℕ, suc, ◌+◌, ◌-◌, ◌≤◌, Bool, true, false, not, ◌&&◌, ◌||◌, ◌==◌, List, [], ◌∷◌, ◌++◌, length, take, drop, reverse, map, Option, None, refl, sym, ◌∙◌, ap, arith, sum_by}
+use Rattle.std.proofs.Common.{◌≡◌, ℕ, suc, ◌+◌, ◌-◌, ◌≤◌, Bool, true, false, not, ◌&&◌, ◌||◌, ◌==◌, List, [], ◌∷◌, ◌++◌, length, take, drop, reverse, map, Option, None, refl, sym, ◌∙◌, ap, arith, sum_by, if◌then◌else◌}
 use Rattle.std.proofs.lemmas.List.{length-map, take_all}
 use Rattle.std.proofs.lemmas.Bool.{eq-eqb, ne_eqb}
 use Rattle.std.specs.Str.{byte}
@@ -13,12 +13,13 @@ use Rattle.std.proofs.Math.Bool.{and-false}
 use Rattle.markdown_util.specs.Neighbours.{before_index, after_index}
 use Rattle.markdown_util.specs.declared.util.char.Kind.{Kind}
 use Rattle.markdown_model.specs.GfmAutolinkLiteral.{is_other}
-use Rattle.markdown_model.specs.Runs.{Run, class_beside, is_flanking, is_punctuation_class, is_beside_marker, run_of, runs_of}
+use Rattle.markdown_model.specs.Runs.{Run, class_beside, is_flanking, is_punctuation_class, is_beside_marker, run_of, runs_of, before_run, after_run}
 use Rattle.markdown_model.specs.Pairs.{Pair, pair_list}
 use Rattle.markdown_model.specs.BracketGroups.{Token, item, opens, closes, closing_sizes, opening_sizes, cut_front, run_tokens, assembled, tokens_of, paired}
 use Rattle.markdown_model.proofs.PassesKeepCodes.{codes-run_of}
 use Rattle.markdown_run_text.specs.ElementsAsRead.{IsIntraword}
 use Rattle.markdown_run_text.proofs.NeutralRunPairs.{raised, raised-below, raised-from, raised_other, raised-eqb, raised_pair, raised_pairs, neutral_pair_list}
+use Rattle.markdown_content.specs.Beside.{has_code_before, has_code_behind}
 
 -- The tokens of a run by either numbers.
 
@@ -175,20 +176,25 @@ shut_by : (here there u other : Bool) → there ≡ true → u ≡ true → othe
 shut_by here there u other e f g =
     (λ i. here && (not (f i) || (not (g i) || not (e i)))) ∙ and-false here
 
+-- a character that stands in the content is read by all rules
+kept : (on has : Bool) (x : Option ℕ) → has ≡ true → (if on && not has then None else x) ≡ x
+kept true has x h = ap (λ b. if not b then None else x) h
+kept false has x h = refl
+
 -- an underscore between two characters of class other, as letters and digits are
-pub intraword-neutral : (s : Setting) (c : Code) → IsIntraword s.bytes c → c.stop.index ≡ c.start.index + 1 →
+pub intraword-neutral : (s : Setting) (c : Code) → IsIntraword (record { bytes = s.bytes; content = s.content }) c → c.stop.index ≡ c.start.index + 1 →
     IsNeutral s (c ∷ [])
 unfolding run_of
 intraword-neutral s c h e = record {
-  may_not_open = shut_by left right (c.value == byte "_") _ right_is (eq-eqb c.value (byte "_") h.marker) (h.before (rules s));
+  may_not_open = shut_by left right (c.value == byte "_") _ right_is (eq-eqb c.value (byte "_") h.marker) before;
   may_not_close = shut_by right left (c.value == byte "_") _ left_is (eq-eqb c.value (byte "_") h.marker) after;
 }
   where
     b : Option ℕ
-    b = before_index s.bytes c.start.index
+    b = before_run s.options s.bytes s.content c.start.index
 
     a : Option ℕ
-    a = after_index s.bytes c.stop.index
+    a = after_run s.options s.bytes s.content c.stop.index
 
     class : Option ℕ → Kind
     class = class_beside (rules s)
@@ -199,11 +205,17 @@ intraword-neutral s c h e = record {
     right : Bool
     right = is_flanking s.options c.value a b
 
+    before : is_other (class b) ≡ true
+    before =
+        ap (λ x. is_other (class x)) (kept (rules s).neighbours_in_content (has_code_before s.content c.start.index) (before_index s.bytes c.start.index) h.joined_before) ∙ h.before (rules s)
+
     after : is_other (class a) ≡ true
-    after = ap (λ n. is_other (class (after_index s.bytes n))) e ∙ h.after (rules s)
+    after =
+        ap (λ i. is_other (class (after_run s.options s.bytes s.content i))) e
+        ∙ ap (λ x. is_other (class x)) (kept (rules s).neighbours_in_content (has_code_behind s.content (c.start.index + 1)) (after_index s.bytes (c.start.index + 1)) h.joined_behind) ∙ h.after (rules s)
 
     left_is : left ≡ true
     left_is = ap (λ x. (x || (is_punctuation_class (class a) && not (is_other (class b)))) || is_beside_marker s.options c.value a) after
 
     right_is : right ≡ true
-    right_is = ap (λ x. (x || (is_punctuation_class (class b) && not (is_other (class a)))) || is_beside_marker s.options c.value b) (h.before (rules s))
+    right_is = ap (λ x. (x || (is_punctuation_class (class b) && not (is_other (class a)))) || is_beside_marker s.options c.value b) before

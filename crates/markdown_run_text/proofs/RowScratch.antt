@@ -17,7 +17,8 @@ use Rattle.markdown_engine.proofs.PlaceAfterCodes.{moved_by-append}
 use Rattle.markdown_attention.specs.RunsOfTree.{has_run}
 use Rattle.markdown_label.specs.LabelFields.{bars, with_kind, as_link, marked, labelled, loosened}
 use Rattle.markdown_label.specs.LabelEnd.{end_tree, ended_at, starts_set, made, end_made, lost_by}
-use Rattle.markdown_label.proofs.LabelEndLemmas.{scratch-before, input-before}
+use Rattle.markdown_label.proofs.LabelEndLemmas.{scratch-before, input-before, cursor-before}
+use Rattle.markdown_label.proofs.NextCodeTests.{same-codes}
 use Rattle.markdown_label.specs.LabelsHandedOver.{unlabelled}
 use Rattle.markdown_content.specs.ListFunctions.{rest_of}
 use Rattle.markdown_model.specs.LabelEnd.{is_image}
@@ -161,6 +162,25 @@ pub row-input : (row : Row) (T : Tokenizer) → (past_row row T).parse_state ≡
 row-input (row_end t) T = tree-input t T
 row-input (row_then t mark rest) T =
     row-input rest (past_mark mark (past_tree t T)) ∙ mark-input mark (past_tree t T) ∙ tree-input t T
+
+-- The codes of the content.
+
+mark-content : (mark : Mark) (T : Tokenizer) → (past_mark mark T).cursor.codes ≡ T.cursor.codes
+unfolding past_mark end_made made past scratched
+mark-content (begins kind marker) T = ap (λ (p : Place). p.codes) (cursor-before R.Label _) ∙ same-codes (leaf_codes (start_tree kind marker)) T.cursor
+mark-content (makes back kind tail) T =
+    ap (λ (p : Place). p.codes) (cursor-before R.Label _)
+    ∙ same-codes (leaf_codes tail) (moved_by (leaf_codes (end_tree back)) T.cursor) ∙ same-codes (leaf_codes (end_tree back)) T.cursor
+mark-content loses T = refl
+
+tree-content : (t : Forest) (T : Tokenizer) → (past_tree t T).cursor.codes ≡ T.cursor.codes
+unfolding past_tree past
+tree-content t T = same-codes (leaf_codes t) T.cursor
+
+pub row-content : (row : Row) (T : Tokenizer) → (past_row row T).cursor.codes ≡ T.cursor.codes
+row-content (row_end t) T = tree-content t T
+row-content (row_then t mark rest) T =
+    row-content rest (past_mark mark (past_tree t T)) ∙ mark-content mark (past_tree t T) ∙ tree-content t T
 
 -- A mark.
 

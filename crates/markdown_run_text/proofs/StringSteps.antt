@@ -21,6 +21,7 @@ use Rattle.markdown_plan.specs.Characters.{bytes_of}
 use Rattle.markdown_run_text.proofs.RowFields.{relisted, row-fields}
 use Rattle.markdown_run_text.proofs.RowScratch.{row-input}
 use Rattle.markdown_run_text.proofs.StringElements.{escaped-element, referenced-element, single-element, unmarked-element}
+use Rattle.markdown_run_text.specs.ElementsAsRead.{source_of}
 
 -- U stands past the first elements of the codes from T on
 abbrev pub PassesElements : Tokenizer → Tokenizer → Type 0
@@ -72,4 +73,4 @@ data-past T U marked some none plain_code k =
     let a = some-ahead T (ahead T) refl some in
     data-advances (string_here T) (stops_of T.tokenize_state) T U a.0 a.1.0 a.1.1 k
     (λ earlier previous stands. single-element (setting_of T.parse_state.now) a.0 a.1.0 (ap (escape_here T) (sym a.1.1) ∙ none) (ap (reference_here T) (sym a.1.1) ∙ plain_code))
-    (single-read (bytes_of T) (string_here T) (stops_of T.tokenize_state) (a.0 ∷ a.1.0) (λ front earlier previous c cs w free. unmarked-element T.parse_state.now c cs (ap (λ (ms : List ℕ). is_among ms c) (sym marked) ∙ free)))
+    (single-read (source_of T) (string_here T) (stops_of T.tokenize_state) (a.0 ∷ a.1.0) (λ front earlier previous c cs w free. unmarked-element T.parse_state.now c cs (ap (λ (ms : List ℕ). is_among ms c) (sym marked) ∙ free)))

@@ -67,6 +67,7 @@ use Rattle.markdown_run_text.proofs.ElementSteps.{DataRead, data-read, some-ahea
 use Rattle.markdown_run_text.proofs.TextLabelTries.{image-advances, image-alone, footnote-advances, link-advances, bracket-alone, made-advances, failed-advances, end-alone}
 use Rattle.markdown_run_text.proofs.TextSteps.{KeepsTheRest, same-row, choice-same, stops-same, marked-past, no-check-behind, no-check-past, advances-ends, alone-ends, tree-kept, registered-kept, made-kept}
 use Rattle.markdown_run_text.proofs.TextSteps.{some-none, weight-marked, at-rest-reference, run-ready, passed-attempts, at-end, ends-on, lost-there, not-lost, lost-left, lost-current, same-lost, html-ready, marked-ready, marked-start, check-elements}
+use Rattle.markdown_run_text.specs.ElementsAsRead.{source_of}
 
 -- the starts of what is tried, as they are said, and any other as it is given
 abbrev pub called : (StateName → StateWords) → StateName → StateWords
@@ -288,7 +289,7 @@ module _ (W : Words) (within : EqualsLayer states_and_called W) where
             let stops : List Code → Bool = stops_of T.tokenize_state in
             let there : DataFinishes (text_choice_of T) (data_up_to stops) text_passed F V =
             subst (λ c. DataFinishes c (data_up_to stops) text_passed F V) (choice-same T F e) (subst (λ stop. DataFinishes (text_choice_of F) (data_up_to stop) text_passed F V) (stops-same T F e) k) in
-            advances-finishes (text_choice_of T) text_passed T there.behind V (failed-advances T d on stops there.behind (single-read (bytes_of T) (text_choice_of T) stops T.cursor.codes ready.marked.stops) none there.data_read) there.finishes
+            advances-finishes (text_choice_of T) text_passed T there.behind V (failed-advances T d on stops there.behind (single-read (source_of T) (text_choice_of T) stops T.cursor.codes ready.marked.stops) none there.data_read) there.finishes
         lost-ends e false V k = k
 
     tries-end : current_of T ≡ Some (byte "]") → Before (attempt_step LabelEndStart TextBeforeData T)

@@ -22,7 +22,6 @@ use Rattle.markdown_model.specs.Elements.{label_start_image, gfm_label_start_foo
 use Rattle.markdown_model.specs.Grammar.{Reading, ◌>>=◌, gives, one, word, word_of, with_first, before}
 use Rattle.markdown_model.specs.LabelEnd.{Element, starts, ends, label_end, outcome_of, footnote_call, link_or_image, label_identifier, after_label, reference_after_label, shortcut_before_bracket, full_reference, reference_identifier}
 use Rattle.markdown_model.specs.TextLines.{data_up_to}
-use Rattle.markdown_plan.specs.Characters.{bytes_of}
 use Rattle.markdown_run_text.specs.RunOverElements.{AreReadAsData, Advances, StandsAfter}
 use Rattle.markdown_run_text.specs.Row.{loses, past_mark}
 use Rattle.markdown_run_text.proofs.LabelSteps.{start-advances, end-advances, lost-advances}
@@ -30,6 +29,7 @@ use Rattle.markdown_run_text.proofs.LabelMarks.{PastStart, link-past, footnote-p
 use Rattle.markdown_run_text.specs.TextContent.{text_setting, text_choice_of, StandsAlone}
 use Rattle.markdown_run_text.proofs.TextElements.{image-element, no-image-element, bracket-element, no-bracket-element, end-element, no-end-element}
 use Rattle.markdown_run_text.proofs.TextTries.{end_in, first-none, read-ahead, value-here}
+use Rattle.markdown_run_text.specs.ElementsAsRead.{source_of}
 
 -- Tests, where the first of them holds.
 
@@ -275,7 +275,7 @@ module _ (T : Tokenizer) (here : current_of T ≡ Some (byte "]")) (on : is_on T
       ∙ ap (λ ws. Some (ends ws (Some (k.kind, k.tail)), k.rest)) parts.0)
 
   -- where it makes none, its `]` is the first code of the data behind it
-  pub failed-advances : (stops : List Code → Bool) (V : Tokenizer) → AreReadAsData (bytes_of T) (text_choice_of T) stops T.cursor.codes →
+  pub failed-advances : (stops : List Code → Bool) (V : Tokenizer) → AreReadAsData (source_of T) (text_choice_of T) stops T.cursor.codes →
       end_reading T (ahead T) ≡ None →
       (let F : Tokenizer = past_mark loses T in Reads (data_up_to stops) None F.tokenize_state F V) →
       Advances (text_choice_of T) T V
@@ -286,7 +286,7 @@ module _ (T : Tokenizer) (here : current_of T ≡ Some (byte "]")) (on : is_on T
       (same-end T earlier (B.code ∷ behind)
       ∙ end-fails (setting_in T) earlier T.events T.tokenize_state.label_starts B.code behind stands.keeps closes
       (none-back (B.code ∷ []) _ (sym reads ∙ none))))
-      (subst (λ xs. AreReadAsData (bytes_of T) (text_choice_of T) stops xs) B.whole (read-ahead (bytes_of T) (text_choice_of T) stops T others))
+      (subst (λ xs. AreReadAsData (source_of T) (text_choice_of T) stops xs) B.whole (read-ahead (source_of T) (text_choice_of T) stops T others))
 
 -- where ends are off
 pub end-alone : (T : Tokenizer) → current_of T ≡ Some (byte "]") → is_on T ≡ false → StandsAlone T

@@ -29,7 +29,7 @@ use Rattle.markdown_leaf_html.specs.HtmlText as HtmlText
 use Rattle.markdown_attention.specs.Attention as Attention
 use Rattle.markdown_leaf_gfm.specs.DomainOutlook.{no_domains}
 use Rattle.markdown_partial.specs.PartialSpaceOrTab as PartialSpaceOrTab
-use Rattle.markdown_plan.specs.Characters.{bytes_of, ReadsText}
+use Rattle.markdown_plan.specs.Characters.{ReadsText}
 use Rattle.markdown_plan.proofs.CharactersAlongContent.{text-scratched}
 use Rattle.markdown_label.specs.LabelEnd as LabelEnd
 use Rattle.markdown_label.specs.LabelEnd.{AreStartsWithin}
@@ -56,6 +56,7 @@ use Rattle.markdown_run_text.proofs.TextTries.{end_in, ReadsElements, none-value
 use Rattle.markdown_run_text.proofs.ElementSteps.{last-some, some-ahead, advances-finishes, finishes-end, data-advances}
 use Rattle.markdown_model.proofs.GrammarSteps.{if-true, if-false, switched-off}
 use Rattle.markdown_run_text.specs.RunSetting.{text_setting_of}
+use Rattle.markdown_run_text.specs.ElementsAsRead.{source_of}
 
 -- Past a row the choice is as it was, and so are the scratch fields but for the lists of labels.
 
@@ -200,7 +201,7 @@ alone-ends T stops some alone true V k =
     let a = some-ahead T (ahead T) refl some in
     advances-finishes (text_choice_of T) text_passed T k.behind V
     (data-advances (text_choice_of T) (stops_of T.tokenize_state) T k.behind a.0 a.1.0 a.1.1 k.data_read (λ earlier previous stands. alone earlier previous a.0 a.1.0 stands a.1.1)
-    (subst (λ xs. AreReadAsData (bytes_of T) (text_choice_of T) (stops_of T.tokenize_state) xs) a.1.1 (other-data T stops)))
+    (subst (λ xs. AreReadAsData (source_of T) (text_choice_of T) (stops_of T.tokenize_state) xs) a.1.1 (other-data T stops)))
     k.finishes
 alone-ends T stops some alone false V k = k
 

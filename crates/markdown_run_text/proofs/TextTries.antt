@@ -36,6 +36,7 @@ use Rattle.markdown_run_text.proofs.ConstructNodes.{run-node}
 use Rattle.markdown_run_text.proofs.ElementSteps.{single-read}
 use Rattle.markdown_run_text.proofs.TextElements.{is_marker, run_markers, run-element, run-off, plain_of, plain-switched, off-or-none, check-element, span-element, IsRowOfOne, only-element, IsRowOfTwo, first-element, second-element, other-element, protocol-element, www-element}
 use Rattle.markdown_model.proofs.GrammarSteps.{bind-none}
+use Rattle.markdown_run_text.specs.ElementsAsRead.{Source, source_of}
 
 -- what a construct reads is the element at hand
 abbrev pub ReadsElements : TreeReading → Tokenizer → Type 0
@@ -268,12 +269,12 @@ pub single-ahead : (choice : Choice) (stops : List Code → Bool) (T : Tokenizer
 single-ahead choice stops T single front earlier previous c cs w free =
     single (take T.cursor.at T.cursor.codes ++ front) earlier previous c cs (whole-ahead T front c cs w) free
 
-pub read-ahead : (bytes : List ℕ) (choice : Choice) (stops : List Code → Bool) (T : Tokenizer) →
-    AreReadAsData bytes choice stops T.cursor.codes → AreReadAsData bytes choice stops (ahead T)
-read-ahead bytes choice stops T others front earlier previous c cs w free =
+pub read-ahead : (source : Source) (choice : Choice) (stops : List Code → Bool) (T : Tokenizer) →
+    AreReadAsData source choice stops T.cursor.codes → AreReadAsData source choice stops (ahead T)
+read-ahead source choice stops T others front earlier previous c cs w free =
     others (take T.cursor.at T.cursor.codes ++ front) earlier previous c cs (whole-ahead T front c cs w) free
 
 pub other-data : (T : Tokenizer) → StopsAtElements T →
-    AreReadAsData (bytes_of T) (text_choice_of T) (stops_of T.tokenize_state) (ahead T)
+    AreReadAsData (source_of T) (text_choice_of T) (stops_of T.tokenize_state) (ahead T)
 other-data T stops =
-    single-read (bytes_of T) (text_choice_of T) (stops_of T.tokenize_state) (ahead T) (single-ahead (text_choice_of T) (stops_of T.tokenize_state) T stops)
+    single-read (source_of T) (text_choice_of T) (stops_of T.tokenize_state) (ahead T) (single-ahead (text_choice_of T) (stops_of T.tokenize_state) T stops)

@@ -13,12 +13,12 @@ use Rattle.markdown_attention.specs.AttentionPass.{IsProbed}
 use Rattle.markdown_attention.specs.AttentionTrees.{IsStriped}
 use Rattle.markdown_label.specs.Brackets.{Brackets, grouped}
 use Rattle.markdown_label.specs.LabelsHandedOver.{HasBrackets, MayGroup, unlabelled}
-use Rattle.markdown_model.specs.BracketGroups.{paired}
 use Rattle.markdown_model.specs.Pairs.{pair_list}
 use Rattle.markdown_model.specs.Passes.{HardBreaks, no_breaks, hard_breaks, with_emails_apart, merged, trimmed}
 use Rattle.markdown_model.specs.Setting.{Setting}
 use Rattle.markdown_passes.specs.MergedEvents.{HasData}
 use Rattle.markdown_passes.specs.TrimmedEvents.{HasParts, HasPlaces}
+use Rattle.markdown_model.specs.InlineTree.{paired_whole}
 
 -- U is T with other events and without labels and starts: where T hands over brackets, with the events of their grouped tree
 pub record GroupsLabels (T U : Tokenizer) : Type 0 where
@@ -63,9 +63,9 @@ FinishesText T U =
 -- pairs of its containers grouped
 pub record PairsRuns (T U : Tokenizer) : Type 0 where
   pub same : U ≡ record T { events = U.events; tokenize_state = record T.tokenize_state { probes = U.tokenize_state.probes } }
-  pub paired : (s : Setting) (t : Forest) → IsOf s T → HasRuns T.parse_state.now.bytes.now t → IsStriped t → T.events ≡ appended_from 0 None t
-      → U.events ≡ appended_from 0 None (paired s (pair_list s) t)
-  pub probed : (s : Setting) (t : Forest) → IsOf s T → HasRuns T.parse_state.now.bytes.now t → T.events ≡ appended_from 0 None t → IsProbed s t U.tokenize_state.probes
+  pub paired : (s : Setting) (t : Forest) → IsOf s t T → HasRuns T.parse_state.now.bytes.now t → IsStriped t → T.events ≡ appended_from 0 None t
+      → U.events ≡ appended_from 0 None (paired_whole s (pair_list s) t)
+  pub probed : (s : Setting) (t : Forest) → IsOf s t T → HasRuns T.parse_state.now.bytes.now t → T.events ≡ appended_from 0 None t → IsProbed s t U.tokenize_state.probes
 
 abbrev pub may_resolve_of : ResolveName → Tokenizer → Type 0
 may_resolve_of R.Label T = MayGroup T

@@ -3,6 +3,7 @@ ghost use Rattle.std.specs.Prelude.{◌≡◌, OnOk};
 ghost use Rattle.markdown_inline.specs.markdown_engine_events.EventChains.{IsFresh};
 
 use markdown_inline::configuration::{ParseOptions, Rules};
+use markdown_inline::cursor::Cursor;
 use markdown_inline::event::{Event, Kind, Link, Name, Point};
 use markdown_inline::events::Events;
 use markdown_inline::tokenizer::Tokenizer;
@@ -101,16 +102,32 @@ fn class_beside(rules: Rules, beside: Option<char>) -> Class {
     }
 }
 
+// The character before a row: none where the rules ask for the content's, and no code of it stands there.
+fn before_row(row: &Sequence, document: &str, rules: Rules, cursor: &Cursor) -> Option<char> {
+    if rules.neighbours_in_content && !cursor.has_code_before(row.start) {
+        return None;
+    }
+    document
+        .get(..row.start)
+        .and_then(|text| text.chars().next_back())
+}
+
+// The character behind a row, alike.
+fn after_row(row: &Sequence, document: &str, rules: Rules, cursor: &Cursor) -> Option<char> {
+    if rules.neighbours_in_content && !cursor.has_code_behind(row.end()) {
+        return None;
+    }
+    document
+        .get(row.end()..)
+        .and_then(|text| text.chars().next())
+}
+
 // Says of each row whether it may open and close.
-fn set_sides(all: &mut [Sequence], document: &str, options: &ParseOptions) {
+fn set_sides(all: &mut [Sequence], document: &str, options: &ParseOptions, cursor: &Cursor) {
     let rules = options.rules();
     for row in all {
-        let before = document
-            .get(..row.start)
-            .and_then(|text| text.chars().next_back());
-        let after = document
-            .get(row.end()..)
-            .and_then(|text| text.chars().next());
+        let before = before_row(row, document, rules, cursor);
+        let after = after_row(row, document, rules, cursor);
         let (b, a) = (class_beside(rules, before), class_beside(rules, after));
         let open = a == Class::Other
             || a == Class::Punctuation && b != Class::Other
@@ -351,10 +368,11 @@ fn paired(
     events: &[Event],
     bytes: &[u8],
     options: &ParseOptions,
+    cursor: &Cursor,
 ) -> Result<Vec<Event>, AllocError> {
     let mut rows = rows_in(alloc, events, bytes)?;
     let document = str::from_utf8(bytes).unwrap_or("");
-    set_sides(rows.as_mut_slice(), document, options);
+    set_sides(rows.as_mut_slice(), document, options, cursor);
     let pairs = all_pairs(alloc, rows.as_mut_slice(), options)?;
     grouped(alloc, events, rows.as_slice(), pairs.as_slice())
 }
@@ -367,7 +385,7 @@ pub(crate) fn resolve(tokenizer: &mut Tokenizer) -> Result<(), AllocError>
     let bytes = tokenizer.parse_state.bytes;
     let options = tokenizer.parse_state.options;
     let events = tokenizer.events.as_slice().to_vec(alloc)?;
-    let paired = paired(alloc, events.as_slice(), bytes, options)?;
+    let paired = paired(alloc, events.as_slice(), bytes, options, &tokenizer.cursor)?;
     tokenizer.events = listed(alloc, paired.as_slice())?;
     Ok(())
 }

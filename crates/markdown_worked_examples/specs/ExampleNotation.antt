@@ -44,6 +44,7 @@ setting r bytes = record {
   definitions = r.definitions;
   footnotes = r.footnotes;
   first_of_item = r.first_of_item;
+  content = [];
 }
 
 -- from an index and codes of the tab there to another

@@ -768,7 +768,37 @@ Emphasis =
     -- text outer «a*␀b*»: Data 0-1, Emphasis 1-5
     (text_outline (default) (97 ∷ 42 ∷ 0 ∷ 98 ∷ 42 ∷ []) (piece 0 0 5 0 ∷ []) ≡ (enter Name.Data 1 1 0 0 ∷ exit Name.Data 1 2 1 0 ∷ enter Name.Emphasis 1 2 1 0 ∷ exit Name.Emphasis 1 6 5 0 ∷ [])) ×
     -- text outer commonmark «a*␀b*»: Data 0-5
-    (text_outline (record default { options = record default_options { commonmark = true } }) (97 ∷ 42 ∷ 0 ∷ 98 ∷ 42 ∷ []) (piece 0 0 5 0 ∷ []) ≡ (enter Name.Data 1 1 0 0 ∷ exit Name.Data 1 6 5 0 ∷ []))
+    (text_outline (record default { options = record default_options { commonmark = true } }) (97 ∷ 42 ∷ 0 ∷ 98 ∷ 42 ∷ []) (piece 0 0 5 0 ∷ []) ≡ (enter Name.Data 1 1 0 0 ∷ exit Name.Data 1 6 5 0 ∷ [])) ×
+    -- text outer commonmark «>*a␊>*» 1-4 5-6: Data 1-3, LineEnding 3-4, Data 5-6
+    (text_outline (record default { options = record default_options { commonmark = true } }) (62 ∷ 42 ∷ 97 ∷ 10 ∷ 62 ∷ 42 ∷ []) (piece 1 0 4 0 ∷ piece 5 0 6 0 ∷ []) ≡ (enter Name.Data 1 2 1 0 ∷ exit Name.Data 1 4 3 0 ∷ enter Name.LineEnding 1 4 3 0 ∷ exit Name.LineEnding 2 1 4 0 ∷ enter Name.Data 2 2 5 0 ∷ exit Name.Data 2 3 6 0 ∷ [])) ×
+    -- text outer «|*a*|» 1-4: Emphasis 1-4
+    (text_outline (default) (codes "|*a*|") (piece 1 0 4 0 ∷ []) ≡ (enter Name.Emphasis 1 2 1 0 ∷ exit Name.Emphasis 1 5 4 0 ∷ [])) ×
+    -- text outer commonmark «|*a*|» 1-4: Emphasis 1-4
+    (text_outline (record default { options = record default_options { commonmark = true } }) (codes "|*a*|") (piece 1 0 4 0 ∷ []) ≡ (enter Name.Emphasis 1 2 1 0 ∷ exit Name.Emphasis 1 5 4 0 ∷ [])) ×
+    -- text outer «a*b*c» 1-4: Emphasis 1-4
+    (text_outline (default) (codes "a*b*c") (piece 1 0 4 0 ∷ []) ≡ (enter Name.Emphasis 1 2 1 0 ∷ exit Name.Emphasis 1 5 4 0 ∷ [])) ×
+    -- text outer commonmark «a*b*c» 1-4: Emphasis 1-4
+    (text_outline (record default { options = record default_options { commonmark = true } }) (codes "a*b*c") (piece 1 0 4 0 ∷ []) ≡ (enter Name.Emphasis 1 2 1 0 ∷ exit Name.Emphasis 1 5 4 0 ∷ [])) ×
+    -- text «a_b_» 1-4: Data 1-4
+    (text_answer (default) (codes "a_b_") (piece 1 0 4 0 ∷ []) ≡ (enter Name.Data 1 2 1 0 ∷ exit Name.Data 1 5 4 0 ∷ [])) ×
+    -- text commonmark «a_b_» 1-4: Emphasis 1-4 [EmphasisSequence 1-2, EmphasisText 2-3 [Data 2-3], EmphasisSequence 3-4]
+    (text_answer (record default { options = record default_options { commonmark = true } }) (codes "a_b_") (piece 1 0 4 0 ∷ []) ≡ (enter Name.Emphasis 1 2 1 0 ∷ enter Name.EmphasisSequence 1 2 1 0 ∷ exit Name.EmphasisSequence 1 3 2 0 ∷ enter Name.EmphasisText 1 3 2 0 ∷ enter Name.Data 1 3 2 0 ∷ exit Name.Data 1 4 3 0 ∷ exit Name.EmphasisText 1 4 3 0 ∷ enter Name.EmphasisSequence 1 4 3 0 ∷ exit Name.EmphasisSequence 1 5 4 0 ∷ exit Name.Emphasis 1 5 4 0 ∷ [])) ×
+    -- text commonmark «_a_b» 0-3: Emphasis 0-3 [EmphasisSequence 0-1, EmphasisText 1-2 [Data 1-2], EmphasisSequence 2-3]
+    (text_answer (record default { options = record default_options { commonmark = true } }) (codes "_a_b") (piece 0 0 3 0 ∷ []) ≡ (enter Name.Emphasis 1 1 0 0 ∷ enter Name.EmphasisSequence 1 1 0 0 ∷ exit Name.EmphasisSequence 1 2 1 0 ∷ enter Name.EmphasisText 1 2 1 0 ∷ enter Name.Data 1 2 1 0 ∷ exit Name.Data 1 3 2 0 ∷ exit Name.EmphasisText 1 3 2 0 ∷ enter Name.EmphasisSequence 1 3 2 0 ∷ exit Name.EmphasisSequence 1 4 3 0 ∷ exit Name.Emphasis 1 4 3 0 ∷ [])) ×
+    -- text outer «# *a*» 2-5: Emphasis 2-5
+    (text_outline (default) (codes "# *a*") (piece 2 0 5 0 ∷ []) ≡ (enter Name.Emphasis 1 3 2 0 ∷ exit Name.Emphasis 1 6 5 0 ∷ [])) ×
+    -- text outer commonmark «# *a*» 2-5: Emphasis 2-5
+    (text_outline (record default { options = record default_options { commonmark = true } }) (codes "# *a*") (piece 2 0 5 0 ∷ []) ≡ (enter Name.Emphasis 1 3 2 0 ∷ exit Name.Emphasis 1 6 5 0 ∷ [])) ×
+    -- text outer «>a␊>_b_» 1-3 4-7: Data 1-2, LineEnding 2-3, Emphasis 4-7
+    (text_outline (default) (62 ∷ 97 ∷ 10 ∷ 62 ∷ 95 ∷ 98 ∷ 95 ∷ []) (piece 1 0 3 0 ∷ piece 4 0 7 0 ∷ []) ≡ (enter Name.Data 1 2 1 0 ∷ exit Name.Data 1 3 2 0 ∷ enter Name.LineEnding 1 3 2 0 ∷ exit Name.LineEnding 2 1 3 0 ∷ enter Name.Emphasis 2 2 4 0 ∷ exit Name.Emphasis 2 5 7 0 ∷ [])) ×
+    -- text outer «xa␊x_b_» 1-3 4-7: Data 1-2, LineEnding 2-3, Data 4-7
+    (text_outline (default) (120 ∷ 97 ∷ 10 ∷ 120 ∷ 95 ∷ 98 ∷ 95 ∷ []) (piece 1 0 3 0 ∷ piece 4 0 7 0 ∷ []) ≡ (enter Name.Data 1 2 1 0 ∷ exit Name.Data 1 3 2 0 ∷ enter Name.LineEnding 1 3 2 0 ∷ exit Name.LineEnding 2 1 3 0 ∷ enter Name.Data 2 2 4 0 ∷ exit Name.Data 2 5 7 0 ∷ [])) ×
+    -- text outer commonmark «xa␊x_b_» 1-3 4-7: Data 1-2, LineEnding 2-3, Emphasis 4-7
+    (text_outline (record default { options = record default_options { commonmark = true } }) (120 ∷ 97 ∷ 10 ∷ 120 ∷ 95 ∷ 98 ∷ 95 ∷ []) (piece 1 0 3 0 ∷ piece 4 0 7 0 ∷ []) ≡ (enter Name.Data 1 2 1 0 ∷ exit Name.Data 1 3 2 0 ∷ enter Name.LineEnding 1 3 2 0 ∷ exit Name.LineEnding 2 1 3 0 ∷ enter Name.Emphasis 2 2 4 0 ∷ exit Name.Emphasis 2 5 7 0 ∷ [])) ×
+    -- text outer commonmark «*a␊*b» 0-5: Data 0-2, LineEnding 2-3, Data 3-5
+    (text_outline (record default { options = record default_options { commonmark = true } }) (42 ∷ 97 ∷ 10 ∷ 42 ∷ 98 ∷ []) (piece 0 0 5 0 ∷ []) ≡ (enter Name.Data 1 1 0 0 ∷ exit Name.Data 1 3 2 0 ∷ enter Name.LineEnding 1 3 2 0 ∷ exit Name.LineEnding 2 1 3 0 ∷ enter Name.Data 2 1 3 0 ∷ exit Name.Data 2 3 5 0 ∷ [])) ×
+    -- looks commonmark «a*b*»: 1 2 16
+    (looks_answer (record default { options = record default_options { commonmark = true } }) (codes "a*b*") (piece 0 0 4 0 ∷ []) ≡ (1 ∷ 2 ∷ 16 ∷ []))
 
 abbrev pub Links : Type 0
 Links =

@@ -29,7 +29,7 @@ ghost use Rattle.markdown_attention.specs.RunsOfTree.{IsOf, HasRuns};
 ghost use Rattle.markdown_attention.specs.PairScan.{AreUntaken};
 ghost use Rattle.markdown_engine.specs.PastTree.{appended_from};
 ghost use Rattle.markdown_content.specs.Tree.{Forest};
-ghost use Rattle.markdown_model.specs.BracketGroups.{paired};
+ghost use Rattle.markdown_model.specs.InlineTree.{paired_whole};
 ghost use Rattle.markdown_model.specs.Pairs.{pair_list};
 ghost use Rattle.markdown_model.specs.Setting.{Setting};
 ghost use Rattle.markdown_attention.specs.AttentionPass.{IsSmall, MayPair, IsPairing, IsGrouped, IsProbed};
@@ -105,9 +105,9 @@ pub fn resolve_counted(tokenizer: &mut Tokenizer, probes: &mut u128) -> Result<(
     ensures same { OnOk result (tokenizer.new ≡ record tokenizer.old { events = tokenizer.new.events }) }
     ensures grouped { OnOk result (IsGrouped tokenizer.old.parse_state.now.options.now
         (runs_of_events tokenizer.old) tokenizer.old.events tokenizer.new.events probes.new) }
-    ensures paired { (s : Setting) (t : Forest) → IsOf s tokenizer.old → HasRuns tokenizer.old.parse_state.now.bytes.now t → IsStriped t
-        → tokenizer.old.events ≡ appended_from 0 None t → OnOk result (tokenizer.new.events ≡ appended_from 0 None (paired s (pair_list s) t)) }
-    ensures probed { (s : Setting) (t : Forest) → IsOf s tokenizer.old → HasRuns tokenizer.old.parse_state.now.bytes.now t
+    ensures paired { (s : Setting) (t : Forest) → IsOf s t tokenizer.old → HasRuns tokenizer.old.parse_state.now.bytes.now t → IsStriped t
+        → tokenizer.old.events ≡ appended_from 0 None t → OnOk result (tokenizer.new.events ≡ appended_from 0 None (paired_whole s (pair_list s) t)) }
+    ensures probed { (s : Setting) (t : Forest) → IsOf s t tokenizer.old → HasRuns tokenizer.old.parse_state.now.bytes.now t
         → tokenizer.old.events ≡ appended_from 0 None t → OnOk result (IsProbed s t probes.new) }
     ensures stays { OnErr result (probes.new ≡ probes.old) }
     ensures err { OnErr result (IsTrue tokenizer.new.failed) }
@@ -131,9 +131,9 @@ pub fn resolve(tokenizer: &mut Tokenizer) -> Result<Option<Subresult>, AllocErro
     }) }
     ensures grouped { OnOk result (IsGrouped tokenizer.old.parse_state.now.options.now
         (runs_of_events tokenizer.old) tokenizer.old.events tokenizer.new.events tokenizer.new.tokenize_state.probes) }
-    ensures paired { (s : Setting) (t : Forest) → IsOf s tokenizer.old → HasRuns tokenizer.old.parse_state.now.bytes.now t → IsStriped t
-        → tokenizer.old.events ≡ appended_from 0 None t → OnOk result (tokenizer.new.events ≡ appended_from 0 None (paired s (pair_list s) t)) }
-    ensures probed { (s : Setting) (t : Forest) → IsOf s tokenizer.old → HasRuns tokenizer.old.parse_state.now.bytes.now t
+    ensures paired { (s : Setting) (t : Forest) → IsOf s t tokenizer.old → HasRuns tokenizer.old.parse_state.now.bytes.now t → IsStriped t
+        → tokenizer.old.events ≡ appended_from 0 None t → OnOk result (tokenizer.new.events ≡ appended_from 0 None (paired_whole s (pair_list s) t)) }
+    ensures probed { (s : Setting) (t : Forest) → IsOf s t tokenizer.old → HasRuns tokenizer.old.parse_state.now.bytes.now t
         → tokenizer.old.events ≡ appended_from 0 None t → OnOk result (IsProbed s t tokenizer.new.tokenize_state.probes) }
     ensures err { OnErr result (IsTrue tokenizer.new.failed) }
 {

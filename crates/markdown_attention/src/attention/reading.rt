@@ -1,14 +1,15 @@
 //! Reading the runs of markers off the events.
 
-ghost use Rattle.std.specs.Prelude.{◌≡◌, ℕ, ◌+◌, ◌<◌, ◌≤◌, ◌^◌, ◌++◌, length, drop, slice_index_or, count_by, false, IfOk, OnOk, IsUtf8, Option, None};
+ghost use Rattle.std.specs.Prelude.{◌≡◌, ℕ, ◌+◌, ◌<◌, ◌≤◌, ◌^◌, ◌++◌, length, drop, slice_index_or, count_by, false, IfOk, OnOk, IsUtf8, IsCharBoundary, Option, None};
 ghost use Rattle.markdown_content.specs.CommonMark.{rules_of};
 ghost use Rattle.markdown_attention.specs.RunsRead.{opens_run, opens_text, sequence_at, where_after, outermost, first_run, runs_from, IsRunPlace, FirstHasPlaces, HaveRunPlaces};
 ghost use Rattle.markdown_attention.specs.RunSteps.{changes_reading};
 ghost use Rattle.markdown_attention.specs.PairScan.{Numbered};
-ghost use Rattle.markdown_model.specs.Runs.{as_read, class_beside, is_beside_marker, is_flanking, may_act};
+ghost use Rattle.markdown_model.specs.Runs.{before_run, after_run, as_read, class_beside, is_beside_marker, is_flanking, may_act};
 
 use crate::attention::runs::Sequence;
 use markdown_content::configuration::{ParseOptions, Rules};
+use markdown_content::cursor::Cursor;
 use markdown_engine_events::events::Events;
 use markdown_event::event::{Event, Kind, Name, Point};
 use markdown_event::seq::Stack;
@@ -86,10 +87,35 @@ struct Text {
     number: usize,
 }
 
+// The character before a run that begins at an index. Where the rules ask for the content's, there is none where no code of it stands there.
+fn before_run(options: ParseOptions, bytes: &[u8], cursor: &Cursor, index: usize) -> Option<char>
+    requires utf8 { IsUtf8 bytes.now }
+    requires boundary { IsCharBoundary bytes.now index }
+    ensures { result ≡ before_run options bytes.now cursor.now.codes index }
+{
+    if options.rules().neighbours_in_content && !cursor.has_code_before(index) {
+        return None;
+    }
+    char::before_index(bytes, index)
+}
+
+// The character behind a run that ends at an index, alike.
+fn after_run(options: ParseOptions, bytes: &[u8], cursor: &Cursor, index: usize) -> Option<char>
+    requires utf8 { IsUtf8 bytes.now }
+    requires boundary { IsCharBoundary bytes.now index }
+    ensures { result ≡ after_run options bytes.now cursor.now.codes index }
+{
+    if options.rules().neighbours_in_content && !cursor.has_code_behind(index) {
+        return None;
+    }
+    char::after_index(bytes, index)
+}
+
 // The run from one place to another.
 fn sequence_at(
     options: ParseOptions,
     bytes: &[u8],
+    cursor: &Cursor,
     number: usize,
     event: usize,
     container: Option<Text>,
@@ -98,11 +124,11 @@ fn sequence_at(
 ) -> Sequence
     requires utf8 { IsUtf8 bytes.now }
     requires place { IsRunPlace bytes.now from to }
-    ensures { result ≡ sequence_at options bytes.now number event container from to }
+    ensures { result ≡ sequence_at options bytes.now cursor.now.codes number event container from to }
 {
     let marker = bytes[from.index];
-    let before = char::before_index(bytes, from.index);
-    let after = char::after_index(bytes, to.index);
+    let before = before_run(options, bytes, cursor, from.index);
+    let after = after_run(options, bytes, cursor, to.index);
     let rules = options.rules();
     let kind_before = class_beside(rules, before);
     let kind_after = class_beside(rules, after);
@@ -164,6 +190,7 @@ fn opens_run(event: Event) -> bool
 fn read_event(
     bytes: &[u8],
     options: ParseOptions,
+    cursor: &Cursor,
     events: &Events,
     index: usize,
     place: &Where,
@@ -174,7 +201,7 @@ fn read_event(
     requires counted { length events.now < 2 ^ 64 }
     requires places { FirstHasPlaces bytes.now (drop index events.now) }
     ensures { OnOk result (list.new.items
-        ≡ list.old.items ++ first_run options bytes.now (length list.old.items) index place.now.container (drop index events.now)) }
+        ≡ list.old.items ++ first_run options bytes.now cursor.now.codes (length list.old.items) index place.now.container (drop index events.now)) }
 {
     let enter = events.bare_at(index);
     if opens_run(enter) {
@@ -183,6 +210,7 @@ fn read_event(
         let run = sequence_at(
             options,
             bytes,
+            cursor,
             number,
             index,
             place.container,
@@ -253,16 +281,17 @@ pub(crate) struct Found {
     pub(crate) texts: usize,
 }
 
-/// Reads the runs off the events.
+/// Reads the runs off the events of a content.
 pub(crate) fn read(
     alloc: Global,
     bytes: &[u8],
     options: ParseOptions,
+    cursor: &Cursor,
     events: &Events,
 ) -> Result<Found, AllocError>
     requires utf8 { IsUtf8 bytes.now }
     requires places { HaveRunPlaces bytes.now events.now }
-    ensures is { IfOk result (λ found. found.list.items ≡ runs_from options bytes.now 0 0 outermost events.now) }
+    ensures is { IfOk result (λ found. found.list.items ≡ runs_from options bytes.now cursor.now.codes 0 0 outermost events.now) }
     ensures numbered { IfOk result (λ found. Numbered found.list.items) }
     ensures texts { IfOk result (λ found. found.texts ≡ count_by opens_text events.now) }
 {
@@ -275,7 +304,7 @@ pub(crate) fn read(
     let count = events.len();
     let mut index = next_change(events, 0);
     while index < count {
-        read_event(bytes, options, events, index, &place, &mut list)?;
+        read_event(bytes, options, cursor, events, index, &place, &mut list)?;
         place.pass(index, events.bare_at(index))?;
         index = next_change(events, index + 1);
     }

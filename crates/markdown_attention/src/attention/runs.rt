@@ -9,8 +9,8 @@ ghost use Rattle.markdown_attention.specs.PairScan.{AreUntaken, StandIn};
 ghost use Rattle.markdown_attention.specs.RunsOfTree.{IsOf, HasRuns, HasRows};
 ghost use Rattle.markdown_engine.specs.Operations.{refused};
 ghost use Rattle.markdown_engine.specs.PastTree.{appended_from};
-ghost use Rattle.markdown_content.specs.Tree.{Forest};
-ghost use Rattle.markdown_model.specs.Setting.{Setting};
+ghost use Rattle.markdown_content.specs.Tree.{Forest, leaf_codes};
+ghost use Rattle.markdown_model.specs.Setting.{Setting, within};
 
 use crate::attention::reading::read;
 use markdown_engine::tokenizer::Tokenizer;
@@ -76,14 +76,20 @@ impl Runs {
         ensures whole { IfOk result (λ runs. AreUntaken runs.list) }
         ensures markers { IfOk result (λ runs. HaveMarkers runs.list) }
         ensures containers { IfOk result (λ runs. StandIn (count_by opens_text tokenizer.old.events) runs.list) }
-        ensures rows { (s : Setting) (t : Forest) → IsOf s tokenizer.old → HasRuns tokenizer.old.parse_state.now.bytes.now t
-            → tokenizer.old.events ≡ appended_from 0 None t → IfOk result (λ runs. HasRows s t runs.list) }
+        ensures rows { (s : Setting) (t : Forest) → IsOf s t tokenizer.old → HasRuns tokenizer.old.parse_state.now.bytes.now t
+            → tokenizer.old.events ≡ appended_from 0 None t → IfOk result (λ runs. HasRows (within (leaf_codes t) s) t runs.list) }
         ensures same { OnOk result (tokenizer.new ≡ tokenizer.old) }
         ensures err { OnErr result (tokenizer.new ≡ refused tokenizer.old) }
     {
         let bytes = tokenizer.parse_state.bytes;
         let options = *tokenizer.parse_state.options;
-        match read(tokenizer.alloc, bytes, options, &tokenizer.events) {
+        match read(
+            tokenizer.alloc,
+            bytes,
+            options,
+            &tokenizer.cursor,
+            &tokenizer.events,
+        ) {
             Err(error) => tokenizer.noted(Err(error)),
             Ok(found) => Ok(Runs {
                 list: found.list,

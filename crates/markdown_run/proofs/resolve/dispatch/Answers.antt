@@ -6,7 +6,7 @@ use Rattle.markdown_engine.specs.declared.tokenizer.Tokenizer.{Tokenizer}
 use Rattle.markdown_attention.specs.RunsOfTree.{IsOf, HasRuns}
 use Rattle.markdown_attention.specs.AttentionPass.{IsProbed}
 use Rattle.markdown_attention.specs.AttentionTrees.{IsStriped}
-use Rattle.markdown_model.specs.BracketGroups.{paired}
+use Rattle.markdown_model.specs.InlineTree.{paired_whole}
 use Rattle.markdown_model.specs.Pairs.{pair_list}
 use Rattle.markdown_model.specs.Setting.{Setting}
 use Rattle.markdown_label.specs.Brackets.{Brackets, grouped}
@@ -16,8 +16,8 @@ use Rattle.markdown_run.proofs.resolve.dispatch.Goals as goal
 
 -- what the pass of runs ensures, put together
 pairs-runs : {A E : Type 0} (o : Result A E) (T U : Tokenizer) → OnOk o (U ≡ record T { events = U.events; tokenize_state = record T.tokenize_state { probes = U.tokenize_state.probes } })
-    → ((s : Setting) (t : Forest) → IsOf s T → HasRuns T.parse_state.now.bytes.now t → IsStriped t → T.events ≡ appended_from 0 None t → OnOk o (U.events ≡ appended_from 0 None (paired s (pair_list s) t)))
-    → ((s : Setting) (t : Forest) → IsOf s T → HasRuns T.parse_state.now.bytes.now t → T.events ≡ appended_from 0 None t → OnOk o (IsProbed s t U.tokenize_state.probes)) → IfOk o (λ _. PairsRuns T U)
+    → ((s : Setting) (t : Forest) → IsOf s t T → HasRuns T.parse_state.now.bytes.now t → IsStriped t → T.events ≡ appended_from 0 None t → OnOk o (U.events ≡ appended_from 0 None (paired_whole s (pair_list s) t)))
+    → ((s : Setting) (t : Forest) → IsOf s t T → HasRuns T.parse_state.now.bytes.now t → T.events ≡ appended_from 0 None t → OnOk o (IsProbed s t U.tokenize_state.probes)) → IfOk o (λ _. PairsRuns T U)
 pairs-runs (Ok x) T U same grouped probed = record { same = same; paired = grouped; probed = probed }
 pairs-runs (Err e) T U same grouped probed = tt
 

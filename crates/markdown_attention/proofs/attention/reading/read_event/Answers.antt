@@ -5,19 +5,20 @@ use Rattle.markdown_attention.specs.RunsRead.{Container, first_run, opens_run, s
 use Rattle.markdown_attention.specs.declared.attention.runs.Sequence.{Sequence}
 use Rattle.markdown_attention.proofs.RunsReadLemmas.{exit-within, exit-place, first-event}
 use Rattle.markdown_attention.proofs.attention.reading.read_event.Goals as goal
+use Rattle.markdown_content.specs.Codes.{Code}
 
 -- where the first event begins a run, that is the one that is read
-run-read : (options : ParseOptions) (bytes : List ℕ) (n i : ℕ) (k : Container) (es : List Event) (e x : Event) → i < length es →
+run-read : (options : ParseOptions) (bytes : List ℕ) (content : List Code) (n i : ℕ) (k : Container) (es : List Event) (e x : Event) → i < length es →
     e ≡ get_or es i e → i + 1 < length es → x ≡ get_or es (i + 1) x → opens_run e ≡ true →
-    first_run options bytes n i k (drop i es) ≡ sequence_at options bytes n i k e.point x.point ∷ []
-run-read options bytes n i k es e x l h m g opens =
-    ap (λ (ys : List Event). first_run options bytes n i k ys) (first-event es i e l h ∙ ap (λ (ys : List Event). e ∷ ys) (first-event es (i + 1) x m g))
-    ∙ ap (λ (b : Bool). cond b (sequence_at options bytes n i k e.point x.point ∷ []) []) opens
+    first_run options bytes content n i k (drop i es) ≡ sequence_at options bytes content n i k e.point x.point ∷ []
+run-read options bytes content n i k es e x l h m g opens =
+    ap (λ (ys : List Event). first_run options bytes content n i k ys) (first-event es i e l h ∙ ap (λ (ys : List Event). e ∷ ys) (first-event es (i + 1) x m g))
+    ∙ ap (λ (b : Bool). cond b (sequence_at options bytes content n i k e.point x.point ∷ []) []) opens
 
-none-first : (options : ParseOptions) (bytes : List ℕ) (n i : ℕ) (k : Container) (e : Event) (es : List Event) →
-    opens_run e ≡ false → first_run options bytes n i k (e ∷ es) ≡ []
-none-first options bytes n i k e [] h = refl
-none-first options bytes n i k e (x ∷ es) h = ap (λ (b : Bool). cond b (sequence_at options bytes n i k e.point x.point ∷ []) []) h
+none-first : (options : ParseOptions) (bytes : List ℕ) (content : List Code) (n i : ℕ) (k : Container) (e : Event) (es : List Event) →
+    opens_run e ≡ false → first_run options bytes content n i k (e ∷ es) ≡ []
+none-first options bytes content n i k e [] h = refl
+none-first options bytes content n i k e (x ∷ es) h = ap (λ (b : Bool). cond b (sequence_at options bytes content n i k e.point x.point ∷ []) []) h
 
 pub bare_at-exit-requires : goal.bare_at-exit-requires
 bare_at-exit-requires c =
@@ -40,11 +41,11 @@ returns-in_ok-push c =
     let opens : opens_run e ≡ true = sym c.opens_run.ensures ∙ c.if-opens_run.true in
     let within : c.args.index + 1 < length es = exit-within bytes es c.args.index e c.requires.within c.bare_at-enter.ensures.event c.requires.places opens in
     let number : c.len-number.result ≡ length c.args.list.now.items = omega (arith, c.len-number.ensures, c.args.list.now.ok.0) in
-    let run : c.sequence_at-run.result ≡ sequence_at c.args.options bytes (length c.args.list.now.items) c.args.index k e.point x.point =
-    c.sequence_at-run.ensures ∙ ap (λ (n : ℕ). sequence_at c.args.options bytes n c.args.index k e.point x.point) number in
+    let run : c.sequence_at-run.result ≡ sequence_at c.args.options bytes c.args.cursor.now.codes (length c.args.list.now.items) c.args.index k e.point x.point =
+    c.sequence_at-run.ensures ∙ ap (λ (n : ℕ). sequence_at c.args.options bytes c.args.cursor.now.codes n c.args.index k e.point x.point) number in
     c.in_ok-push.ensures.items
     ∙ ap (λ (r : Sequence). c.args.list.now.items ++ r ∷ []) run
-    ∙ sym (ap (λ (rs : List Sequence). c.args.list.now.items ++ rs) (run-read c.args.options bytes (length c.args.list.now.items) c.args.index k es e x c.requires.within c.bare_at-enter.ensures.event within c.bare_at-exit.ensures.event opens))
+    ∙ sym (ap (λ (rs : List Sequence). c.args.list.now.items ++ rs) (run-read c.args.options bytes c.args.cursor.now.codes (length c.args.list.now.items) c.args.index k es e x c.requires.within c.bare_at-enter.ensures.event within c.bare_at-exit.ensures.event opens))
 
 pub returns-else-opens_run : goal.returns-else-opens_run
 returns-else-opens_run c =
@@ -53,7 +54,7 @@ returns-else-opens_run c =
     let n : ℕ = length c.args.list.now.items in
     let k : Container = c.args.place.now.container in
     let first = first-event es c.args.index e c.requires.within c.bare_at-enter.ensures.event in
-    let none : first_run c.args.options c.args.bytes.now n c.args.index k (drop c.args.index es) ≡ [] =
-    ap (λ (ys : List Event). first_run c.args.options c.args.bytes.now n c.args.index k ys) first
-    ∙ none-first c.args.options c.args.bytes.now n c.args.index k e (drop (c.args.index + 1) es) (sym c.opens_run.ensures ∙ c.if-opens_run.false) in
+    let none : first_run c.args.options c.args.bytes.now c.args.cursor.now.codes n c.args.index k (drop c.args.index es) ≡ [] =
+    ap (λ (ys : List Event). first_run c.args.options c.args.bytes.now c.args.cursor.now.codes n c.args.index k ys) first
+    ∙ none-first c.args.options c.args.bytes.now c.args.cursor.now.codes n c.args.index k e (drop (c.args.index + 1) es) (sym c.opens_run.ensures ∙ c.if-opens_run.false) in
     sym (ap (λ (rs : List Sequence). c.args.list.now.items ++ rs) none ∙ append-nil c.args.list.now.items)

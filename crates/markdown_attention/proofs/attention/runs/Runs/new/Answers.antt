@@ -4,6 +4,8 @@ use Rattle.markdown_attention.proofs.RunsOfTreeLemmas.{rows-of-events}
 use Rattle.markdown_attention.proofs.RunsReadLemmas.{all-read}
 use Rattle.std.proofs.Common.{arith}
 use Rattle.markdown_attention.proofs.attention.runs.Runs.new.Goals as goal
+use Rattle.markdown_model.specs.Setting.{within}
+use Rattle.markdown_content.specs.Tree.{leaf_codes}
 
 pub invariant_of-result : goal.invariant_of-result
 invariant_of-result c =
@@ -13,7 +15,7 @@ invariant_of-result c =
         c.in-Ok.ensures.numbered,
         λ i l.
             let row =
-            (all-read c.args.tokenizer.now.parse_state.now.options.now c.args.tokenizer.now.parse_state.now.bytes.now c.args.tokenizer.now.events
+            (all-read c.args.tokenizer.now.parse_state.now.options.now c.args.tokenizer.now.parse_state.now.bytes.now c.args.tokenizer.now.cursor.codes c.args.tokenizer.now.events
             c.in-Ok.found.list.items c.requires.places c.in-Ok.ensures.is i l).row in
             omega (arith, row, texts),
       ),
@@ -21,21 +23,21 @@ invariant_of-result c =
 
 pub returns-in-Ok-clause-whole : goal.returns-in-Ok-clause-whole
 returns-in-Ok-clause-whole c = λ i l.
-    (all-read c.args.tokenizer.now.parse_state.now.options.now c.args.tokenizer.now.parse_state.now.bytes.now c.args.tokenizer.now.events
+    (all-read c.args.tokenizer.now.parse_state.now.options.now c.args.tokenizer.now.parse_state.now.bytes.now c.args.tokenizer.now.cursor.codes c.args.tokenizer.now.events
     c.in-Ok.found.list.items c.requires.places c.in-Ok.ensures.is i l).whole
 
 pub returns-in-Ok-clause-markers : goal.returns-in-Ok-clause-markers
 returns-in-Ok-clause-markers c = λ i l.
-    (all-read c.args.tokenizer.now.parse_state.now.options.now c.args.tokenizer.now.parse_state.now.bytes.now c.args.tokenizer.now.events
+    (all-read c.args.tokenizer.now.parse_state.now.options.now c.args.tokenizer.now.parse_state.now.bytes.now c.args.tokenizer.now.cursor.codes c.args.tokenizer.now.events
     c.in-Ok.found.list.items c.requires.places c.in-Ok.ensures.is i l).marker
 
 pub returns-in-Ok-clause-containers : goal.returns-in-Ok-clause-containers
 returns-in-Ok-clause-containers c = λ i l.
-    (all-read c.args.tokenizer.now.parse_state.now.options.now c.args.tokenizer.now.parse_state.now.bytes.now c.args.tokenizer.now.events
+    (all-read c.args.tokenizer.now.parse_state.now.options.now c.args.tokenizer.now.parse_state.now.bytes.now c.args.tokenizer.now.cursor.codes c.args.tokenizer.now.events
     c.in-Ok.found.list.items c.requires.places c.in-Ok.ensures.is i l).row
 
 pub returns-in-Ok-clause-rows : goal.returns-in-Ok-clause-rows
 returns-in-Ok-clause-rows c = λ s t given has is.
-    subst (λ list. HasRows s t list) (sym c.in-Ok.ensures.is)
-    (rows-of-events s c.args.tokenizer.now.parse_state.now.options.now c.args.tokenizer.now.parse_state.now.bytes.now
-    given.bytes given.options t has c.args.tokenizer.now.events is)
+    subst (λ list. HasRows (within (leaf_codes t) s) t list) (sym c.in-Ok.ensures.is)
+    (rows-of-events (within (leaf_codes t) s) c.args.tokenizer.now.parse_state.now.options.now c.args.tokenizer.now.parse_state.now.bytes.now c.args.tokenizer.now.cursor.codes
+    given.bytes given.options given.codes t has c.args.tokenizer.now.events is)
