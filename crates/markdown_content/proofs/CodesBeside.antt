@@ -60,12 +60,6 @@ module _ (f : ℕ × ℕ → Bool) (down : (x y : ℕ × ℕ) → is_before y x 
   up x y l h =
       elim (cases_Bool (f y)) [ inl on ↦ absurd (both_ways (f x) h (down x y l on)) | inr off ↦ off ]
 
-  first-later : (bytes : List ℕ) (p q : Point) → IsPoint bytes p → IsPoint bytes q → is_before (place_of p) (place_of q) ≡ true →
-      is_before (place_of (stop_at bytes p)) (place_of p) ≡ false
-  first-later bytes p q h k l =
-      let t : IsToward bytes p (place_of q) = toward bytes p (place_of q) h (there-point bytes q k) l in
-      before-asym (place_of p) (place_of (stop_at bytes p)) t.next.later
-
   -- one of the codes from a place to another is so where the two places are
   across-between : (bytes : List ℕ) (p q : Point) (cs : List Code) → codes_to bytes p q ≡ cs → IsPoint bytes p → IsPoint bytes q →
       is_before (place_of q) (place_of p) ≡ false → list_any across cs ≡ (f (place_of p) && not (f (place_of q)))
