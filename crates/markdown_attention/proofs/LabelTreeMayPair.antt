@@ -1,7 +1,8 @@
 -- What a caller of the pass of runs has from the tree of labels of a content.
-use Rattle.std.proofs.Common.{◌≡◌, ℕ, ◌+◌, ◌*◌, ◌^◌, ◌<◌, ◌≤◌, List, [], length, None, sym, ap, subst, ◌∙◌, arith, append-nil, sum_by}
+use Rattle.std.proofs.Common.{◌≡◌, ℕ, ◌+◌, ◌*◌, ◌^◌, ◌<◌, ◌≤◌, true, List, [], length, None, sym, ap, subst, refl, ◌∙◌, arith, append-nil, sum_by}
 use Rattle.std.specs.List.{count_by}
 use Rattle.markdown_content.specs.Codes.{Code}
+use Rattle.markdown_content.specs.CommonMark.{rules_of}
 use Rattle.markdown_content.specs.Content.{content_of, IsContent}
 use Rattle.markdown_engine.specs.PastTree.{appended_from}
 use Rattle.markdown_content.specs.Tree.{Forest, leaf_codes}
@@ -24,6 +25,7 @@ use Rattle.markdown_attention.specs.RunsOfEvents.{runs_of_events}
 use Rattle.markdown_attention.specs.RunsOfTree.{tree_runs, HasRuns, IsOf}
 use Rattle.markdown_attention.specs.declared.attention.runs.Sequence.{Sequence}
 use Rattle.markdown_attention.proofs.RunsOfTreeLemmas.{tree-runs}
+use Rattle.markdown_attention.proofs.RunsWithoutContent.{same-runs}
 use Rattle.markdown_attention.specs.AttentionPass.{IsSmall, IsGrouped, IsProbed}
 use Rattle.markdown_attention.specs.AttentionTrees.{IsStriped}
 use Rattle.markdown_attention.proofs.AttentionEditsLaw.{group-events}
@@ -98,12 +100,19 @@ module _ (s : Setting) (options : ParseOptions) (bytes : List ℕ) (content : Li
 -- By the tokenizer.
 
 module _ (T : Tokenizer) (after : List Event) (probes : ℕ) (g : IsGrouped T.parse_state.now.options.now (runs_of_events T) T.events after probes) where
+  -- the runs are those within the codes of a tree of the content
+  grouped-within : (t : Forest) → ((rules_of T.parse_state.now.options.now).neighbours_in_content ≡ true → leaf_codes t ≡ T.cursor.codes) →
+      IsGrouped T.parse_state.now.options.now (runs_from T.parse_state.now.options.now T.parse_state.now.bytes.now (leaf_codes t) 0 0 outermost T.events) T.events after probes
+  grouped-within t codes =
+      subst (λ (list : List Sequence). IsGrouped T.parse_state.now.options.now list T.events after probes)
+      (same-runs T.parse_state.now.options.now T.parse_state.now.bytes.now T.cursor.codes (leaf_codes t) T.events (λ on. sym (codes on))) g
+
   pub left-paired : HaveRunPlaces T.parse_state.now.bytes.now T.events → (s : Setting) (t : Forest) → IsOf s t T → HasRuns T.parse_state.now.bytes.now t → IsStriped t
       → T.events ≡ appended_from 0 None t → after ≡ appended_from 0 None (paired_whole s (pair_list s) t)
   left-paired places s t is runs striped e =
-      tree-grouped s T.parse_state.now.options.now T.parse_state.now.bytes.now T.cursor.codes is.bytes is.options t is.codes runs T.events e after probes striped places g
+      tree-grouped s T.parse_state.now.options.now T.parse_state.now.bytes.now (leaf_codes t) is.bytes is.options t refl runs T.events e after probes striped places (grouped-within t is.codes)
 
   pub left-probed : (s : Setting) (t : Forest) → IsOf s t T → HasRuns T.parse_state.now.bytes.now t →
       T.events ≡ appended_from 0 None t → IsProbed s t probes
   left-probed s t is runs e =
-      tree-probed s T.parse_state.now.options.now T.parse_state.now.bytes.now T.cursor.codes is.bytes is.options t is.codes runs T.events e after probes g
+      tree-probed s T.parse_state.now.options.now T.parse_state.now.bytes.now (leaf_codes t) is.bytes is.options t refl runs T.events e after probes (grouped-within t is.codes)

@@ -34,6 +34,7 @@ pub mod MarkerCodes
 pub mod AttentionTreeLabels
 pub mod ElementsHaveMarkerRuns
 pub mod RunPlaces
+pub mod RunsWithoutContent
 pub mod RunCounts
 pub mod PairCountsOfTree
 pub mod RunRoom

@@ -1,6 +1,7 @@
 -- The runs of a tree: those of the whole, and those of each label's text.
 use Rattle.std.specs.Prelude.{◌≡◌, ℕ, suc, ◌+◌, Bool, true, false, ◌||◌, if◌then◌else◌, List, [], ◌∷◌, ◌++◌, length, map, slice_index_or, Some, All}
 use Rattle.markdown_content.specs.Codes.{Code, stop_of, document_start}
+use Rattle.markdown_content.specs.CommonMark.{rules_of}
 use Rattle.markdown_content.specs.declared.configuration.ParseOptions.{ParseOptions}
 use Rattle.markdown_content.specs.Tree.{Forest, empty, leaf_then, group_then, event_count, start_of, leaf_codes}
 use Rattle.markdown_event.specs.declared.event.Name.{Name}
@@ -65,11 +66,12 @@ HasRuns bytes (leaf_then name link cs rest) = ((is_text name ≡ false) × (is_r
 HasRuns bytes (group_then name enter exit inside rest) =
     ((is_run name ≡ false) × (is_text name ≡ false → has_run inside ≡ false)) × (HasRuns bytes inside × HasRuns bytes rest)
 
--- what the tokenizer is given is this, and the tree is one of the content that it reads
+-- What the tokenizer is given is this. Where the rules take what stands beside a run from the content, the tree is one of the content that the
+-- tokenizer reads.
 pub record IsOf (s : Setting) (tree : Forest) (T : Tokenizer) : Type 0 where
   pub bytes : s.bytes ≡ T.parse_state.now.bytes.now
   pub options : s.options ≡ T.parse_state.now.options.now
-  pub codes : leaf_codes tree ≡ T.cursor.codes
+  pub codes : (rules_of T.parse_state.now.options.now).neighbours_in_content ≡ true → leaf_codes tree ≡ T.cursor.codes
 
 -- the runs of each container are those that the definition has, in order
 pub record HasRows (s : Setting) (tree : Forest) (list : List Sequence) : Type 0 where

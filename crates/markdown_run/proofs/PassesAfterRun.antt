@@ -23,7 +23,6 @@ use Rattle.markdown_attention.specs.RunEdits.{HaveRunEnds, HaveRunRoom}
 use Rattle.markdown_attention.proofs.LabelTreeMayPair.{tree-small}
 use Rattle.markdown_attention.proofs.AttentionTreeLabels.{IsGood}
 use Rattle.markdown_attention.proofs.RunPlaces.{MeetsPass, good-meets}
-use Rattle.markdown_model.specs.BracketGroups.{paired}
 use Rattle.markdown_model.specs.Pairs.{pair_list}
 use Rattle.markdown_model.specs.Passes.{no_breaks, hard_breaks, merged, trimmed}
 use Rattle.markdown_model.specs.Setting.{Setting, within}
@@ -196,7 +195,7 @@ given-of : (s : Setting) (p : ParseState) (tree : Forest) (X : Tokenizer) → Is
 given-of s p tree X g e codes = record {
   bytes = g.bytes ∙ ap (λ (x : ParseState). x.bytes.now) (sym e);
   options = g.options ∙ ap (λ (x : ParseState). x.options.now) (sym e);
-  codes = codes;
+  codes = λ on. codes;
 }
 
 may-pair : (p : ParseState) (pieces : List Piece) (tree : Forest) (X : Tokenizer) → HasTreeEvents p pieces tree X →

@@ -26,7 +26,6 @@ use Rattle.markdown_engine.proofs.TreeChains.{chained-whole}
 use Rattle.markdown_content.specs.Tree.{Forest}
 use Rattle.markdown_label.specs.Brackets.{grouped}
 use Rattle.markdown_attention.proofs.AttentionTreeLabels.{IsGood}
-use Rattle.markdown_model.specs.BracketGroups.{paired}
 use Rattle.markdown_model.specs.Pairs.{pair_list}
 use Rattle.markdown_model.specs.Passes.{labels_of, merged}
 use Rattle.markdown_run_text.specs.OpenStarts.{brackets_of}

@@ -32,7 +32,6 @@ use Rattle.markdown_model.specs.LabelEnd.{Element}
 use Rattle.markdown_model.specs.Pairs.{pair_list}
 use Rattle.markdown_model.specs.Passes.{labels_of, merged}
 use Rattle.markdown_model.specs.Setting.{Setting, within}
-use Rattle.markdown_plan.specs.Characters.{bytes_of}
 use Rattle.markdown_run_text.specs.ElementsAsRead.{AreReadAs, Source, source_of}
 use Rattle.markdown_run_text.specs.RunOverElements.{AllElements, Finishes, StandsAfter}
 use Rattle.markdown_run_text.specs.RowStart.{IsFreshRow}

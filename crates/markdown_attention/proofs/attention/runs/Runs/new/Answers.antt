@@ -1,7 +1,8 @@
-use Rattle.std.proofs.Common.{sym, subst}
+use Rattle.std.proofs.Common.{◌∙◌, sym, subst, refl}
 use Rattle.markdown_attention.specs.RunsOfTree.{HasRows}
 use Rattle.markdown_attention.proofs.RunsOfTreeLemmas.{rows-of-events}
 use Rattle.markdown_attention.proofs.RunsReadLemmas.{all-read}
+use Rattle.markdown_attention.proofs.RunsWithoutContent.{same-runs}
 use Rattle.std.proofs.Common.{arith}
 use Rattle.markdown_attention.proofs.attention.runs.Runs.new.Goals as goal
 use Rattle.markdown_model.specs.Setting.{within}
@@ -38,6 +39,9 @@ returns-in-Ok-clause-containers c = λ i l.
 
 pub returns-in-Ok-clause-rows : goal.returns-in-Ok-clause-rows
 returns-in-Ok-clause-rows c = λ s t given has is.
-    subst (λ list. HasRows (within (leaf_codes t) s) t list) (sym c.in-Ok.ensures.is)
-    (rows-of-events (within (leaf_codes t) s) c.args.tokenizer.now.parse_state.now.options.now c.args.tokenizer.now.parse_state.now.bytes.now c.args.tokenizer.now.cursor.codes
-    given.bytes given.options given.codes t has c.args.tokenizer.now.events is)
+    let options = c.args.tokenizer.now.parse_state.now.options.now in
+    let bytes = c.args.tokenizer.now.parse_state.now.bytes.now in
+    let events = c.args.tokenizer.now.events in
+    subst (λ list. HasRows (within (leaf_codes t) s) t list)
+    (sym (c.in-Ok.ensures.is ∙ same-runs options bytes c.args.tokenizer.now.cursor.codes (leaf_codes t) events (λ on. sym (given.codes on))))
+    (rows-of-events (within (leaf_codes t) s) options bytes (leaf_codes t) given.bytes given.options refl t has events is)
