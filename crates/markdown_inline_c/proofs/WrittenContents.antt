@@ -11,6 +11,7 @@ use Rattle.markdown_content.specs.declared.parser.ParseState.{ParseState}
 use Rattle.markdown_html.specs.Brought.{brought}
 use Rattle.markdown_html.specs.View.{page_from}
 use Rattle.markdown_html_model.specs.Html.{Defined, Page, calls_behind, html}
+use Rattle.markdown_html_model.specs.Resolved.{decoding_of}
 use Rattle.markdown_html_model.specs.declared.options.HtmlOptions.{HtmlOptions}
 use Rattle.markdown_model.specs.Setting.{Setting}
 use Rattle.markdown_run_text.specs.RunSetting.{setting_of}
@@ -196,6 +197,7 @@ same_page d i targets options definitions allowed s e a =
     let of_parts : Setting → List Defined → HtmlOptions → Page = λ asked defined may. record {
       bytes = asked.bytes;
       footnotes_on = asked.options.constructs.gfm_label_start_footnote;
+      decoding = decoding_of asked.options;
       definitions = defined;
       options = may;
     } in

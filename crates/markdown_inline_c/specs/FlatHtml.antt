@@ -6,6 +6,7 @@ use Rattle.markdown_content.specs.DefaultOptions.{has_option, options_of}
 use Rattle.markdown_content.specs.Tree.{Forest}
 use Rattle.markdown_html.specs.Brought.{brought}
 use Rattle.markdown_html_model.specs.Html.{Defined, Page, html}
+use Rattle.markdown_html_model.specs.Resolved.{decoding_of}
 use Rattle.markdown_html_model.specs.declared.options.HtmlOptions.{HtmlOptions}
 use Rattle.markdown_html_model.specs.declared.options.LineEnds.{LineEnds}
 use Rattle.markdown_model.specs.InlineTree.{text_tree}
@@ -60,6 +61,7 @@ abbrev pub page : Input → List FlatTarget → ℕ → Page
 page i targets options = record {
   bytes = i.bytes.now;
   footnotes_on = footnotes_on i;
+  decoding = decoding_of (options_of i.options);
   definitions = defined_by i.labels.now i.definitions.now targets;
   options = html_options_of options;
 }
