@@ -408,7 +408,7 @@ static void test_html(void) {
     input.definitions = &label;
     count = 77;
     want("more than the limit", markdown_inline_html(&input, &two_bytes, 1, 0, 1, found, 64, &count) == MARKDOWN_INLINE_REFERENCES && count == 77);
-    want("no more than the limit", markdown_inline_html(&input, &two_bytes, 1, 0, 2, found, 64, &count) == MARKDOWN_INLINE_DONE && count == 18);
+    want("no more than the limit", markdown_inline_html(&input, &two_bytes, 1, 0, 2, found, 64, &count) == MARKDOWN_INLINE_DONE && count == 20);
     memset(&input, 0, sizeof input);
     want("HTML of nothing", markdown_inline_html(&input, NULL, 0, 0, 0, NULL, 0, &count) == MARKDOWN_INLINE_DONE && count == 0);
 }
