@@ -9,7 +9,7 @@ use crate::packed::{PackedList, PackedSlice};
 use crate::util::edit_map::Kept;
 use crate::util::edits_in_place::{Fit, apply_fit};
 use crate::whole;
-use markdown_event::event::Event;
+use markdown_event::event::{Event, Point};
 use markdown_event::seq::Seq;
 use std::alloc::{AllocError, Global};
 use std::fmt;
@@ -43,6 +43,30 @@ impl Model for EventList {
     ghost Value = { List Event };
 
     ghost view = { λ s. stored_events s.stored };
+}
+
+// The same event, put together anew: so what hands it on to a call that is rare has it in memory of its own, and the other does without.
+#[inline(always)]
+fn apart(event: Event) -> Event
+    ensures { result ≡ event }
+{
+    let Point {
+        line,
+        column,
+        index,
+        vs,
+    } = event.point;
+    Event {
+        kind: event.kind,
+        name: event.name,
+        point: Point {
+            line,
+            column,
+            index,
+            vs,
+        },
+        link: event.link,
+    }
 }
 
 impl EventList {
@@ -119,13 +143,16 @@ impl EventList {
         Ok(Seq::from_vec(self.as_slice().to_vec(self.alloc)?))
     }
 
-    // Adds an event that does not fit.
+    // Adds an event that does not fit, or one to events that stand as they are.
     #[cold]
     #[inline(never)]
     fn push_whole(&mut self, event: Event) -> Result<(), AllocError>
         ensures ok { OnOk result (self.new ≡ self.old ++ event ∷ []) }
         ensures err { OnErr result (self.new ≡ self.old) }
     {
+        if let Stored::Whole(list) = &mut self.stored {
+            return list.push(event);
+        }
         let mut list = self.whole()?;
         list.push(event)?;
         self.stored = Stored::Whole(list);
@@ -140,11 +167,12 @@ impl EventList {
         ensures ok { OnOk result (self.new ≡ self.old ++ event ∷ []) }
         ensures err { OnErr result (self.new ≡ self.old) }
     {
-        let fits = match &mut self.stored {
-            Stored::Packed(list) => list.push(event)?,
-            Stored::Whole(list) => return list.push(event),
-        };
-        if fits { Ok(()) } else { self.push_whole(event) }
+        if let Stored::Packed(list) = &mut self.stored {
+            if list.push(event)? {
+                return Ok(());
+            }
+        }
+        self.push_whole(apart(event))
     }
 
     /// Keeps the first `n` events, or all if there are fewer.

@@ -159,14 +159,14 @@ impl<T: Drop> Seq<T> {
     /// Adds an item at the end.
     ///
     /// `Err` only if memory is refused; the list is then as it was.
+    #[inline(always)]
     pub fn push(&mut self, item: T) -> Result<(), AllocError>
         ensures ok { OnOk result (self.new ≡ self.old ++ item ∷ []) }
         ensures err { OnErr result (self.new ≡ self.old) }
     {
-        match self.items.push(item) {
-            Ok(()) => Ok(()),
-            Err(_) => Err(AllocError),
-        }
+        self.items.reserve(1)?;
+        self.items.push_reserved(item);
+        Ok(())
     }
 
     /// Adds an item in front.
@@ -290,14 +290,14 @@ impl<T: Drop> Stack<T> {
     /// Puts an item on top.
     ///
     /// `Err` only if memory is refused; the stack is then as it was.
+    #[inline(always)]
     pub fn push(&mut self, item: T) -> Result<(), AllocError>
         ensures ok { OnOk result (self.new ≡ item ∷ self.old) }
         ensures err { OnErr result (self.new ≡ self.old) }
     {
-        match self.bottom_up.push(item) {
-            Ok(()) => Ok(()),
-            Err(_) => Err(AllocError),
-        }
+        self.bottom_up.reserve(1)?;
+        self.bottom_up.push_reserved(item);
+        Ok(())
     }
 
     /// Takes the top off, if there is one.
