@@ -340,6 +340,7 @@ impl<'a> Tokenizer<'a> {
     }
 
     // Appends an event; a refused growth is kept in mind.
+    #[inline(always)]
     fn append(&mut self, event: Event) -> Result<(), AllocError>
         requires { IsFresh event }
         ensures ok { OnOk result (self.new ≡ record self.old { events = self.old.events ++ event ∷ [] }) }
