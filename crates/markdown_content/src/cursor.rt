@@ -391,6 +391,7 @@ impl<'a> Cursor<'a> {
     }
 
     /// Moves past the codes at the place up to a line ending, one of these bytes or the end, and answers the code there.
+    #[inline(always)]
     pub fn seek(&mut self, stops: &ByteSet) -> Option<u8>
         ensures place { self.new ≡ past_stretch stops.now self.old }
         ensures code { result ≡ code_at self.new }
