@@ -80,18 +80,14 @@ fn spaced(byte: u8) -> u8
 fn on_one_line(alloc: Global, inside: &[u8]) -> Result<Vec<u8>, AllocError>
     ensures { IfOk result (λ text. text.items ≡ map (λ b. if b == 10 then 32 else b) inside.now) }
 {
-    let mut text = Vec::new(alloc);
-    for byte in inside {
-        text.push(spaced(*byte))?;
-    }
-    Ok(text)
+    inside.iter().map(|byte| spaced(*byte)).collect(alloc)
 }
 
 // Whether a text goes over more than one line.
 fn has_line_feed(text: &[u8]) -> bool
     ensures { result ≡ list_any (λ b. b == 10) text.now }
 {
-    text.iter().any(|byte| *byte == b'\n')
+    text.contains(&b'\n')
 }
 
 // Appends a span, of which this is the text.
