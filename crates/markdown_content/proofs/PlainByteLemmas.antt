@@ -98,18 +98,25 @@ shut-row : (pieces : List Piece) (k : ℕ) (q : Point) (d : Piece) → k < lengt
 shut-row pieces k q d lt i v =
     ap (λ (x : List Piece). is_open (place_of q) x) (drop_more pieces k d lt) ∙ ap not (and_from (q.index == (get_or pieces k d).end.0) (q.vs == (get_or pieces k d).end.1) (eq-eqb q.index (get_or pieces k d).end.0 i) (eq-eqb q.vs (get_or pieces k d).end.1 v))
 
+-- past an ordinary byte of the last piece
+pub past_last : {bytes : List ℕ} {pieces : List Piece} {k : ℕ} {p e : Point} {before : Option ℕ} {n : ℕ} →
+    IsCursor bytes pieces k p e before n → (d : Piece) → k + 1 ≡ length pieces → p.index < (get_or pieces k d).end.0 →
+    13 < get_or bytes p.index 0 →
+    IsCursor bytes pieces k (next_column p (p.index + 1) 0) (next_column p (p.index + 1) 0) (Some (get_or bytes p.index 0)) (n + 1)
+past_last {bytes} {pieces} {k} {p} {e} {before} {n} h d last here plain =
+    let b : ℕ = get_or bytes p.index 0 in
+    let q : Point = next_column p (p.index + 1) 0 in
+    let byte : IsByte bytes pieces p n = plain_byte h d (omega (arith, last)) here plain in
+    cursor_next (content_place bytes pieces n) k b q q h refl (some-here (code_at (content_place bytes pieces n)) b byte.code) byte.value byte.stop (followed-last bytes pieces k q (omega (arith, last)))
+
 -- behind an ordinary byte that ends the last piece there is no code
 pub plain_last : {bytes : List ℕ} {pieces : List Piece} {k : ℕ} {p e : Point} {before : Option ℕ} {n : ℕ} →
     IsCursor bytes pieces k p e before n → (d : Piece) → k + 1 ≡ length pieces →
     p.index + 1 ≡ (get_or pieces k d).end.0 → 0 ≡ (get_or pieces k d).end.1 → 13 < get_or bytes p.index 0 →
     code_at (content_place bytes pieces (n + 1)) ≡ None
 plain_last {bytes} {pieces} {k} {p} {e} {before} {n} h d last i v plain =
-    let lt : k < length pieces = omega (arith, last) in
-    let b : ℕ = get_or bytes p.index 0 in
     let q : Point = next_column p (p.index + 1) 0 in
-    let byte : IsByte bytes pieces p n = plain_byte h d lt (omega (arith, i)) plain in
-    let past : IsCursor bytes pieces k q q (Some b) (n + 1) = cursor_next (content_place bytes pieces n) k b q q h refl (some-here (code_at (content_place bytes pieces n)) b byte.code) byte.value byte.stop (followed-last bytes pieces k q (omega (arith, last))) in
-    sym (cursor_end past (shut-row pieces k q d lt i v))
+    sym (cursor_end (past_last h d last (omega (arith, i)) plain) (shut-row pieces k q d (omega (arith, last)) i v))
 
 -- the code at a line feed is a line ending
 pub feed_code : {bytes : List ℕ} {pieces : List Piece} {k : ℕ} {p e : Point} {before : Option ℕ} {n : ℕ} →

@@ -145,12 +145,13 @@ along-more p m =
     ap (λ (c : ℕ). record { line = p.line; column = c; index = p.index + m + 1; vs = 0 }) (omega arith)
     ∙ ap (λ (i : ℕ). record { line = p.line; column = p.column + (m + 1); index = i; vs = 0 }) (omega arith)
 
-one-past : {bytes : List ℕ} {pieces : List Piece} {k : ℕ} {p e : Point} {before : Option ℕ} {n : ℕ} (ms : List ℕ) →
-    IsCursor bytes pieces k p e before n → (d : Piece) → k < length pieces → p.index + 1 < (get_or pieces k d).end.0 →
+-- past an ordinary byte it is as far
+pub past-byte : {bytes : List ℕ} {pieces : List Piece} {k : ℕ} {p e : Point} {before : Option ℕ} {n : ℕ} (ms : List ℕ) →
+    IsCursor bytes pieces k p e before n → (d : Piece) → k < length pieces → p.index < (get_or pieces k d).end.0 →
     is_plain ms (get_or bytes p.index 0) ≡ true →
     past_stretch ms (content_place bytes pieces n) ≡ past_stretch ms (content_place bytes pieces (n + 1))
-one-past {bytes} {pieces} {k} {p} {e} {before} {n} ms h d lt fits plain =
-    past-one ms (content_place bytes pieces n) (ap (is_free ms) (plain_code h d lt (omega (arith, fits)) (plain-parts ms _ plain).0) ∙ free-byte ms (get_or bytes p.index 0) plain)
+past-byte {bytes} {pieces} {k} {p} {e} {before} {n} ms h d lt here plain =
+    past-one ms (content_place bytes pieces n) (ap (is_free ms) (plain_code h d lt here (plain-parts ms _ plain).0) ∙ free-byte ms (get_or bytes p.index 0) plain)
     ∙ ap (past_stretch ms) (moved_is bytes pieces n)
 
 run-first : {bytes : List ℕ} {pieces : List Piece} {k : ℕ} {p e : Point} {before : Option ℕ} {n : ℕ} (ms : List ℕ) →
@@ -160,7 +161,7 @@ run-first {bytes} {pieces} {k} {p} {e} {before} {n} ms h d lt fits plain =
     let last : p.index ≡ p.index + 1 - 1 = omega arith in
     record {
       cursor = subst (λ (i : ℕ). IsCursor bytes pieces k (along p 1) (along p 1) (Some (get_or bytes i 0)) (n + 1)) last (plain_next h d lt fits (plain-parts ms _ plain).0);
-      past = one-past ms h d lt fits plain;
+      past = past-byte ms h d lt (omega (arith, fits)) plain;
     }
 
 run-more : {bytes : List ℕ} {pieces : List Piece} {k : ℕ} {p : Point} {n m : ℕ} (ms : List ℕ) →
@@ -174,7 +175,7 @@ run-more {bytes} {pieces} {k} {p} {n} {m} ms h d lt fits plain =
     subst (λ (x : Point). IsCursor bytes pieces k x x (Some (get_or bytes (p.index + m) 0)) (n + m + 1)) (along-more p m) (plain_next h.cursor d lt fits (plain-parts ms _ plain).0) in
     record {
       cursor = subst (λ (i : ℕ). IsCursor bytes pieces k q q (Some (get_or bytes i 0)) (n + (m + 1))) last (subst (λ (c : ℕ). IsCursor bytes pieces k q q (Some (get_or bytes (p.index + m) 0)) c) count here);
-      past = h.past ∙ one-past ms h.cursor d lt fits plain ∙ ap (λ (c : ℕ). past_stretch ms (content_place bytes pieces c)) count;
+      past = h.past ∙ past-byte ms h.cursor d lt (omega (arith, fits)) plain ∙ ap (λ (c : ℕ). past_stretch ms (content_place bytes pieces c)) count;
     }
 
 -- past m + 1 ordinary bytes that are not the last of their piece

@@ -1,5 +1,5 @@
 //! A place in a content, which hides the pieces, the tabs and what is left out of the lines.
-ghost use Rattle.std.specs.Prelude.{◌≡◌, ◌∷◌, [], ℕ, List, drop, length, nat_le, ◌<◌, ◌≤◌, true, false, IsSome, IfSome, IsTrue};
+ghost use Rattle.std.specs.Prelude.{◌≡◌, ◌∷◌, [], ℕ, List, drop, length, nat_le, ◌<◌, ◌≤◌, true, false, None, IsSome, IfSome, IsTrue};
 ghost use Rattle.markdown_content.specs.Beside.{has_code_before, has_code_behind};
 ghost use Rattle.markdown_content.specs.Codes.{count_among, line_feed, place_of};
 ghost use Rattle.markdown_content.specs.Content.{IsContent, has_no_blank_line};
@@ -298,10 +298,45 @@ impl<'a> Cursor<'a> {
             return None;
         }
         end.pass_plain(stops);
-        if !end.stands_at_stop(stops) {
+        if end.stands_at_stop(stops) {
+            return Some(end);
+        }
+        if !end.pass_last(stops) {
             return None;
         }
         Some(end)
+    }
+
+    // Moves past the code at the place where that is the last of the content, and an ordinary byte, and answers whether it is.
+    #[inline(always)]
+    fn pass_last(&mut self, stops: &ByteSet) -> bool
+        ensures past { IsTrue result → past_stretch stops.now self.new ≡ past_stretch stops.now self.old }
+        ensures end { IsTrue result → code_at self.new ≡ None }
+    {
+        if self.piece >= self.pieces.len() || self.piece + 1 < self.pieces.len() {
+            return false;
+        }
+        let end = self.pieces[self.piece].end;
+        let here = self.point;
+        let passed = self.passed;
+        if end.1 != 0 || here.index + 1 != end.0 {
+            return false;
+        }
+        let last = self.bytes[here.index];
+        if !stops.is_plain(last) {
+            return false;
+        }
+        let past = Point {
+            line: here.line,
+            column: here.column + 1,
+            index: here.index + 1,
+            vs: 0,
+        };
+        self.point = past;
+        self.exit = past;
+        self.previous = Some(last);
+        self.passed = passed + 1;
+        true
     }
 
     // The code behind the code at the place, whatever both are, and wherever in their pieces.
