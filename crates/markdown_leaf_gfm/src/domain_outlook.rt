@@ -272,6 +272,7 @@ fn underscores() -> ByteSet
 }
 
 // Moves to the next `_` or line ending, and answers the code there.
+#[inline(always)]
 fn seek(place: &mut Cursor, marks: &ByteSet) -> Option<u8>
     ensures place { place.new ≡ past_stretch marks.now place.old }
     ensures code { result ≡ code_at place.new }
