@@ -382,10 +382,11 @@ uint32_t markdown_inline_leaves(const markdown_inline_input *input, markdown_inl
  * the array, and `*count` is how many bytes it has. TOO_SMALL, NOT_UTF8 and NO_MEMORY are as above. */
 uint32_t markdown_inline_identifier(const uint8_t *label, size_t label_len, uint8_t *identifier, size_t identifier_len, size_t *count);
 
-/* Finds the text that a character reference stands for, in UTF-8. The bytes are the whole reference, with its `&` and its `;`. DONE: the text stands
- * at the front of the array, and `*count` is how many bytes it has. NO_REFERENCE: they are none, or its name is not known. TOO_SMALL and NO_MEMORY
- * are as above. */
-uint32_t markdown_inline_reference(const uint8_t *reference, size_t reference_len, uint8_t *text, size_t text_len, size_t *count);
+/* Finds the text that a character reference stands for, in UTF-8. The bytes are the whole reference, with its `&` and its `;`. The options are those of
+ * an input: MARKDOWN_INLINE_OPTION_HTML_REFERENCES and MARKDOWN_INLINE_OPTION_COMMONMARK_RULES say that each name of HTML is known, and the latter says
+ * too that a number stands for a control or a noncharacter; the other bits change nothing. DONE: the text stands at the front of the array, and
+ * `*count` is how many bytes it has. NO_REFERENCE: they are none, or its name is not known. UNKNOWN_OPTION, TOO_SMALL and NO_MEMORY are as above. */
+uint32_t markdown_inline_reference(uint32_t options, const uint8_t *reference, size_t reference_len, uint8_t *text, size_t text_len, size_t *count);
 
 /* Calls for many contents or strings read one after another, and write what they find in each at the front of an array, one behind another; at the front of
  * `ends` they write for each how many elements end with it. As many of the first are written as have room whole, with an end each: nothing else of the two
@@ -436,16 +437,16 @@ uint32_t markdown_inline_htmls(const markdown_inline_input *input, const markdow
     size_t ends_len, markdown_inline_outcome *outcome);
 
 /* Finds the texts of strings: of a link's destination or title, of a definition's, of an info string. Escaped punctuation stands in place of its escape, and
- * in place of each character reference its text (CommonMark 2.4 and 2.5), by HTML's names as far as they are known; all other bytes stay, line endings and NUL
- * among them. Options are not looked at.
+ * in place of each character reference its text (CommonMark 2.4 and 2.5); all other bytes stay, line endings and NUL among them. The options are those of
+ * an input, and say what markdown_inline_reference says by them: so take those by which the document is read.
  *
  * A part is a range of the bytes, in any order; a string is a range of numbers of parts, whose bytes are one text. Where a string stands in a paragraph, its
  * parts are what the events Data and LineEnding between the Enter and the Exit of ResourceDestinationString or ResourceTitleString cover: so prefixes of lines,
  * and whitespace that begins them, are no part of it. A string that stands alone is one part; an empty one may have none.
  *
  * The texts are written as calls for many write. NO_STRING: a string has a part that is not given, or one that is no text of the bytes. By the names that are
- * known, no text is longer than its parts; that is tested and not proved. */
-uint32_t markdown_inline_strings(const uint8_t *bytes, size_t bytes_len, const markdown_inline_range *parts, size_t parts_len,
+ * known without an option, no text is longer than its parts, and by all names of HTML it is longer by a fifth at most; that is tested and not proved. */
+uint32_t markdown_inline_strings(uint32_t options, const uint8_t *bytes, size_t bytes_len, const markdown_inline_range *parts, size_t parts_len,
     const markdown_inline_range *strings, size_t strings_len, uint8_t *texts, size_t texts_len, size_t *ends, size_t ends_len, markdown_inline_outcome *outcome);
 
 /* What a status says, or a null pointer for a number that is none. */

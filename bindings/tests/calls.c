@@ -185,10 +185,30 @@ static void want_reference(const char *reference, const char *text) {
     size_t count = 77, len = strlen(text);
     memset(found, 1, sizeof found);
     memset(before, 1, sizeof before);
-    uint32_t status = markdown_inline_reference((const uint8_t *)reference, strlen(reference), found, len - 1, &count);
+    uint32_t status = markdown_inline_reference(MARKDOWN_INLINE_COMMONMARK, (const uint8_t *)reference, strlen(reference), found, len - 1, &count);
     want(reference, status == MARKDOWN_INLINE_TOO_SMALL && count == len && !memcmp(found, before, 16));
-    status = markdown_inline_reference((const uint8_t *)reference, strlen(reference), found, 16, &count);
+    status = markdown_inline_reference(MARKDOWN_INLINE_COMMONMARK, (const uint8_t *)reference, strlen(reference), found, 16, &count);
     want(reference, status == MARKDOWN_INLINE_DONE && count == len && !memcmp(found, text, len) && !memcmp(found + len, before, 16 - len));
+}
+
+/* Which names are known, and whether a control is kept, is said by the options; other bits change nothing, and an unknown one is refused first. */
+static void test_references_by_options(void) {
+    static const struct {
+        uint32_t options;
+        const char *reference, *text;
+    } rows[] = {{MARKDOWN_INLINE_COMMONMARK, "&check;", NULL}, {0, "&check;", NULL}, {MARKDOWN_INLINE_OPTION_HTML_REFERENCES, "&check;", "\xe2\x9c\x93"},
+        {MARKDOWN_INLINE_OPTION_COMMONMARK_RULES, "&check;", "\xe2\x9c\x93"}, {MARKDOWN_INLINE_OPTION_HTML_REFERENCES, "&nosuch;", NULL},
+        {0, "&#1;", "\xef\xbf\xbd"}, {MARKDOWN_INLINE_OPTION_HTML_REFERENCES, "&#1;", "\xef\xbf\xbd"}, {MARKDOWN_INLINE_OPTION_COMMONMARK_RULES, "&#1;", "\x01"},
+        {MARKDOWN_INLINE_OPTION_COMMONMARK_RULES, "&#xfffe;", "\xef\xbf\xbe"}, {MARKDOWN_INLINE_OPTION_COMMONMARK_RULES, "&#0;", "\xef\xbf\xbd"}, {0, "&amp;", "&"}};
+    for (size_t at = 0; at < sizeof rows / sizeof *rows; at++) {
+        uint8_t found[16];
+        size_t count = 77, len = rows[at].text ? strlen(rows[at].text) : 77;
+        uint32_t status = markdown_inline_reference(rows[at].options, (const uint8_t *)rows[at].reference, strlen(rows[at].reference), found, 16, &count);
+        want(rows[at].reference, status == (rows[at].text ? (uint32_t)MARKDOWN_INLINE_DONE : (uint32_t)MARKDOWN_INLINE_NO_REFERENCE) && count == len);
+        if (rows[at].text) want(rows[at].reference, count == len && !memcmp(found, rows[at].text, len));
+    }
+    size_t count = 77;
+    want("an unknown option of a reference", markdown_inline_reference(0x800000, (const uint8_t *)"a", 1, NULL, 0, &count) == MARKDOWN_INLINE_UNKNOWN_OPTION && count == 77);
 }
 
 static void test_references(void) {
@@ -203,11 +223,12 @@ static void test_references(void) {
     for (size_t at = 0; at < sizeof none / sizeof *none; at++) {
         uint8_t found = 1;
         size_t count = 77;
-        uint32_t status = markdown_inline_reference((const uint8_t *)none[at], strlen(none[at]), &found, 1, &count);
+        uint32_t status = markdown_inline_reference(MARKDOWN_INLINE_COMMONMARK, (const uint8_t *)none[at], strlen(none[at]), &found, 1, &count);
         want(none[at], status == MARKDOWN_INLINE_NO_REFERENCE && count == 77 && found == 1);
     }
+    test_references_by_options();
     size_t count = 77;
-    want("no bytes are no reference", markdown_inline_reference(NULL, 0, NULL, 0, &count) == MARKDOWN_INLINE_NO_REFERENCE && count == 77);
+    want("no bytes are no reference", markdown_inline_reference(MARKDOWN_INLINE_COMMONMARK, NULL, 0, NULL, 0, &count) == MARKDOWN_INLINE_NO_REFERENCE && count == 77);
 }
 
 /* A document with a task, and a block quote of two lines, and contents of it. */
@@ -433,21 +454,28 @@ static void test_strings(void) {
         size_t written = done > 0 ? ends_wanted[done - 1] : 0;
         memset(found, 1, sizeof found);
         memset(ends, 1, sizeof ends);
-        uint32_t status = markdown_inline_strings(bytes, len, parts, 10, strings, 6, found, room, ends, 8, &outcome);
+        uint32_t status = markdown_inline_strings(MARKDOWN_INLINE_COMMONMARK, bytes, len, parts, 10, strings, 6, found, room, ends, 8, &outcome);
         want("a status by the room for strings", status == (done < 6 ? (uint32_t)MARKDOWN_INLINE_TOO_SMALL : (uint32_t)MARKDOWN_INLINE_DONE));
         want("how much strings want", is_outcome(&outcome, done, wanted, MARKDOWN_INLINE_NONE));
         want("the texts of strings", !memcmp(found, texts, written) && !memcmp(found + written, before, 64 - written));
         want("the ends of strings", !memcmp(ends, ends_wanted, done * sizeof *ends) && !memcmp(ends + done, ends_before, (8 - done) * sizeof *ends));
     }
-    want("no room for ends of strings", markdown_inline_strings(bytes, len, parts, 10, strings, 6, found, 64, ends, 5, &outcome) == MARKDOWN_INLINE_TOO_SMALL);
+    want("no room for ends of strings", markdown_inline_strings(MARKDOWN_INLINE_COMMONMARK, bytes, len, parts, 10, strings, 6, found, 64, ends, 5, &outcome) == MARKDOWN_INLINE_TOO_SMALL);
     want("as many strings as have ends", is_outcome(&outcome, 5, wanted, MARKDOWN_INLINE_NONE));
     for (size_t at = 6; at < 12; at++) {
         markdown_inline_range wrong[] = {{0, 1}, {at, at + 1}};
         if (at == 11) wrong[1] = (markdown_inline_range){1, 0};
-        want("a string of no text", markdown_inline_strings(bytes, len, parts, 10, wrong, 2, found, 64, ends, 8, &outcome) == MARKDOWN_INLINE_NO_STRING);
+        want("a string of no text", markdown_inline_strings(MARKDOWN_INLINE_COMMONMARK, bytes, len, parts, 10, wrong, 2, found, 64, ends, 8, &outcome) == MARKDOWN_INLINE_NO_STRING);
         want("which string is no text", is_outcome(&outcome, 1, past, 1));
     }
-    want("no strings", markdown_inline_strings(NULL, 0, NULL, 0, NULL, 0, NULL, 0, NULL, 0, &outcome) == MARKDOWN_INLINE_DONE && is_outcome(&outcome, 0, 0, MARKDOWN_INLINE_NONE));
+    static const markdown_inline_range check[] = {{0, 7}}, one[] = {{0, 1}};
+    want("a string by all names", markdown_inline_strings(MARKDOWN_INLINE_OPTION_HTML_REFERENCES, (const uint8_t *)"&check;", 7, check, 1, one, 1, found, 64, ends, 8, &outcome) == MARKDOWN_INLINE_DONE);
+    want("the text by all names", is_outcome(&outcome, 1, 3, MARKDOWN_INLINE_NONE) && !memcmp(found, "\xe2\x9c\x93", 3));
+    want("a string by the names without an option", markdown_inline_strings(0, (const uint8_t *)"&check;", 7, check, 1, one, 1, found, 64, ends, 8, &outcome) == MARKDOWN_INLINE_DONE);
+    want("the text as it stands", is_outcome(&outcome, 1, 7, MARKDOWN_INLINE_NONE) && !memcmp(found, "&check;", 7));
+    want("an unknown option of strings", markdown_inline_strings(0x800000, bytes, len, parts, 10, strings, 6, found, 64, ends, 8, &outcome) == MARKDOWN_INLINE_UNKNOWN_OPTION);
+    want("no string is read then", is_outcome(&outcome, 0, 0, MARKDOWN_INLINE_NONE));
+    want("no strings", markdown_inline_strings(MARKDOWN_INLINE_COMMONMARK, NULL, 0, NULL, 0, NULL, 0, NULL, 0, NULL, 0, &outcome) == MARKDOWN_INLINE_DONE && is_outcome(&outcome, 0, 0, MARKDOWN_INLINE_NONE));
 }
 
 /* A document of three paragraphs, with its definition behind its labels: `d` leads to `/e` with the title `f`; and a footnote `g`. */
@@ -697,11 +725,11 @@ static int call_once(const char *call) {
     if (!strcmp(call, "html")) return (int)markdown_inline_html(&input, &target, 1, 0, 0, bytes, 512, &count);
     if (!strcmp(call, "strings")) {
         static const markdown_inline_range parts[] = {{0, 3}, {4, 9}}, strings[] = {{0, 2}, {1, 2}};
-        return (int)markdown_inline_strings((const uint8_t *)"a\\* &amp;", 9, parts, 2, strings, 2, bytes, 512, ends, 2, &outcome);
+        return (int)markdown_inline_strings(MARKDOWN_INLINE_COMMONMARK, (const uint8_t *)"a\\* &amp;", 9, parts, 2, strings, 2, bytes, 512, ends, 2, &outcome);
     }
     if (!strcmp(call, "htmls")) return (int)markdown_inline_htmls(&input, &target, 1, contents, 2, 0, 100, bytes, 512, ends, 2, &outcome);
     if (!strcmp(call, "identifier")) return (int)markdown_inline_identifier((const uint8_t *)" A  B ", 6, bytes, 512, &count);
-    if (!strcmp(call, "reference")) return (int)markdown_inline_reference((const uint8_t *)"&amp;", 5, bytes, 512, &count);
+    if (!strcmp(call, "reference")) return (int)markdown_inline_reference(MARKDOWN_INLINE_COMMONMARK, (const uint8_t *)"&amp;", 5, bytes, 512, &count);
     return (int)markdown_inline_text(&input, events, 256, &count);
 }
 

@@ -18,6 +18,7 @@ class Calls(unittest.TestCase):
     def test_each_error_comes(self):
         for error, status, call in (
             (UnknownOption, 2, lambda: text('a', options=1 << 31)), (UnknownOption, 2, lambda: string('a', options=1 << 31)),
+            (UnknownOption, 2, lambda: reference('&amp;', options=1 << 31)), (UnknownOption, 2, lambda: strings('a', [[(0, 1)]], options=1 << 31)),
             (NotUtf8, 3, lambda: text(b'\xff')), (NotUtf8, 3, lambda: text('\ud800')), (NotUtf8, 3, lambda: string(b'\xff')),
             (BlankLine, 4, lambda: text('a\n\nb')), (BlankLine, 4, lambda: text('a\n')), (NoContent, 7, lambda: text('a', [(0, 9)])),
             (NoContent, 7, lambda: string('a', [(1, 0)])), (DefinitionError, 8, lambda: text('a', definitions=[b'\xff'])),
@@ -71,6 +72,14 @@ class Calls(unittest.TestCase):
         self.assertEqual([reference(it) for it in ('&nbsp;', '&#32;', '&#10;', '&#x9;')], ['\xa0', ' ', '\n', '\t'])
         for given in (' &amp;', '&amp; ', '&amp', 'amp;', '&;'):
             self.assertRaises(NoReference, reference, given)
+
+    def test_references_are_decoded_by_options(self):
+        names, rules = OPTIONS['html_references'], OPTIONS['commonmark']
+        self.assertRaises(NoReference, reference, '&check;')
+        self.assertEqual([reference('&check;', options=it) for it in (names, rules)], ['\u2713', '\u2713'])
+        self.assertEqual([reference('&#1;', options=it) for it in (COMMONMARK, names, rules)], ['\ufffd', '\ufffd', '\x01'])
+        self.assertEqual([strings('&check;', [[(0, 7)]], options=it) for it in (None, 0, names)], [['&check;'], ['&check;'], ['\u2713']])
+        self.assertEqual(strings('&nGt;' * 500, [[(0, 2500)]], options=rules), ['\u226b\u20d2' * 500])
 
     def test_each_switch(self):
         """Each switch means its bits, of each call that has it, and changes what the call finds."""

@@ -492,12 +492,12 @@ static uint32_t made(which call, const drawn *it, void *array, size_t len) {
     case LEAVES: return markdown_inline_leaves(input, (markdown_inline_leaf *)array, len, count);
     case HTML: return markdown_inline_html(input, targets, it->targets_len, it->html_options, it->limit, (uint8_t *)array, len, count);
     case IDENTIFIER: return markdown_inline_identifier(input->labels, input->labels_len, (uint8_t *)array, len, count);
-    case REFERENCE: return markdown_inline_reference(input->labels, input->labels_len, (uint8_t *)array, len, count);
+    case REFERENCE: return markdown_inline_reference(input->options, input->labels, input->labels_len, (uint8_t *)array, len, count);
     case TEXTS: return markdown_inline_texts(input, contents, it->contents_len, (markdown_inline_event *)array, len, ends, ends_len, outcome);
     case SHORT_TEXTS: return markdown_inline_short_texts(input, contents, it->contents_len, (markdown_inline_short_event *)array, len, ends, ends_len, outcome);
     case HTMLS:
         return markdown_inline_htmls(input, targets, it->targets_len, contents, it->contents_len, it->html_options, it->limit, (uint8_t *)array, len, ends, ends_len, outcome);
-    default: return markdown_inline_strings(input->labels, input->labels_len, parts, parts_len, strings, it->contents_len, (uint8_t *)array, len, ends, ends_len, outcome);
+    default: return markdown_inline_strings(input->options, input->labels, input->labels_len, parts, parts_len, strings, it->contents_len, (uint8_t *)array, len, ends, ends_len, outcome);
     }
 }
 
@@ -762,11 +762,12 @@ static void look_at_htmls(const drawn *all) {
     }
 }
 
-/* The text of a string by its events: what stands in it but for backslashes of escapes, and what references stand for. */
-static size_t text_by_events(const uint8_t *bytes, size_t len, uint8_t *text) {
+/* The text of a string by its events: what stands in it but for backslashes of escapes, and what references stand for by these options. */
+static size_t text_by_events(uint32_t options, const uint8_t *bytes, size_t len, uint8_t *text) {
+    const uint32_t how = options & (MARKDOWN_INLINE_OPTION_HTML_REFERENCES | MARKDOWN_INLINE_OPTION_COMMONMARK_RULES);
     static markdown_inline_event events[16 * PARTS_MOST * BYTES];
     markdown_inline_piece piece = {0, 0, 0, 0};
-    markdown_inline_input one = {bytes, len, &piece, 1, NULL, 0, NULL, 0, NULL, 0, MARKDOWN_INLINE_COMMONMARK};
+    markdown_inline_input one = {bytes, len, &piece, 1, NULL, 0, NULL, 0, NULL, 0, MARKDOWN_INLINE_COMMONMARK | how};
     size_t events_len = 0, written = 0, more = 0;
     piece.end = len;
     want("a string of UTF-8 has events", markdown_inline_string(&one, events, sizeof events / sizeof *events, &events_len) == MARKDOWN_INLINE_DONE);
@@ -775,7 +776,7 @@ static size_t text_by_events(const uint8_t *bytes, size_t len, uint8_t *text) {
         if (events[at].kind != MARKDOWN_INLINE_ENTER) continue;
         if (events[at].name == MARKDOWN_INLINE_NAME_CHARACTER_REFERENCE) {
             while (events[stop].name != MARKDOWN_INLINE_NAME_CHARACTER_REFERENCE) stop++;
-            want("a reference in a string", markdown_inline_reference(bytes + start, events[stop].index - start, text + written, 16, &more) == MARKDOWN_INLINE_DONE);
+            want("a reference in a string", markdown_inline_reference(how, bytes + start, events[stop].index - start, text + written, 16, &more) == MARKDOWN_INLINE_DONE);
             written += more;
             at = stop;
         } else if (events[stop].kind == MARKDOWN_INLINE_EXIT && events[at].name != MARKDOWN_INLINE_NAME_CHARACTER_ESCAPE_MARKER) {
@@ -788,7 +789,7 @@ static size_t text_by_events(const uint8_t *bytes, size_t len, uint8_t *text) {
 
 /* Draws parts of the labels, and strings of them. */
 static void draw_strings(drawn *it, markdown_inline_range *drawn_parts, markdown_inline_range *drawn_strings) {
-    static const char *const PIECES_OF_STRINGS[] = {"a", "\\", "\\*", "\\a", "&", "&amp;", "&copy;", "&#0;", "&#x1f600;", "&nosuch;", "amp;", "#65;", ";", " ", "\t", "\n",
+    static const char *const PIECES_OF_STRINGS[] = {"a", "\\", "\\*", "\\a", "&", "&amp;", "&copy;", "&check;", "&nGt;", "&#0;", "&#1;", "&#x1f600;", "&nosuch;", "amp;", "#65;", ";", " ", "\t", "\n",
         "\r\n", "\r", "\xc3\xa9", "\xf0\x9f\x98\x80", "*", "[", "&lt;&gt;"};
     parts_len = below(PARTS_MOST + 1);
     it->labels_len = 0;
@@ -832,17 +833,19 @@ static void try_strings(drawn *it) {
     size_t wanted_ends[CONTENTS], wanted_len = 0, len = 0;
     it->contents_len = below(CONTENTS + 1);
     draw_strings(it, drawn_parts, drawn_strings);
-    for (model_reads = 0; model_reads < it->contents_len && is_joined(it, drawn_parts, drawn_strings[model_reads], joined, &len); model_reads++) {
-        size_t text_len = text_by_events(joined, len, wanted + wanted_len);
-        want("a text is no longer than its parts", text_len <= len);
+    int is_known = it->options < 0x800000;
+    for (model_reads = 0; is_known && model_reads < it->contents_len && is_joined(it, drawn_parts, drawn_strings[model_reads], joined, &len); model_reads++) {
+        size_t text_len = text_by_events(it->options, joined, len, wanted + wanted_len);
+        int has_all_names = (it->options & (MARKDOWN_INLINE_OPTION_HTML_REFERENCES | MARKDOWN_INLINE_OPTION_COMMONMARK_RULES)) != 0;
+        want("a text is no longer than its parts, or by a fifth where all names are known", text_len <= len + (has_all_names ? len / 5 : 0));
         wanted_ends[model_reads] = wanted_len += text_len;
     }
-    int is_refused = model_reads < it->contents_len;
+    int is_refused = is_known && model_reads < it->contents_len;
     model_blames = is_refused ? model_reads : MARKDOWN_INLINE_NONE;
     lend_case(it);
     parts = (const markdown_inline_range *)lend(&of_definitions, drawn_parts, parts_len, sizeof *parts);
     strings = (const markdown_inline_range *)lend(&of_footnotes, drawn_strings, it->contents_len, sizeof *strings);
-    are_done(STRINGS, it, is_refused ? MARKDOWN_INLINE_NO_STRING : MARKDOWN_INLINE_DONE, model_reads);
+    are_done(STRINGS, it, !is_known ? MARKDOWN_INLINE_UNKNOWN_OPTION : is_refused ? MARKDOWN_INLINE_NO_STRING : MARKDOWN_INLINE_DONE, model_reads);
     if (faults > 0) return;
     want("how many bytes the texts of strings have", found_len == wanted_len);
     want("the texts of strings", !memcmp(found.bytes, wanted, wanted_len) && !memcmp(found_ends, wanted_ends, model_reads * sizeof *found_ends));
@@ -862,7 +865,7 @@ static uint32_t reference_status(const uint8_t *bytes, size_t len) {
 }
 
 static void try_bytes(drawn *it) {
-    static const char *const REFERENCES[] = {"&", "#", "x", "X", ";", "amp", "copy", "lt", "65", "1f600", "d800", "0", "9", "f", "g", "nosuch", "1234567", "\xc3"};
+    static const char *const REFERENCES[] = {"&", "#", "x", "X", ";", "amp", "copy", "check", "lt", "65", "1f600", "d800", "0", "9", "f", "g", "nosuch", "1234567", "\xc3"};
     static const char *const WORDS[] = {"a", "B", " ", "\t", "\n", "\r\n", "\xc3\x89", "\xe1\xba\x9e", "\xef\xac\x80", "\xce\xa3", "[", "\\]", "\xf0\x90\x90\x80"};
     it->labels_len = 0;
     for (size_t parts = below(9); parts > 0; parts--) it->labels_len = append(it->labels, it->labels_len, WORDS[below(sizeof WORDS / sizeof *WORDS)]);
@@ -874,7 +877,7 @@ static void try_bytes(drawn *it) {
     for (size_t parts = below(4); parts > 0; parts--) it->labels_len = append(it->labels, it->labels_len, REFERENCES[below(sizeof REFERENCES / sizeof *REFERENCES)]);
     if (!one_in(6)) it->labels_len = append(it->labels, it->labels_len, ";");
     lend_case(it);
-    uint32_t wanted = reference_status(it->labels, it->labels_len);
+    uint32_t wanted = it->options >= 0x800000 ? (uint32_t)MARKDOWN_INLINE_UNKNOWN_OPTION : reference_status(it->labels, it->labels_len);
     if (wanted == 1) {
         call_name = NAMES[REFERENCE];
         wanted = called(REFERENCE, it, 0, 0);

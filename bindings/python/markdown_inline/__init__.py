@@ -286,16 +286,19 @@ def htmls(document: Text, contents: Iterable[Content], gfm: bool = False, math: 
     return [found[start:end].decode() for start, end in zip(chain((0,), ends), ends)]
 
 
-def strings(document: Text, strings: Iterable[Iterable[Sequence[int]]]) -> List[str]:
+def strings(document: Text, strings: Iterable[Iterable[Sequence[int]]], *, options: Optional[int] = None) -> List[str]:
     """The texts of strings, such as titles and destinations, with escapes and character references resolved. A string is a list of parts, each a range
     of bytes of the document as (start, end), which are one text. Where it stands in a paragraph, they are what `Data` and `LineEnding` cover inside it.
+    References are decoded as of `reference`, by the options with which the document is read.
 
     >>> strings('[a](b\\\\*c "d &amp; e")', [[(4, 8)], [(10, 19)]])
     ['b*c', 'd & e']
+    >>> strings('&check;', [[(0, 7)]], options=OPTIONS['html_references'])
+    ['✓']
     """
     bytes_given = _arguments.text_of(document, 'document')
     parts, listed, count = _arguments.strings_of(strings)
-    status, found, ends, at = _library.strings(bytes_given, parts, listed, count)
+    status, found, ends, at = _library.strings(_decoding(options), bytes_given, parts, listed, count)
     if status:
         raise _raised(status, at)
     return [found[start:end].decode() for start, end in zip([0, *ends], ends)]
@@ -306,17 +309,22 @@ def identifier(label: Text) -> str:
     return _decoded('markdown_inline_identifier', _arguments.text_of(label, 'label'))
 
 
-def reference(reference: Text) -> str:
-    """The text that a character reference stands for. It is the whole reference, with its `&` and its `;`.
+def reference(reference: Text, *, options: Optional[int] = None) -> str:
+    """The text that a character reference stands for. It is the whole reference, with its `&` and its `;`. The bits of `options` are those of `text`: by the
+    bit of `html_references` each name of HTML is known, and by that of `commonmark` a number stands for a control or a noncharacter too. None is no option.
 
-    >>> reference('&amp;'), reference('&#x41;')
-    ('&', 'A')
+    >>> reference('&amp;'), reference('&#x41;'), reference('&check;', options=OPTIONS['html_references'])
+    ('&', 'A', '✓')
     """
-    return _decoded('markdown_inline_reference', _arguments.text_of(reference, 'reference'))
+    return _decoded('markdown_inline_reference', _arguments.text_of(reference, 'reference'), _decoding(options))
 
 
-def _decoded(function: str, given: bytes) -> str:
-    status, found = _library.decoded(function, given)
+def _decoding(options: Optional[int]) -> int:
+    return _tables.COMMONMARK if options is None else _arguments.bits_of(options)
+
+
+def _decoded(function: str, given: bytes, *before: int) -> str:
+    status, found = _library.decoded(function, given, *before)
     if status:
         raise _raised(status)
     return found.decode()

@@ -86,7 +86,7 @@ class Asked:
             return html(given, options=self.options, footnotes=self.notes, definitions=defined, **self.html) + '\n'
         if self.how == '--links':
             targets = {identifier(label): (to.decode(), (title or b'').decode()) for label, to, title in self.targets[::-1]}
-            found = _program.links(self.events(given), given, targets)
+            found = _program.links(self.events(given), given, targets, self.options)
         else:
             found = _program.tree(self.events(given), given) if self.how else _program.lines(self.events(given))
         return ''.join(it + '\n' for it in found)

@@ -76,9 +76,9 @@ def _load():
     given, outcome = [ctypes.POINTER(Input)], [ctypes.POINTER(Outcome)]
     for name, arguments in (
         ('is_content', text + numbers), ('is_text', text + numbers), ('string', given + lent), ('text', given + lent), ('leaves', given + lent),
-        ('identifier', text + lent), ('reference', text + lent), ('texts', given + 3 * numbers + outcome), ('short_texts', given + 3 * numbers + outcome),
+        ('identifier', text + lent), ('reference', [ctypes.c_uint32] + text + lent), ('texts', given + 3 * numbers + outcome), ('short_texts', given + 3 * numbers + outcome),
         ('html', given + numbers + [ctypes.c_uint32, _size] + lent), ('htmls', given + 2 * numbers + [ctypes.c_uint32, _size] + 2 * numbers + outcome),
-        ('strings', text + 4 * numbers + outcome),
+        ('strings', [ctypes.c_uint32] + text + 4 * numbers + outcome),
     ):
         function = getattr(library, 'markdown_inline_' + name)
         function.restype, function.argtypes = ctypes.c_uint32, arguments
@@ -164,10 +164,10 @@ def leaves(given):
     return filled(lambda *lent: LIBRARY.markdown_inline_leaves(at, *lent), LEAF_SIZE, (given.covered() // 8 + 64) * LEAF_SIZE)
 
 
-def decoded(name, text):
-    """Calls a function over bytes: its status, and the bytes that stand for them."""
+def decoded(name, text, *before):
+    """Calls a function over bytes, with these arguments before them: its status, and the bytes that stand for them."""
     function = getattr(LIBRARY, name)
-    return filled(lambda *lent: function(text, len(text), *lent), 1, len(text))
+    return filled(lambda *lent: function(*before, text, len(text), *lent), 1, len(text))
 
 
 def texts(name, size, given, contents, count):
@@ -207,12 +207,12 @@ def tested(name, document, pieces):
     return getattr(LIBRARY, name)(document, len(document), pieces.buffer_info()[0], len(pieces) // 4)
 
 
-def strings(document, parts, listed, count):
-    """Calls for the texts of this many strings, as they cross, of these parts: the status, the texts' bytes, where each ends, and what is to blame."""
+def strings(options, document, parts, listed, count):
+    """Calls for the texts of this many strings by options, as they cross, of these parts: the status, the texts' bytes, where each ends, and what is to blame."""
 
     def call(start, lent, room, ends, many, outcome):
         strings_at = listed.buffer_info()[0] + 2 * start * listed.itemsize
         return LIBRARY.markdown_inline_strings(
-            document, len(document), parts.buffer_info()[0], len(parts) // 2, strings_at, many, lent, room, ends, many, outcome)
+            options, document, len(document), parts.buffer_info()[0], len(parts) // 2, strings_at, many, lent, room, ends, many, outcome)
 
     return filled_many(call, 1, len(document), count)

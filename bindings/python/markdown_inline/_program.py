@@ -36,16 +36,16 @@ def tree(events: Events, document: bytes) -> List[str]:
     return found
 
 
-def string_text(document: bytes, pieces: List[Tuple[int, int]]) -> str:
-    """The text of a string, with its escapes and character references resolved, without the blanks around line endings."""
+def string_text(document: bytes, pieces: List[Tuple[int, int]], options: int) -> str:
+    """The text of a string by options, with its escapes and character references resolved, without the blanks around line endings."""
     parts, begun = [], 0
-    for event in string(document, pieces):
+    for event in string(document, pieces, options=options):
         if event.kind == Kind.Enter:
             begun = event.index
         elif event.name in _PLAIN:
             parts.append(document[begun:event.index].decode())
         elif event.name == Name.CharacterReferenceMarkerSemi:
-            parts.append(reference(document[document.rindex(b'&', 0, event.index):event.index]))
+            parts.append(reference(document[document.rindex(b'&', 0, event.index):event.index], options=options))
     return ''.join(parts)
 
 
@@ -67,20 +67,20 @@ def _one_line(words: str) -> str:
     return ' '.join(words.replace('\t', ' ').splitlines())
 
 
-def _target(document: bytes, found: _Open, end: int, targets: Dict[str, Tuple[str, str]]) -> Tuple[str, str]:
+def _target(document: bytes, found: _Open, end: int, targets: Dict[str, Tuple[str, str]], options: int) -> Tuple[str, str]:
     """Where a link leads, and its title."""
     name = found.enter.name
     if name not in (Name.Link, Name.Image):
         word = next(it for it in (Name.AutolinkEmail, Name.AutolinkProtocol, name) if it in found.labels)
         return _SCHEMES.get(word, '') + document[slice(*found.labels[word])].decode(), ''
     if Name.Resource in found.labels:
-        destination, title = (string_text(document, found.strings.get(it, [])) for it in _STRINGS)
+        destination, title = (string_text(document, found.strings.get(it, []), options) for it in _STRINGS)
         return destination, title
     label = found.labels.get(Name.ReferenceString) or found.labels[Name.LabelText]
     return targets.get(identifier(document[slice(*label)]), ('', ''))
 
 
-def links(events: Events, document: bytes, targets: Dict[str, Tuple[str, str]]) -> List[str]:
+def links(events: Events, document: bytes, targets: Dict[str, Tuple[str, str]], options: int) -> List[str]:
     """A line for each link, image, autolink and literal, in order: line, column, what it is, destination, title, with a tab between two of them.
     `targets` has the destination and the title of each definition by its identifier."""
     found: List[str] = []
@@ -109,6 +109,6 @@ def links(events: Events, document: bytes, targets: Dict[str, Tuple[str, str]]) 
         if event.name == link.enter.name:
             opened.pop()
             if event.name in _KINDS:
-                words = _target(document, link, event.index, targets)
+                words = _target(document, link, event.index, targets, options)
                 found[at] = '\t'.join([str(enter.line), str(enter.column), _KINDS[event.name], *map(_one_line, words)])
     return [it for it in found if it]

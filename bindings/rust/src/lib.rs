@@ -72,10 +72,8 @@ pub use name::Name;
 pub use options::{HtmlOptions, Options};
 pub use raw::Piece;
 pub use short::{ShortEvent, ShortTexts};
-pub use strings::{strings, Strings};
+pub use strings::{strings, strings_with, Strings};
 pub use texts::{TextContent, Texts};
-
-use raw::BytesCall;
 
 /// The events of a whole document as a text, with CommonMark's constructs.
 pub fn text<D: AsRef<[u8]> + ?Sized>(document: &D) -> Result<Events, Error> {
@@ -94,25 +92,55 @@ pub fn string<D: AsRef<[u8]> + ?Sized>(document: &D) -> Result<Events, Error> {
 /// ```
 pub fn identifier<L: AsRef<[u8]> + ?Sized>(label: &L) -> Result<String, Error> {
     let label = label.as_ref();
-    text_for(raw::markdown_inline_identifier, label.len() + 8, label)
+    // SAFETY: each pointer goes with the length of its array, and nothing is kept.
+    text_by(label.len() + 8, |array, len, count| unsafe {
+        raw::markdown_inline_identifier(label.as_ptr(), label.len(), array, len, count)
+    })
 }
 
-/// The text that a character reference stands for. The bytes are the whole reference, with its `&` and its `;`. The error is `NoReference` or `NoMemory`.
+/// The text that a character reference stands for. The bytes are the whole reference, with its `&` and its `;`. The names are those that are known without an
+/// option: [`reference_with`] takes options. The error is `NoReference` or `NoMemory`.
 ///
 /// ```
 /// assert_eq!(markdown_inline::reference("&amp;").unwrap(), "&");
 /// assert_eq!(markdown_inline::reference("&#x41;").unwrap(), "A");
 /// ```
 pub fn reference<R: AsRef<[u8]> + ?Sized>(reference: &R) -> Result<String, Error> {
-    text_for(raw::markdown_inline_reference, 8, reference.as_ref())
+    reference_with(Options::COMMONMARK, reference)
 }
 
-fn text_for(call: BytesCall, expected: usize, given: &[u8]) -> Result<String, Error> {
-    let mut found = Vec::new();
+/// The text that a character reference stands for, by the options with which a document is read: by `Options::HTML_REFERENCES` each name of HTML is known, and
+/// by `Options::COMMONMARK_RULES` a number stands for a control or a noncharacter too. The error is `UnknownOption`, `NoReference` or `NoMemory`.
+///
+/// ```
+/// use markdown_inline::{reference_with, Options};
+/// assert_eq!(reference_with(Options::HTML_REFERENCES, "&check;").unwrap(), "\u{2713}");
+/// assert!(reference_with(Options::COMMONMARK, "&check;").is_err());
+/// ```
+pub fn reference_with<R: AsRef<[u8]> + ?Sized>(
+    options: Options,
+    reference: &R,
+) -> Result<String, Error> {
+    let given = reference.as_ref();
     // SAFETY: each pointer goes with the length of its array, and nothing is kept.
-    fill::fill(&mut found, expected, |array, len, count| unsafe {
-        call(given.as_ptr(), given.len(), array, len, count)
-    })?;
+    text_by(8, |array, len, count| unsafe {
+        raw::markdown_inline_reference(
+            options.bits(),
+            given.as_ptr(),
+            given.len(),
+            array,
+            len,
+            count,
+        )
+    })
+}
+
+fn text_by(
+    expected: usize,
+    call: impl Fn(*mut u8, usize, &mut usize) -> u32,
+) -> Result<String, Error> {
+    let mut found = Vec::new();
+    fill::fill(&mut found, expected, call)?;
     String::from_utf8(found).map_err(|_| Error::NotUtf8)
 }
 

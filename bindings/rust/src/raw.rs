@@ -134,10 +134,6 @@ pub(crate) type TextsCall<T> = unsafe extern "C" fn(
     *mut RawOutcome,
 ) -> u32;
 
-/// A call that fills an array of bytes by what stands for other bytes.
-pub(crate) type BytesCall =
-    unsafe extern "C" fn(*const u8, usize, *mut u8, usize, *mut usize) -> u32;
-
 extern "C" {
     pub(crate) fn markdown_inline_version() -> u32;
     pub(crate) fn markdown_inline_is_content(
@@ -178,6 +174,7 @@ extern "C" {
         count: *mut usize,
     ) -> u32;
     pub(crate) fn markdown_inline_reference(
+        options: u32,
         reference: *const u8,
         reference_len: usize,
         text: *mut u8,
@@ -215,6 +212,7 @@ extern "C" {
         count: *mut usize,
     ) -> u32;
     pub(crate) fn markdown_inline_strings(
+        options: u32,
         bytes: *const u8,
         bytes_len: usize,
         parts: *const RawRange,

@@ -2,7 +2,7 @@
 
 use crate::fill::{fill_many, range_of};
 use crate::raw::{self, RawRange};
-use crate::{Error, Refusal};
+use crate::{Error, Options, Refusal};
 use std::ops::Range;
 
 /// The texts of strings.
@@ -49,7 +49,7 @@ fn raw_ranges(ranges: &[Range<usize>]) -> Result<Vec<RawRange>, Error> {
 /// The texts of strings, such as titles and destinations, with escapes and character references resolved. A part is a range of the bytes; a string is a range of
 /// numbers of parts, whose bytes are one text. Where a string stands in a paragraph, its parts are what `Data` and `LineEnding` cover inside it.
 ///
-/// The error is `NoString` or `NoMemory`.
+/// References have the names that are known without an option: [`strings_with`] takes options. The error is `NoString` or `NoMemory`.
 ///
 /// ```
 /// # fn main() -> Result<(), markdown_inline::Refusal> {
@@ -59,6 +59,28 @@ fn raw_ranges(ranges: &[Range<usize>]) -> Result<Vec<RawRange>, Error> {
 /// # }
 /// ```
 pub fn strings<D: AsRef<[u8]> + ?Sized>(
+    document: &D,
+    parts: &[Range<usize>],
+    strings: &[Range<usize>],
+) -> Result<Strings, Refusal> {
+    strings_with(Options::COMMONMARK, document, parts, strings)
+}
+
+/// The texts of strings as of [`strings`], with character references resolved as [`reference_with`](crate::reference_with) says by these options: take those with
+/// which the document is read.
+///
+/// The error is `UnknownOption`, `NoString` or `NoMemory`.
+///
+/// ```
+/// # fn main() -> Result<(), markdown_inline::Refusal> {
+/// use markdown_inline::{strings_with, Options};
+/// let found = strings_with(Options::HTML_REFERENCES, "&check;", &[0..7], &[0..1])?;
+/// assert_eq!(found.get(0), Some("\u{2713}"));
+/// # Ok(())
+/// # }
+/// ```
+pub fn strings_with<D: AsRef<[u8]> + ?Sized>(
+    options: Options,
     document: &D,
     parts: &[Range<usize>],
     strings: &[Range<usize>],
@@ -78,6 +100,7 @@ pub fn strings<D: AsRef<[u8]> + ?Sized>(
         true,
         |lent, outcome| unsafe {
             raw::markdown_inline_strings(
+                options.bits(),
                 document.as_ptr(),
                 document.len(),
                 parts.as_ptr(),

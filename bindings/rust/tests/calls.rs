@@ -1,8 +1,9 @@
 //! Statuses, memory that is used again, and calls on several threads.
 
 use markdown_inline::{
-    identifier, is_right_version, reference, string, strings, text, Error, Event, Events,
-    HtmlOptions, Input, Name, Options, Piece, Refusal, ShortEvent, TextContent,
+    identifier, is_right_version, reference, reference_with, string, strings, strings_with, text,
+    Error, Event, Events, HtmlOptions, Input, Name, Options, Piece, Refusal, ShortEvent,
+    TextContent,
 };
 use std::thread;
 
@@ -98,6 +99,30 @@ fn references_are_decoded() {
         ["&amp;", "&copy;", "&#65;", "&#X1f600;", "&#0;"].map(|it| reference(it).unwrap()),
         ["&", "\u{a9}", "A", "\u{1f600}", "\u{fffd}"]
     );
+}
+
+#[test]
+fn references_are_decoded_by_options() {
+    let (names, rules) = (Options::HTML_REFERENCES, Options::COMMONMARK_RULES);
+    for (options, given, wanted) in [
+        (Options::COMMONMARK, "&check;", Err(Error::NoReference)),
+        (names, "&check;", Ok("\u{2713}")),
+        (rules, "&check;", Ok("\u{2713}")),
+        (names, "&#1;", Ok("\u{fffd}")),
+        (rules, "&#1;", Ok("\u{1}")),
+        (Options::from_bits(1 << 31), "a", Err(Error::UnknownOption)),
+    ] {
+        assert_eq!(
+            reference_with(options, given),
+            wanted.map(str::to_owned),
+            "{given}"
+        );
+    }
+    let found = |options| strings_with(options, "&check;", &[0..7], &[0..1]);
+    assert_eq!(found(names).unwrap().get(0), Some("\u{2713}"));
+    assert_eq!(found(Options::COMMONMARK).unwrap().get(0), Some("&check;"));
+    let error = found(Options::from_bits(1 << 31)).unwrap_err();
+    assert_eq!((error.error, error.at), (Error::UnknownOption, None));
 }
 
 #[test]

@@ -8,13 +8,14 @@ ghost use Rattle.markdown_innermost.specs.InnermostEvents.{IsSpanInOrder, innerm
 ghost use Rattle.markdown_model_laws.specs.LentTexts.{LendTexts};
 ghost use Rattle.markdown_model_laws.specs.DecodableValues.{EventsHaveValues, IsDecodable, marker_of};
 
-use markdown_inline::configuration::ParseOptions;
+use crate::links::OPTIONS;
+use markdown_html_model::resolve::decoding_of;
 use markdown_inline::event::Name;
 use markdown_inline::event_list::EventSlice;
 use markdown_inline::laws;
 use markdown_inline::parser::{ParseState, Piece};
 use markdown_inline::run::{self, Leaf};
-use markdown_inline::util::character_reference::decode;
+use markdown_inline::util::character_reference::decode_by;
 use std::alloc::{AllocError, Global};
 
 /// The bytes from a start to an end; none where they are not in order.
@@ -46,7 +47,8 @@ fn push_reference(
 ) -> Result<(), AllocError>
     requires { IsDecodable (marker_of before) value.slice.bytes.now }
 {
-    match decode(alloc, value.slice.as_str(), marker_of(before), true)? {
+    let how = decoding_of(&OPTIONS);
+    match decode_by(alloc, value.slice.as_str(), marker_of(before), how)? {
         Some(meant) => text.push_str(meant.as_str()),
         None => Ok(()),
     }
@@ -83,10 +85,9 @@ fn resolved(alloc: Global, bytes: &[u8], events: &EventSlice) -> Result<String, 
 
 // The text of the string that these pieces of a document are; none where they are no content.
 fn string_of(alloc: Global, bytes: &[u8], pieces: &[Piece]) -> Result<String, AllocError> {
-    let options = ParseOptions::default();
     let parse_state = ParseState {
         bytes,
-        options: &options,
+        options: &OPTIONS,
         definitions: Vec::new(alloc),
         gfm_footnote_definitions: Vec::new(alloc),
     };
@@ -94,7 +95,7 @@ fn string_of(alloc: Global, bytes: &[u8], pieces: &[Piece]) -> Result<String, Al
         return Ok(String::new(alloc));
     }
     let found = run::string_list(alloc, &parse_state, pieces)?;
-    // so each leaf is a text, and `decode` takes each value as it is
+    // so each leaf is a text, and `decode_by` takes each value as it is
     laws::leaves_are_texts();
     laws::values_are_decodable();
     resolved(alloc, bytes, &found.events.as_slice())

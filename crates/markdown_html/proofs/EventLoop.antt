@@ -4,9 +4,8 @@ use Rattle.std.specs.Str.{is_utf8, IsUtf8}
 use Rattle.std.proofs.lemmas.Str.{is_utf8-from_IsUtf8, IsUtf8-from_is_utf8}
 use Rattle.markdown_content.specs.Tree.{Forest, events_from}
 use Rattle.markdown_event.specs.declared.event.Event.{Event}
-use Rattle.markdown_util.specs.Reference.{shipped_decoding}
 use Rattle.markdown_util.specs.declared.decoding.Decoding.{Decoding}
-use Rattle.markdown_html_model.specs.Html.{Defined, Page, plain_text, text_page}
+use Rattle.markdown_html_model.specs.Html.{Defined, Page, plain_text_by, text_page}
 use Rattle.markdown_html_model.specs.declared.options.HtmlOptions.{HtmlOptions}
 use Rattle.markdown_html_model.specs.declared.role.Within.{Within}
 use Rattle.markdown_html.specs.EventWalk.{State, left_behind, stepped, walked, beginning}
@@ -26,15 +25,14 @@ walked_end p before within n previous t events s (x ∷ left) so_far none is = c
 abbrev pub page-with : List ℕ → Decoding → List Defined → HtmlOptions → Page
 page-with bytes decoding definitions options = record { bytes = bytes; footnotes_on = false; decoding = decoding; definitions = definitions; options = options }
 
--- with no definitions, no calls, this decoding and these options, what is written is plain text
-pub text-alone : (bytes : List ℕ) (decoding : Decoding) (definitions : List Defined) (options : HtmlOptions) (before : List (List ℕ)) (t : Forest) → decoding ≡ shipped_decoding → definitions ≡ [] → options ≡ Page.options (text_page bytes) → before ≡ []
-    → html_within (page-with bytes decoding definitions options) before Within.InText t ≡ plain_text bytes t
-unfolding plain_text
-text-alone bytes decoding definitions options before t how d o none =
-    ap (λ x. html_within (page-with bytes x definitions options) before Within.InText t) how
-    ∙ ap (λ ds. html_within (page-with bytes shipped_decoding ds options) before Within.InText t) d
-    ∙ ap (λ os. html_within (page-with bytes shipped_decoding [] os) before Within.InText t) o
-    ∙ ap (λ calls. html_within (text_page bytes) calls Within.InText t) none
+-- with no definitions, no calls and these options, what is written is plain text
+pub text-alone : (how : Decoding) (bytes : List ℕ) (definitions : List Defined) (options : HtmlOptions) (before : List (List ℕ)) (t : Forest) → definitions ≡ [] → options ≡ Page.options (text_page how bytes) → before ≡ []
+    → html_within (page-with bytes how definitions options) before Within.InText t ≡ plain_text_by how bytes t
+unfolding plain_text_by
+text-alone how bytes definitions options before t d o none =
+    ap (λ ds. html_within (page-with bytes how ds options) before Within.InText t) d
+    ∙ ap (λ os. html_within (page-with bytes how [] os) before Within.InText t) o
+    ∙ ap (λ calls. html_within (text_page how bytes) calls Within.InText t) none
 
 -- what reading a label as UTF-8 answers
 pub label_read : {E : Type 0} (r : Result (Bor (List ℕ)) E) (x : Bor (List ℕ)) (text : List ℕ) (Q : E → Type 0) → MatchResult r (λ s. (s.now ≡ text) × IsUtf8 text) Q → r ≡ Ok x

@@ -14,4 +14,4 @@ pub mod targets;
 mod writer;
 
 pub use brought::left_of_limit;
-pub use writer::{text_of, to_html};
+pub use writer::{text_by, text_of, to_html};

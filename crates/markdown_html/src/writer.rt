@@ -7,7 +7,7 @@ ghost use Rattle.markdown_content.specs.Content.{document_limit};
 ghost use Rattle.markdown_content.specs.Tree.{Forest, events_from, events_of};
 ghost use Rattle.markdown_passes.specs.TrimmedData.{IsStretch};
 ghost use Rattle.markdown_innermost.specs.InnermostEvents.{innermost, IsSpanInOrder};
-ghost use Rattle.markdown_html_model.specs.Html.{calls_behind, group_html, html, joined_parts, no_parts, own_calls, plain_text, within_of, written};
+ghost use Rattle.markdown_html_model.specs.Html.{calls_behind, group_html, html, joined_parts, no_parts, own_calls, plain_text, plain_text_by, within_of, written};
 ghost use Rattle.markdown_html_model.specs.Roles.{role_of};
 ghost use Rattle.markdown_html_model.specs.OwnMarkup.{IsOwnMarkup};
 ghost use Rattle.markdown_html.specs.View.{open_view, page_from, page_of, parts_of, state_of};
@@ -514,8 +514,9 @@ pub fn to_html(
 
 /// The text of the trees whose events these are, over the bytes of a document, as the description of an image has it (CommonMark 6.4).
 ///
-/// Escapes and character references are resolved, and no markup is left. The destinations and titles of links are no part of it. The events are those of
-/// a run over these bytes, of all that stands inside a node, or of a node and its later siblings.
+/// Escapes and character references are resolved, references as without any option: [`text_by`] is for events of a run with options that say otherwise. No
+/// markup is left. The destinations and titles of links are no part of it. The events are those of a run over these bytes, of all that stands inside a
+/// node, or of a node and its later siblings.
 ///
 /// The error comes only where memory is refused.
 pub fn text_of(alloc: Global, bytes: &[u8], events: &EventSlice) -> Result<Vec<u8>, AllocError>
@@ -523,11 +524,27 @@ pub fn text_of(alloc: Global, bytes: &[u8], events: &EventSlice) -> Result<Vec<u
     requires places { All (IsSpanInOrder bytes.now) (innermost events.now) }
     ensures { (n : ℕ) (previous : Option ℕ) (t : Forest) → events.now ≡ events_from n previous t → IfOk result (λ text. text.items ≡ plain_text bytes.now t) }
 {
+    text_by(alloc, Decoding::shipped(), bytes, events)
+}
+
+/// The text of these trees as [`text_of`] has it, with references decoded in this way. `decoding_of` says which way that is under the options of the run.
+///
+/// The error comes only where memory is refused.
+pub fn text_by(
+    alloc: Global,
+    how: Decoding,
+    bytes: &[u8],
+    events: &EventSlice,
+) -> Result<Vec<u8>, AllocError>
+    requires fits { length bytes.now ≤ document_limit }
+    requires places { All (IsSpanInOrder bytes.now) (innermost events.now) }
+    ensures { (n : ℕ) (previous : Option ℕ) (t : Forest) → events.now ≡ events_from n previous t → IfOk result (λ text. text.items ≡ plain_text_by how bytes.now t) }
+{
     let definitions = Targets::new(alloc);
     let given = Given {
         bytes,
         footnotes_on: false,
-        decoding: Decoding::shipped(),
+        decoding: how,
         definitions: &definitions,
         options: HtmlOptions::safe(),
     };

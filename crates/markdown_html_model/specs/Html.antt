@@ -367,10 +367,14 @@ html p before tree = let w = written p before Within.Outside tree in w.html
 unfoldable pub calls_behind : Page → List (List ℕ) → Forest → List (List ℕ)
 calls_behind p before tree = let w = written p before Within.Outside tree in w.calls ++ before
 
--- a document alone: text asks for nothing else
-abbrev pub text_page : List ℕ → Page
-text_page bytes = record { bytes = bytes; footnotes_on = false; decoding = shipped_decoding; definitions = []; options = record { raw_html = false; any_link = false; line_ends = LineEnds.Kept } }
+-- a document alone, and how references are decoded: text asks for nothing else
+abbrev pub text_page : Decoding → List ℕ → Page
+text_page how bytes = record { bytes = bytes; footnotes_on = false; decoding = how; definitions = []; options = record { raw_html = false; any_link = false; line_ends = LineEnds.Kept } }
 
 -- the text of trees over a document, as the description of an image has it
-unfoldable pub plain_text : List ℕ → Forest → List ℕ
-plain_text bytes trees = let w = written (text_page bytes) [] Within.InText trees in w.html
+unfoldable pub plain_text_by : Decoding → List ℕ → Forest → List ℕ
+plain_text_by how bytes trees = let w = written (text_page how bytes) [] Within.InText trees in w.html
+
+-- that text where references are decoded as without any option
+abbrev pub plain_text : List ℕ → Forest → List ℕ
+plain_text bytes trees = plain_text_by shipped_decoding bytes trees

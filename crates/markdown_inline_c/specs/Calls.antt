@@ -7,8 +7,9 @@ use Rattle.markdown_inline_c.specs.FlatHtml.{page}
 use Rattle.markdown_inline_c.specs.FlatHtmls.{AreWritable, IsHtmlFaultAt, htmls_of, tree_at}
 use Rattle.markdown_inline_c.specs.FlatStrings.{IsStringAt, string_text}
 use Rattle.markdown_inline_c.specs.FlatTexts.{IsTextAt, many_setting, text_at}
-use Rattle.markdown_inline_c.specs.Many.{EndsBy, EndsByInput, IsAnswerOfMany}
-use Rattle.markdown_inline_c.specs.Refusals.{IsHtmlInputRefused, IsInputRefused, IsReady, IsReadyForHtml}
+use Rattle.markdown_inline_c.specs.Many.{EndsByInput, IsAnswerOfMany}
+use Rattle.markdown_inline_c.specs.References.{decoding_by}
+use Rattle.markdown_inline_c.specs.Refusals.{AreOptionsRefused, IsHtmlInputRefused, IsInputRefused, IsReady, IsReadyForHtml}
 use Rattle.markdown_inline_c.specs.Statuses.{IsContentAtFault}
 use Rattle.markdown_inline_c.specs.declared.fault.Fault.{Fault}
 use Rattle.markdown_inline_c.specs.declared.flat.FlatContent.{FlatContent}
@@ -31,8 +32,8 @@ AreHtmls i targets contents options limit =
     IsAnswerOfMany (length contents) (htmls_of i targets contents options)
     (λ end read. EndsByInput (IsReadyForHtml i targets options) (IsHtmlInputRefused i targets options) (AreWritable p i.pieces.now tree limit) (IsHtmlFaultAt p i.pieces.now tree limit) contents read end)
 
--- the text of each string
-abbrev pub AreStrings : List ℕ → (parts strings : List Range) (old new ends_old ends_new : List ℕ) → Outcome → ℕ → Type 0
-AreStrings bytes parts strings =
-    IsAnswerOfMany (length strings) (map (string_text bytes parts) strings)
-    (λ end read. EndsBy (All (IsStringAt bytes parts)) (λ before s fault. (fault ≡ Fault.NoString) × (IsStringAt bytes parts s → ⊥)) strings read end)
+-- the text of each string, by the options
+abbrev pub AreStrings : (options : ℕ) → List ℕ → (parts strings : List Range) (old new ends_old ends_new : List ℕ) → Outcome → ℕ → Type 0
+AreStrings options bytes parts strings =
+    IsAnswerOfMany (length strings) (map (string_text (decoding_by options) bytes parts) strings)
+    (λ end read. EndsByInput (AreKnown options) (AreOptionsRefused options) (All (IsStringAt bytes parts)) (λ before s fault. (fault ≡ Fault.NoString) × (IsStringAt bytes parts s → ⊥)) strings read end)

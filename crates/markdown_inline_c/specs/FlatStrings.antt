@@ -2,7 +2,7 @@
 use Rattle.std.specs.Prelude.{ℕ, ◌≤◌, List, length, slice_range}
 use Rattle.std.specs.List.{All, flat_map}
 use Rattle.markdown_html_model.specs.Resolved.{resolved}
-use Rattle.markdown_util.specs.Reference.{shipped_decoding}
+use Rattle.markdown_util.specs.declared.decoding.Decoding.{Decoding}
 use Rattle.markdown_inline_c.specs.FlatInput.{IsLabelRange, range_bytes}
 use Rattle.markdown_inline_c.specs.declared.flat.Range.{Range}
 
@@ -21,6 +21,6 @@ pub record IsStringAt (bytes : List ℕ) (parts : List Range) (s : Range) : Type
 abbrev pub joined : List ℕ → List Range → List ℕ
 joined bytes parts = flat_map (range_bytes bytes) parts
 
--- the text of a string: its parts are one text, with escapes and references resolved, by the names that are shipped
-abbrev pub string_text : List ℕ → List Range → Range → List ℕ
-string_text bytes parts s = resolved shipped_decoding (joined bytes (parts_at parts s))
+-- the text of a string: its parts are one text, with escapes and references resolved
+abbrev pub string_text : Decoding → List ℕ → List Range → Range → List ℕ
+string_text how bytes parts s = resolved how (joined bytes (parts_at parts s))

@@ -65,6 +65,10 @@ IsInputRefused options_known i r =
     ⊎ (options_known × (IsDocumentRefused i.bytes.now r
     ⊎ (IsDocument i.bytes.now × AreLabelsRefused i r)))
 
+-- of options alone
+abbrev pub AreOptionsRefused : ℕ → Refusal → Type 0
+AreOptionsRefused options r = (r ≡ blames_none Fault.UnknownOption) × (AreKnown options → ⊥)
+
 -- the options of an input and those of HTML
 abbrev pub AreAllKnown : Input → ℕ → Type 0
 AreAllKnown i options = AreKnown i.options × AreKnownForHtml options

@@ -7,7 +7,7 @@ use Rattle.markdown_content.specs.declared.parser.Piece.{Piece}
 use Rattle.markdown_inline_c.specs.FlatHtml.{AreKnownForHtml, AreTargets, IsBroughtWithin}
 use Rattle.markdown_inline_c.specs.FlatInput.{AreLabels, IsTextInput, pieces_of}
 use Rattle.markdown_inline_c.specs.FlatTexts.{IsContentAt, IsTextAt}
-use Rattle.markdown_inline_c.specs.References.{reference_value}
+use Rattle.markdown_inline_c.specs.References.{decoding_by, reference_value}
 use Rattle.markdown_inline_c.specs.declared.fault.Fault.{Fault}
 use Rattle.markdown_inline_c.specs.declared.flat.FlatContent.{FlatContent}
 use Rattle.markdown_inline_c.specs.declared.flat.FlatPiece.{FlatPiece}
@@ -60,11 +60,12 @@ IsLabelFault label Fault.NotUtf8 = IsUtf8 label → ⊥
 IsLabelFault label Fault.Memory = Unit {0}
 IsLabelFault label _ = ⊥
 
--- of bytes that are to be a character reference
-abbrev pub IsReferenceFault : List ℕ → Fault → Type 0
-IsReferenceFault bytes Fault.NoReference = is_some (reference_value bytes) ≡ false
-IsReferenceFault bytes Fault.Memory = Unit {0}
-IsReferenceFault bytes _ = ⊥
+-- of bytes that are to be a character reference by options
+abbrev pub IsReferenceFault : ℕ → List ℕ → Fault → Type 0
+IsReferenceFault options bytes Fault.UnknownOption = AreKnown options → ⊥
+IsReferenceFault options bytes Fault.NoReference = AreKnown options × (is_some (reference_value (decoding_by options) bytes) ≡ false)
+IsReferenceFault options bytes Fault.Memory = AreKnown options
+IsReferenceFault options bytes _ = ⊥
 
 -- of where definitions lead; memory may be refused at any time
 abbrev pub IsTargetsFault : Input → List FlatTarget → Fault → Type 0

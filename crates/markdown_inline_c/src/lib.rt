@@ -7,8 +7,7 @@
 //! It is that of the first thing that is wrong, in the order 2, 9, 3, 7, 4, 8.
 #![tactic(auto)]
 
-ghost use Rattle.std.specs.Prelude.{◌≡◌, IsTrue, IsUtf8, map};
-ghost use Rattle.std.specs.Option.{is_some};
+ghost use Rattle.std.specs.Prelude.{◌≡◌, IsUtf8, map};
 ghost use Rattle.markdown_model.specs.InlineTree.{string_events, text_events};
 ghost use Rattle.markdown_inline_c.specs.FlatInput.{pieces_of, string_setting, text_setting, IsStringInput, IsTextInput};
 ghost use Rattle.markdown_inline_c.specs.FlatEvents.{flat_event};
@@ -16,7 +15,7 @@ ghost use Rattle.markdown_inline_c.specs.FlatTexts.{many_setting};
 ghost use Rattle.markdown_inline_c.specs.ShortEvents.{short_events};
 ghost use Rattle.markdown_inline_c.specs.FlatLeaves.{leaves_of};
 ghost use Rattle.markdown_inline_c.specs.FlatHtml.{html_of, IsHtmlInput};
-ghost use Rattle.markdown_inline_c.specs.References.{reference_text, reference_value};
+ghost use Rattle.markdown_inline_c.specs.References.{IsReference, reference_text};
 ghost use Rattle.markdown_inline_c.specs.Answers.{IsAnswer, IsTested};
 ghost use Rattle.markdown_inline_c.specs.Calls.{AreHtmls, AreStrings, AreTexts};
 ghost use Rattle.markdown_inline_c.specs.Statuses.{IsContentFault, IsHtmlFault, IsPiecesFault, IsLabelFault, IsReferenceFault, IsStringFault, IsTextFault};
@@ -148,19 +147,22 @@ pub extern "C" fn markdown_inline_identifier(
 
 /// The text that a character reference stands for: the bytes are the whole of it, with its `&` and its `;` (CommonMark 0.31, section 2.5).
 ///
+/// The options are those of an input. They say which names are known, and whether a number stands for a control or a noncharacter.
+///
 /// With status 0 its UTF-8 stands at the front of `text`, and `count` is how many bytes it has. With status 6 `count` is that too, and they
-/// are more than there is room for. The status is 10 for bytes that are no reference, or one whose name is not known, and 5. Nothing else is
-/// written.
+/// are more than there is room for. The status is 2 for an unknown option, then 10 for bytes that are no reference, or one whose name is not known,
+/// and 5. Nothing else is written.
 #[unsafe(no_mangle)]
 pub extern "C" fn markdown_inline_reference(
     alloc: Global,
+    options: u32,
     reference: &[u8],
     text: &mut [u8],
     count: &mut usize,
 ) -> u32
-    ensures { IsAnswer (reference_text reference.now) (IsTrue (is_some (reference_value reference.now))) (IsReferenceFault reference.now) text.old text.new count.old count.new result }
+    ensures { IsAnswer (reference_text options reference.now) (IsReference options reference.now) (IsReferenceFault options reference.now) text.old text.new count.old count.new result }
 {
-    answer(reference::decoded(alloc, reference), text, count)
+    answer(reference::decoded(alloc, options, reference), text, count)
 }
 
 /// The events of many contents of the input as texts, one content after another. The document is prepared once, and each content costs what it
@@ -244,16 +246,18 @@ pub extern "C" fn markdown_inline_html(
 }
 
 /// The texts of strings, one after another, with escaped punctuation in place of its escape, and in place of each character reference its text
-/// (CommonMark 0.31, sections 2.4 and 2.5): of destinations, titles and info strings. References are decoded as without any option. All other bytes stay,
-/// line endings among them.
+/// (CommonMark 0.31, sections 2.4 and 2.5): of destinations, titles and info strings. All other bytes stay, line endings among them.
+///
+/// The options are those of an input. They say which names are known, and whether a number stands for a control or a noncharacter.
 ///
 /// A part is a range of the bytes; a string is a range of numbers of parts, whose bytes are one text.
 ///
-/// The texts are handed out as `markdown_inline_texts` hands out events. With status 12 the outcome blames the first string that has a part that is not given,
-/// or one that is no text of the bytes: those before it are read.
+/// The texts are handed out as `markdown_inline_texts` hands out events. The status is 2 for an unknown option: then nothing is read. With status 12 the outcome
+/// blames the first string that has a part that is not given, or one that is no text of the bytes: those before it are read.
 #[unsafe(no_mangle)]
 pub extern "C" fn markdown_inline_strings(
     alloc: Global,
+    options: u32,
     bytes: &[u8],
     parts: &[Range],
     strings: &[Range],
@@ -261,9 +265,9 @@ pub extern "C" fn markdown_inline_strings(
     ends: &mut [usize],
     outcome: &mut Outcome,
 ) -> u32
-    ensures { AreStrings bytes.now parts.now strings.now texts.old texts.new ends.old ends.new outcome.new result }
+    ensures { AreStrings options bytes.now parts.now strings.now texts.old texts.new ends.old ends.new outcome.new result }
 {
-    let end = strings::strings(alloc, bytes, parts, strings, texts, ends, outcome);
+    let end = strings::strings(alloc, options, bytes, parts, strings, texts, ends, outcome);
     outcome.ended(end, strings.len())
 }
 

@@ -8,7 +8,7 @@ use Rattle.markdown_event.specs.declared.event.Kind.{Kind}
 use Rattle.markdown_event.specs.declared.event.Kind.TheVariants.{Enter, Exit}
 use Rattle.markdown_event.specs.declared.event.Name.{Name}
 use Rattle.markdown_html_model.specs.Resolved.{resolved}
-use Rattle.markdown_util.specs.Reference.{shipped_decoding}
+use Rattle.markdown_util.specs.declared.decoding.Decoding.{Decoding}
 use Rattle.markdown_tree.specs.declared.node.Node.{Node}
 use Rattle.markdown_tree.specs.Nodes.{events_at, node_at}
 use Rattle.markdown_tree.specs.Referred.{Given, met, second_inside}
@@ -57,8 +57,8 @@ text_inside bytes string is_in [] = []
 text_inside bytes string is_in (e ∷ rest) = part bytes is_in e rest ++ text_inside bytes string (is_in_behind string e is_in) rest
 
 -- the string, with escapes and references resolved
-abbrev pub string_in : List ℕ → Part → List Event → List ℕ
-string_in bytes string es = resolved shipped_decoding (text_inside bytes string false es)
+abbrev pub string_in : Decoding → List ℕ → Part → List Event → List ℕ
+string_in how bytes string es = resolved how (text_inside bytes string false es)
 
 abbrev pub is_title_name : Name → Bool
 is_title_name Name.ResourceTitle = true
@@ -70,12 +70,12 @@ is_title e = is_title_name e.name
 abbrev pub has_title : List Event → Bool
 has_title es = list_any is_title es
 
-abbrev pub title_in : List ℕ → List Event → Option (List ℕ)
-title_in bytes es = if has_title es then Some (string_in bytes Part.Title es) else None
+abbrev pub title_in : Decoding → List ℕ → List Event → Option (List ℕ)
+title_in how bytes es = if has_title es then Some (string_in how bytes Part.Title es) else None
 
 -- by the events of a resource
-abbrev pub resource_target : List ℕ → List Event → Led
-resource_target bytes es = address (string_in bytes Part.Destination es) (title_in bytes es)
+abbrev pub resource_target : Decoding → List ℕ → List Event → Led
+resource_target how bytes es = address (string_in how bytes Part.Destination es) (title_in how bytes es)
 
 -- Addresses that are their own text, with this before it.
 
@@ -91,13 +91,13 @@ abbrev pub called : Given → List Event → Node → Option Led
 called g es node = option_map footnote (met g es node.enter)
 
 -- by what follows the label
-abbrev pub tail_target : Given → List Event → Node → Name → Node → Option Led
-tail_target g es node Name.Resource tail = Some (resource_target g.bytes (events_at es tail.enter))
-tail_target g es node name tail = referred g es node
+abbrev pub tail_target : Decoding → Given → List Event → Node → Name → Node → Option Led
+tail_target how g es node Name.Resource tail = Some (resource_target how g.bytes (events_at es tail.enter))
+tail_target how g es node name tail = referred g es node
 
-abbrev pub link_target : Given → List Event → Node → Option Node → Option Led
-link_target g es node None = referred g es node
-link_target g es node (Some tail) = tail_target g es node tail.name tail
+abbrev pub link_target : Decoding → Given → List Event → Node → Option Node → Option Led
+link_target how g es node None = referred g es node
+link_target how g es node (Some tail) = tail_target how g es node tail.name tail
 
 -- by what stands between the angle brackets
 abbrev pub between_target : List ℕ → Name → Node → Option Led
@@ -109,18 +109,18 @@ abbrev pub autolink_target : List ℕ → Option Node → Option Led
 autolink_target bytes None = None
 autolink_target bytes (Some node) = between_target bytes node.name node
 
-abbrev pub node_target : Given → List Event → Name → Node → Option Led
-node_target g es Name.Link node = link_target g es node (second_inside es node)
-node_target g es Name.Image node = link_target g es node (second_inside es node)
-node_target g es Name.GfmFootnoteCall node = called g es node
-node_target g es Name.Autolink node = autolink_target g.bytes (second_inside es node)
-node_target g es Name.GfmAutolinkLiteralProtocol node = Some (written g.bytes [] node)
-node_target g es Name.GfmAutolinkLiteralMailto node = Some (written g.bytes [] node)
-node_target g es Name.GfmAutolinkLiteralXmpp node = Some (written g.bytes [] node)
-node_target g es Name.GfmAutolinkLiteralWww node = Some (written g.bytes (codes "http://") node)
-node_target g es Name.GfmAutolinkLiteralEmail node = Some (written g.bytes (codes "mailto:") node)
-node_target g es name node = None
+abbrev pub node_target : Decoding → Given → List Event → Name → Node → Option Led
+node_target how g es Name.Link node = link_target how g es node (second_inside es node)
+node_target how g es Name.Image node = link_target how g es node (second_inside es node)
+node_target how g es Name.GfmFootnoteCall node = called g es node
+node_target how g es Name.Autolink node = autolink_target g.bytes (second_inside es node)
+node_target how g es Name.GfmAutolinkLiteralProtocol node = Some (written g.bytes [] node)
+node_target how g es Name.GfmAutolinkLiteralMailto node = Some (written g.bytes [] node)
+node_target how g es Name.GfmAutolinkLiteralXmpp node = Some (written g.bytes [] node)
+node_target how g es Name.GfmAutolinkLiteralWww node = Some (written g.bytes (codes "http://") node)
+node_target how g es Name.GfmAutolinkLiteralEmail node = Some (written g.bytes (codes "mailto:") node)
+node_target how g es name node = None
 
--- where the node of a number leads
-abbrev pub target_at : Given → List Event → ℕ → Option Led
-target_at g es n = option_and_then (λ (node : Node). node_target g es node.name node) (node_at es n)
+-- where the node of a number leads, where references are decoded in this way
+abbrev pub target_at : Decoding → Given → List Event → ℕ → Option Led
+target_at how g es n = option_and_then (λ (node : Node). node_target how g es node.name node) (node_at es n)

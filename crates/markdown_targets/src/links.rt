@@ -1,6 +1,7 @@
 //! Where a node of a tree leads.
 ghost use Rattle.std.specs.Prelude.{◌≡◌, IfOk};
 ghost use Rattle.std.specs.Option.{option_map};
+ghost use Rattle.markdown_html_model.specs.Resolved.{decoding_of};
 ghost use Rattle.markdown_tree.specs.LabelsView.{given_of};
 ghost use Rattle.markdown_tree.specs.Referred.{second_inside};
 ghost use Rattle.markdown_targets.specs.LinkTargets.{autolink_target, called, link_target, node_target, referred, resource_target, target_at, title_in, written};
@@ -10,9 +11,11 @@ use crate::strings::{Part, has_title, stretch, string_in};
 use crate::target::{Address, Target};
 use markdown_engine_events::event_list::EventSlice;
 use markdown_event::event::Name;
+use markdown_html_model::resolve::decoding_of;
 use markdown_tree::labels::Labels;
 use markdown_tree::node::Node;
 use markdown_tree::tree::Tree;
+use markdown_util::decoding::Decoding;
 use std::alloc::{AllocError, Global};
 
 // What stands inside a node behind the first: what follows a label, and the address of an autolink.
@@ -24,22 +27,32 @@ fn second_inside(tree: &Tree, node: Node) -> Option<Node>
 }
 
 // The title inside the events of a resource.
-fn title_in(alloc: Global, bytes: &[u8], events: &EventSlice) -> Result<Option<Vec<u8>>, AllocError>
-    ensures { IfOk result (λ title. option_map (λ t. t.items) title ≡ title_in bytes.now events.now) }
+fn title_in(
+    alloc: Global,
+    how: Decoding,
+    bytes: &[u8],
+    events: &EventSlice,
+) -> Result<Option<Vec<u8>>, AllocError>
+    ensures { IfOk result (λ title. option_map (λ t. t.items) title ≡ title_in how bytes.now events.now) }
 {
     if has_title(events) {
-        Ok(Some(string_in(alloc, bytes, Part::Title, events)?))
+        Ok(Some(string_in(alloc, how, bytes, Part::Title, events)?))
     } else {
         Ok(None)
     }
 }
 
 // Where a resource leads, of which these are the events.
-fn resource_target(alloc: Global, bytes: &[u8], events: &EventSlice) -> Result<Target, AllocError>
-    ensures { IfOk result (λ to. led_of to ≡ resource_target bytes.now events.now) }
+fn resource_target(
+    alloc: Global,
+    how: Decoding,
+    bytes: &[u8],
+    events: &EventSlice,
+) -> Result<Target, AllocError>
+    ensures { IfOk result (λ to. led_of to ≡ resource_target how bytes.now events.now) }
 {
-    let destination = string_in(alloc, bytes, Part::Destination, events)?;
-    let title = title_in(alloc, bytes, events)?;
+    let destination = string_in(alloc, how, bytes, Part::Destination, events)?;
+    let title = title_in(alloc, how, bytes, events)?;
     Ok(Target::Here(Address { destination, title }))
 }
 
@@ -82,13 +95,17 @@ fn link_target(
     tree: &Tree,
     node: Node,
 ) -> Result<Option<Target>, AllocError>
-    ensures { IfOk result (λ to. option_map led_of to ≡ link_target (given_of labels.now) tree.now node (second_inside tree.now node)) }
+    ensures { IfOk result (λ to. option_map led_of to ≡ link_target (decoding_of labels.now.options.now) (given_of labels.now) tree.now node (second_inside tree.now node)) }
 {
     let Some(tail) = second_inside(tree, node) else {
         return referred(labels, tree, node);
     };
     match tail.name {
-        Name::Resource => Ok(Some(resource_target(alloc, labels.bytes, &tree.events(tail.enter))?)),
+        Name::Resource => {
+            let how = decoding_of(labels.options);
+            let events = tree.events(tail.enter);
+            Ok(Some(resource_target(alloc, how, labels.bytes, &events)?))
+        }
         _ => referred(labels, tree, node),
     }
 }
@@ -119,7 +136,7 @@ fn node_target(
     tree: &Tree,
     node: Node,
 ) -> Result<Option<Target>, AllocError>
-    ensures { IfOk result (λ to. option_map led_of to ≡ node_target (given_of labels.now) tree.now node.name node) }
+    ensures { IfOk result (λ to. option_map led_of to ≡ node_target (decoding_of labels.now.options.now) (given_of labels.now) tree.now node.name node) }
 {
     let bytes = labels.bytes;
     match node.name {
@@ -138,7 +155,8 @@ fn node_target(
 /// Where the node of this number leads: a link, an image, a footnote call, an autolink or a literal.
 ///
 /// The tree is that of a run over the document of the labels, with their options and definitions. None where the node is something else, and where
-/// no definition is met. Takes time in proportion to what is answered, and to a label that is looked for, however deep the node stands.
+/// no definition is met. References in a destination or a title are decoded as the options say. Takes time in proportion to what is answered, and to a
+/// label that is looked for, however deep the node stands.
 ///
 /// The error comes only where memory is refused.
 pub fn target_of(
@@ -147,7 +165,7 @@ pub fn target_of(
     tree: &Tree,
     node: usize,
 ) -> Result<Option<Target>, AllocError>
-    ensures { IfOk result (λ to. option_map led_of to ≡ target_at (given_of labels.now) tree.now node) }
+    ensures { IfOk result (λ to. option_map led_of to ≡ target_at (decoding_of labels.now.options.now) (given_of labels.now) tree.now node) }
 {
     match tree.node(node) {
         Some(node) => node_target(alloc, labels, tree, node),

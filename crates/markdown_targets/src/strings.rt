@@ -115,19 +115,22 @@ fn text_inside(
 
 /// The string of a destination or a title inside these events, with escapes and character references resolved; empty where none stands there.
 ///
+/// References are decoded in the given way: `decoding_of` of `markdown_html_model` says which way that is under the options of a run.
+///
 /// A string may stand on several lines: it is one text, without what stands between two of its lines, but with a line feed there. The error comes
 /// only where memory is refused.
 pub fn string_in(
     alloc: Global,
+    how: Decoding,
     bytes: &[u8],
     string: Part,
     events: &EventSlice,
 ) -> Result<Vec<u8>, AllocError>
-    ensures { IfOk result (λ text. text.items ≡ string_in bytes.now string events.now) }
+    ensures { IfOk result (λ text. text.items ≡ string_in how bytes.now string events.now) }
 {
     let inside = text_inside(alloc, bytes, string, events)?;
     let mut text = Vec::new(alloc);
-    push_resolved(alloc, &mut text, Decoding::shipped(), inside.as_slice())?;
+    push_resolved(alloc, &mut text, how, inside.as_slice())?;
     Ok(text)
 }
 

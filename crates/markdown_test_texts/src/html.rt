@@ -2,15 +2,17 @@
 //!
 //! A row is a word, a text, and definitions, with a tab between each two. `html` reads the text as CommonMark has it, and lets raw HTML and any address be
 //! written, as the specification does; `gfm` reads it with GitHub's extensions, and lets neither be; `then` does the same behind the footnote calls of the
-//! row before. `text` prints its plain text. `brought` prints how many of 20 bytes are left by what definitions bring, or `more`. A definition is `LABEL: DESTINATION`, perhaps with a title behind a space, or `note LABEL` for a footnote; `␠`
-//! stands for a space in a destination. Answers have `␊`, `␍` and `→` for LF, CR and TAB. Each row is answered a second time, over events that stand as they are
+//! row before. `text` prints its plain text, and `standard` its plain text where it is read with the option for CommonMark. `brought` prints how many of 20
+//! bytes are left by what definitions bring, or `more`. A definition is `LABEL: DESTINATION`, perhaps with a title behind a space, or `note LABEL` for a
+//! footnote; `␠` stands for a space in a destination. Answers have `␊`, `␍` and `→` for LF, CR and TAB. Each row is answered a second time, over events that stand as they are
 //! in their list; where that gives something else, the answer says so.
 use crate::rows::plain;
 use crate::whole::{is_read_alike, keep_whole};
 use markdown_html::footnotes::FootnoteCalls;
 use markdown_html::targets::Targets;
-use markdown_html::{left_of_limit, text_of, to_html};
+use markdown_html::{left_of_limit, text_by, text_of, to_html};
 use markdown_html_model::options::{Definition, HtmlOptions, LineEnds};
+use markdown_html_model::resolve::decoding_of;
 use markdown_inline::configuration::ParseOptions;
 use markdown_inline::parser::{ParseState, Piece};
 use markdown_inline::run;
@@ -104,6 +106,7 @@ impl<'a> Row<'a> {
         on.gfm_autolink_literal = self.is_gfm();
         on.gfm_label_start_footnote = self.is_gfm();
         on.gfm_strikethrough = self.is_gfm();
+        options.commonmark = self.word == "standard";
         options
     }
 
@@ -179,6 +182,9 @@ fn written(
     let events = found.as_slice();
     if word == "text" {
         return text_of(alloc, bytes, &events);
+    }
+    if word == "standard" {
+        return text_by(alloc, decoding_of(&options), bytes, &events);
     }
     let targets = targets(alloc, definitions)?;
     if word == "brought" {

@@ -13,7 +13,7 @@
 //! | `repeat SEED COUNT` | the same with each part so many times in each of four lines, for each ending |
 //! | `names` | prints how many names of events were seen in drawn documents so far, and whether one of them is `AttentionSequence` |
 //! | `balanced`, `covers`, `alike`, `same` | asks one law of events that are written out: see `laws.rt` |
-//! | `html`, `gfm`, `then`, `text`, `brought` | prints the HTML of a text, its plain text, or what is left of a limit: see `html.rt` |
+//! | `html`, `gfm`, `then`, `text`, `standard`, `brought` | prints the HTML of a text, its plain text, or what is left of a limit: see `html.rt` |
 #![tactic(auto)]
 
 mod corpus;
@@ -77,7 +77,7 @@ impl Session {
             "balanced" | "covers" | "alike" | "same" => {
                 laws::print_law(alloc, name, first, second, &mut self.out)
             }
-            "html" | "gfm" | "then" | "text" | "brought" => {
+            "html" | "gfm" | "then" | "text" | "standard" | "brought" => {
                 html::answer(alloc, line, &mut self.calls, &mut self.out)
             }
             _ if self.rows.add(alloc, name, first, second)? => Ok(()),

@@ -2,7 +2,7 @@
 use Rattle.std.specs.Prelude.{ℕ, List, [], ◌∷◌, length}
 use Rattle.markdown_content.specs.Content.{content_of}
 use Rattle.markdown_content.specs.Tree.{Forest}
-use Rattle.markdown_html_model.specs.Html.{Defined, Page, calls_behind, html, plain_text}
+use Rattle.markdown_html_model.specs.Html.{Defined, Page, calls_behind, html, plain_text_by}
 use Rattle.markdown_html_model.specs.Resolved.{decoding_of}
 use Rattle.markdown_html_model.specs.declared.options.HtmlOptions.{HtmlOptions}
 use Rattle.markdown_model.specs.InlineTree.{text_tree}
@@ -30,4 +30,4 @@ calls_answer before r options bytes = calls_behind (page_of r options [] bytes) 
 
 -- the plain text of the text that a document is
 abbrev pub text_answer : RowSetting → List ℕ → List ℕ
-text_answer r bytes = plain_text bytes (tree_of r bytes)
+text_answer r bytes = plain_text_by (decoding_of r.options) bytes (tree_of r bytes)

@@ -1,41 +1,38 @@
-use Rattle.std.proofs.Common.{◌≡◌, arith, List, ℕ}
+use Rattle.std.proofs.Common.{◌≡◌, ap, subst, inr, List, ℕ, map}
+use Rattle.std.specs.List.{All}
+use Rattle.markdown_content.specs.DefaultOptions.{AreKnown}
+use Rattle.markdown_util.specs.declared.decoding.Decoding.{Decoding}
 use Rattle.markdown_inline_c.specs.FlatStrings.{IsStringAt, string_text}
+use Rattle.markdown_inline_c.specs.Many.{AreFound, EndsBy}
+use Rattle.markdown_inline_c.specs.References.{decoding_by}
+use Rattle.markdown_inline_c.specs.Refusals.{AreOptionsRefused}
 use Rattle.markdown_inline_c.specs.declared.fault.Fault.{Fault}
 use Rattle.markdown_inline_c.specs.declared.flat.Range.{Range}
-use Rattle.markdown_inline_c.proofs.InTurn.{all_read, is_next, next_refused, next_without_memory, one_more_read}
+use Rattle.markdown_inline_c.specs.declared.outcome.Outcome.{Outcome}
+use Rattle.markdown_inline_c.proofs.Errors.{err_and}
+use Rattle.markdown_inline_c.proofs.InTurn.{behind_input, input_refused}
 use Rattle.markdown_inline_c.proofs.strings.strings.Goals as goal
 
 abbrev refuses : List ℕ → List Range → List Range → Range → Fault → Type 0
 refuses bytes parts before s fault = (fault ≡ Fault.NoString) × (IsStringAt bytes parts s → ⊥)
 
-pub loop-at-preserved : goal.loop-at-preserved
-loop-at-preserved c =
+pub returns-in_err-how : goal.returns-in_err-how
+returns-in_err-how c =
     let bytes = c.args.bytes.now in
     let parts = c.args.parts.now in
-    let l = c.loop-at in
-    let next = is_next (string_text bytes parts) c.args.strings.now l.at c.loop-at-test.true in
-    one_more_read (string_text bytes parts) (IsStringAt bytes parts) c.args.strings.now c.in-Ok.text.items c.args.texts.now l.texts c.hand_out.new.array c.args.ends.now l.ends c.hand_out.new.ends l.outcome
-    c.hand_out.new.self l.at _ c.loop-at-test.true l.invariant c.in-Ok.ensures.string c.in-Ok.ensures.text (c.in_ok-hand_out-in-Ok.ensures.ok _ _ _ next l.invariant.handed_out)
-
-pub returns-in-Err : goal.returns-in-Err
-returns-in-Err c =
-    let bytes = c.args.bytes.now in
-    let parts = c.args.parts.now in
-    let l = c.loop-at in
-    next_refused (string_text bytes parts) (IsStringAt bytes parts) (refuses bytes parts) c.args.strings.now c.args.texts.now l.texts c.args.ends.now l.ends l.outcome l.at _ c.in-Err.fault c.of.result c.loop-at-test.true
-    l.invariant c.in-Err.ensures.err c.of.ensures
-
-pub returns-in_err-hand_out-in-Ok : goal.returns-in_err-hand_out-in-Ok
-returns-in_err-hand_out-in-Ok c =
-    let bytes = c.args.bytes.now in
-    let parts = c.args.parts.now in
-    let l = c.loop-at in
-    next_without_memory (string_text bytes parts) (IsStringAt bytes parts) (refuses bytes parts) c.args.strings.now c.args.texts.now l.texts c.hand_out.new.array c.args.ends.now l.ends c.hand_out.new.ends l.outcome
-    c.hand_out.new.self l.at c.from_residual.result l.invariant c.in_err-hand_out-in-Ok.ensures.err c.from_residual.ensures.1
+    input_refused (AreKnown c.args.options) (AreOptionsRefused c.args.options) (All (IsStringAt bytes parts)) (refuses bytes parts) c.args.strings.now _ c.args.texts.now c.args.ends.now
+    c.nothing.result c.from_residual.result (ap (λ (o : Outcome). o.done) c.nothing.ensures) (ap (λ (o : Outcome). o.count) c.nothing.ensures)
+    (err_and c.from_residual.result c.in_err-how.field-0.0 _ c.from_residual.ensures.1 (inr c.in_err-how.ensures.err))
 
 pub returns : goal.returns
 returns c =
     let bytes = c.args.bytes.now in
     let parts = c.args.parts.now in
-    let l = c.loop-at in
-    all_read (string_text bytes parts) (IsStringAt bytes parts) (refuses bytes parts) c.args.strings.now c.args.texts.now l.texts c.args.ends.now l.ends l.outcome l.at (omega (arith, c.loop-at-test.false)) l.invariant
+    let strings = c.args.strings.now in
+    behind_input (AreKnown c.args.options) (AreOptionsRefused c.args.options) (All (IsStringAt bytes parts)) (refuses bytes parts) strings
+    (map (string_text (decoding_by c.args.options) bytes parts) strings) c.args.texts.now c.read_all.new.texts c.args.ends.now c.read_all.new.ends c.read_all.new.outcome c.read_all.result
+    c.in_ok-how.ensures.ok.0
+    (subst
+    (λ (how : Decoding). AreFound (map (string_text how bytes parts) strings) c.args.texts.now c.read_all.new.texts c.args.ends.now c.read_all.new.ends c.read_all.new.outcome
+    (λ read. EndsBy (All (IsStringAt bytes parts)) (refuses bytes parts) strings read c.read_all.result))
+    c.in_ok-how.ensures.ok.1 c.read_all.ensures)

@@ -1,8 +1,0 @@
-use Rattle.std.proofs.Common.{◌∙◌}
-use Rattle.markdown_html.proofs.EventLoop.{text-alone}
-use Rattle.markdown_html.proofs.writer.text_of.Goals as goal
-
-pub returns : goal.returns
-returns c = λ n previous t is.
-    let w = c.in_ok-written.ensures n previous t is in
-    w.0 ∙ text-alone c.args.bytes.now c.shipped.result c.new-definitions.result c.safe.result c.new-calls.result t c.shipped.ensures c.new-definitions.ensures c.safe.ensures c.new-calls.ensures
