@@ -6,7 +6,7 @@ use Rattle.markdown_content.specs.Codes.{Code}
 use Rattle.markdown_content.specs.Tree.{Forest, leaf}
 use Rattle.markdown_model.specs.CodeTests.{is_value}
 use Rattle.markdown_model.specs.Grammar.{Reading, ◌>>=◌, gives, some}
-use Rattle.markdown_model.specs.Setting.{Setting}
+use Rattle.markdown_model.specs.Setting.{Setting, within}
 use Rattle.markdown_model.specs.LabelEnd.{Element, plain, ends, Label, label_before, outcome_of, label_end}
 use Rattle.markdown_model.specs.Elements.{as_plain, line_ending, data_code, attention_run, text_element, AreElementsFrom, AreElements, code_before, elements_of}
 use Rattle.markdown_model.specs.InlineTree.{label_tree}
@@ -114,7 +114,7 @@ module _ (bytes : List ℕ) where
 
   pub sound-elements : (s : Setting) (cs : List Code) (es : List Element) → AreSingles bytes cs → AreElements s cs es →
       AllAre (IsElementRead bytes) es
-  sound-elements s cs es k h = all_sound s _ es [] None cs k h
+  sound-elements s cs es k h = all_sound (within cs s) _ es [] None cs k h
 
 -- The tree of labels.
 

@@ -40,7 +40,7 @@ pub codes-tree : (s : Setting) (cs : List Code) → leaf_codes (label_tree s cs)
 unfolding label_tree
 codes-tree s cs =
     codes-labels_of (elements_of s cs)
-    ∙ codes-elements (text_choice s cs) (λ earlier previous. covers_text_element s _ earlier previous) (elements_of s cs) [] None cs (text_elements s cs)
+    ∙ codes-elements (text_choice s cs) (λ earlier previous. covers_text_element (within cs s) _ earlier previous) (elements_of s cs) [] None cs (text_elements s cs)
 
 -- the runs of a tree's events
 pub events-runs : (options : ParseOptions) (bytes : List ℕ) (content : List Code) (t : Forest) (es : List Event) → HasRuns bytes t → es ≡ appended_from 0 None t

@@ -2,6 +2,7 @@
 use Rattle.std.proofs.Common.{ℕ, zero, suc, ◌<◌, ◌≤◌, Bool, true, false, not, ◌&&◌, ◌||◌, nat_lt, ◌≡◌, arith, List, [], ◌∷◌, filter, length, get_or, refl, sym, ap, ◌∙◌, inl, inr}
 use Rattle.std.specs.List.{list_any}
 use Rattle.std.specs.List.Sorted.{IsPartitionPoint, IsPartitionedBy}
+use Rattle.std.proofs.Math.Dec.{leb}
 use Rattle.std.proofs.lemmas.Bool.{both_ways, cases_Bool, le-ltb, lt-ltb}
 use Rattle.std.proofs.lemmas.Bool.Decides.{nat_tests}
 use Rattle.std.proofs.lemmas.List.Folds.{list_any-append}
@@ -42,6 +43,9 @@ or-none false b c h k = k
 none-and : (a b : Bool) → b ≡ true → (a && not b) ≡ false
 none-and true b h = ap not h
 none-and false b h = refl
+
+pub not-past : (k n : ℕ) → leb k n ≡ not (nat_lt n k)
+not-past k n = grind (arith, nat_tests)
 
 lt-both : (k n : ℕ) → nat_lt k n ≡ nat_lt (suc k) (suc n)
 lt-both k n = grind (arith, nat_tests)

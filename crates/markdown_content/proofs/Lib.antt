@@ -14,6 +14,7 @@ pub mod ContentCodes
 pub mod CursorInvariant
 pub mod ContentEnd
 pub mod CodesBeside
+pub mod BytesOfContent
 pub mod LaterPieces
 pub mod CursorSteps
 pub mod NestingLemmas

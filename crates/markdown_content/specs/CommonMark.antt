@@ -1,6 +1,6 @@
 -- The rules in which the crate that is ported departs from CommonMark 0.31.2, side by side: each field of a
 -- `Rules` is one departure, and is true where the standard's rule holds.
-use Rattle.std.specs.Prelude.{Bool, true, false, if◌then◌else◌}
+use Rattle.std.specs.Prelude.{true, false, if◌then◌else◌}
 use Rattle.markdown_content.specs.declared.configuration.ParseOptions.{ParseOptions}
 use Rattle.markdown_content.specs.declared.configuration.Rules.{Rules}
 
@@ -22,6 +22,7 @@ commonmark_rules = record {
   slashes_in_values = true;
   titles_keep_spaces = true;
   neighbours_in_content = true;
+  labels_by_text = true;
 }
 
 -- the crate's rules, of which three are options by themselves
@@ -42,6 +43,7 @@ crate_rules o = record {
   slashes_in_values = false;
   titles_keep_spaces = false;
   neighbours_in_content = false;
+  labels_by_text = false;
 }
 
 -- the rules that options choose

@@ -16,11 +16,11 @@ fn ending_before(bytes: &[u8], pieces: &[Piece], index: usize) -> usize
 }
 
 // How many of the pieces end at the byte of an index or before it.
-fn ending_by(bytes: &[u8], pieces: &[Piece], index: usize) -> usize
+pub(crate) fn ending_by(bytes: &[u8], pieces: &[Piece], index: usize) -> usize
     requires { IsContent bytes.now pieces.now }
     ensures { IsPartitionPoint (λ (p : Stretch). not (nat_lt index p.end.0) ≡ true) (λ (p : Stretch). not (nat_lt index p.end.0) ≡ false) pieces.now result }
 {
-    pieces.partition_point(|piece| !(index < piece.end.0))
+    pieces.partition_point(|piece| piece.end.0 <= index)
 }
 
 // Whether a code of the content of these pieces stands right before the byte of an index.
@@ -38,5 +38,5 @@ pub(crate) fn have_code_behind(bytes: &[u8], pieces: &[Piece], index: usize) -> 
     ensures { result ≡ has_code_behind (content_of bytes.now pieces.now) index }
 {
     let piece = ending_by(bytes, pieces, index);
-    piece < pieces.len() && !(index < pieces[piece].start.0)
+    piece < pieces.len() && pieces[piece].start.0 <= index
 }

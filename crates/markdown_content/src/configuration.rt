@@ -242,13 +242,15 @@ pub struct Rules {
     pub escaped_parentheses: bool,
     /// The 999 of a label are characters, and not bytes (CommonMark 6.3).
     pub labels_by_characters: bool,
-    /// What is defined has a link label: one that is not blank, and in which each bracket has a backslash of its own (CommonMark 4.7, 6.3).
+    /// What is defined has a link label: one that is not blank, in which each bracket has a backslash of its own, and of at most 999 characters
+    /// (CommonMark 4.7, 6.3).
     pub definitions_have_labels: bool,
     /// Before the `@` of an address stands each mark that HTML allows there (CommonMark 6.5).
     pub all_address_marks: bool,
     /// Two spaces at the end of a line break it, whatever whitespace stands before these two (CommonMark 6.7).
     pub two_last_spaces: bool,
-    /// Beside a run, and in the URI of an autolink, NUL is read as U+FFFD, which is punctuation and no control (CommonMark 2.3, 6.5).
+    /// Beside a run, in the URI of an autolink and in an identifier, NUL is read as U+FFFD, which is punctuation and no control (CommonMark 2.3,
+    /// 6.3, 6.5).
     pub nul_is_replaced: bool,
     /// A reference may have each name of HTML that ends in a semicolon (CommonMark 2.5).
     pub html_names: bool,
@@ -260,6 +262,9 @@ pub struct Rules {
     pub titles_keep_spaces: bool,
     /// Beside a run stands what the content has there; behind its ends there is whitespace (CommonMark 6.2).
     pub neighbours_in_content: bool,
+    /// The identifier of a label is that of its text in the content: what the content leaves out at the starts of later lines is no part of it
+    /// (CommonMark 6.3).
+    pub labels_by_text: bool,
 }
 
 // The rules of the crate that is ported.
@@ -279,6 +284,7 @@ const DEFAULT_RULES: Rules = Rules {
     slashes_in_values: false,
     titles_keep_spaces: false,
     neighbours_in_content: false,
+    labels_by_text: false,
 };
 
 // CommonMark's rules.
@@ -298,4 +304,5 @@ const COMMONMARK_RULES: Rules = Rules {
     slashes_in_values: true,
     titles_keep_spaces: true,
     neighbours_in_content: true,
+    labels_by_text: true,
 };

@@ -1,8 +1,9 @@
 //! A place in a content, which hides the pieces, the tabs and what is left out of the lines.
-ghost use Rattle.std.specs.Prelude.{◌≡◌, ◌∷◌, [], ℕ, List, drop, length, nat_le, ◌<◌, ◌≤◌, true, false, None, IsSome, IfSome, IsTrue};
+ghost use Rattle.std.specs.Prelude.{◌≡◌, ◌∷◌, ◌++◌, [], ℕ, List, drop, length, nat_le, ◌<◌, ◌≤◌, true, false, None, IsSome, IfSome, IsTrue, OnOk, slice_range};
 ghost use Rattle.markdown_content.specs.Beside.{has_code_before, has_code_behind};
 ghost use Rattle.markdown_content.specs.Codes.{count_among, line_feed, place_of};
 ghost use Rattle.markdown_content.specs.Content.{IsContent, has_no_blank_line};
+ghost use Rattle.markdown_content.specs.ContentBytes.{bytes_within};
 ghost use Rattle.markdown_content.specs.KnownPlaces.{first_place};
 ghost use Rattle.markdown_content.specs.Place.{start_of_content, ahead_at, code_at, code_before, point_of, exit_point, moved};
 ghost use Rattle.markdown_content.specs.PlaceInDocument.{is_open, first_point, followed, IsPlaceOf};
@@ -15,8 +16,10 @@ use crate::byte_counts::have_fewer;
 use crate::bytes::{ByteSet, NO_BYTES};
 use crate::lanes::{EIGHT, LANES, ordinary_among, others_among, plain_among, plain_among_eight};
 use crate::parser::Piece;
+use crate::part::{is_in_one_piece, push_between};
 use crate::walk::{DOCUMENT_START, code_from, past_code, walk_to};
 use markdown_event::event::Point;
+use std::alloc::AllocError;
 use std::marker::Model;
 
 /// A place in a content: its codes, how many of them are passed, and where it ends.
@@ -184,6 +187,31 @@ impl<'a> Cursor<'a> {
         ensures { result ≡ has_code_behind self.now.codes index }
     {
         have_code_behind(self.bytes, self.pieces, index)
+    }
+
+    /// Answers whether one piece has all bytes of the document from an index to another, so that the content leaves none of them out. The pieces are
+    /// searched by halving.
+    pub fn is_in_one_piece(&self, from: usize, to: usize) -> bool
+        ensures { IsTrue result → (text : List ℕ) → bytes_within text from to self.now.codes ≡ slice_range text from to }
+    {
+        is_in_one_piece(self.bytes, self.pieces, from, to)
+    }
+
+    /// Appends the bytes of a text, such as the document, at which the content's stand between two indexes of the document: what the pieces leave out is not
+    /// among them. The pieces are searched by halving, and read from there on.
+    ///
+    /// The only error is that memory was refused.
+    pub fn push_between(
+        &self,
+        out: &mut Vec<u8>,
+        text: &[u8],
+        from: usize,
+        to: usize,
+    ) -> Result<(), AllocError>
+        requires { to ≤ length text.now }
+        ensures { OnOk result (out.new.items ≡ out.old.items ++ bytes_within text.now from to self.now.codes) }
+    {
+        push_between(out, text, self.bytes, self.pieces, from, to)
     }
 
     /// Answers the bytes of the document that it reads.

@@ -11,5 +11,6 @@ pub mod cursor;
 pub mod label_kind;
 pub mod lanes;
 pub mod parser;
+pub mod part;
 pub mod util;
 pub mod walk;

@@ -9,7 +9,7 @@ use Rattle.markdown_model.specs.CodeTests.{is_value}
 use Rattle.markdown_model.specs.Elements.{as_plain, line_ending, data_code, attention_run, Tries, tries, tried, first_check, text_element, string_element, text_choice, string_choice, Choice, AreElementsFrom, AreElements, AreStringElements, code_before}
 use Rattle.markdown_model.specs.Grammar.{Reading, ◌>>=◌, gives, either, one}
 use Rattle.markdown_model.specs.LabelEnd.{Element, plain, starts, ends, Label, label_before, outcome_of, label_end}
-use Rattle.markdown_model.specs.Setting.{Setting}
+use Rattle.markdown_model.specs.Setting.{Setting, within}
 use Rattle.markdown_model.proofs.ElementCases.{AllAre, EachConstruct, check_has, either_has, outcome_yields, row_has, string_has}
 use Rattle.markdown_model.proofs.ElementsCover.{covers_text_element, covers_string_element}
 use Rattle.markdown_model.proofs.LabelsCover.{element_codes, unused}
@@ -173,12 +173,12 @@ module _ (s : Setting) where
   string-there earlier previous [] = string-none
   string-there earlier previous (c ∷ cs) = here-string c cs
 
-  pub text-lined : (cs : List Code) (es : List Element) → AreSpaced s.bytes cs → AreElements s cs es →
-      AllAre IsLinedElement es
-  text-lined cs es k h =
-      lined-elements (text_choice s cs) (λ earlier previous. covers_text_element s _ earlier previous) (λ earlier previous ds. text-there _ earlier previous ds) es [] None cs k h
+pub text-lined : (s : Setting) (cs : List Code) (es : List Element) → AreSpaced s.bytes cs → AreElements s cs es →
+    AllAre IsLinedElement es
+text-lined s cs es k h =
+    lined-elements (within cs s) (text_choice s cs) (λ earlier previous. covers_text_element (within cs s) _ earlier previous) (λ earlier previous ds. text-there (within cs s) _ earlier previous ds) es [] None cs k h
 
-  pub string-lined : (cs : List Code) (es : List Element) → AreSpaced s.bytes cs → AreStringElements s cs es →
-      AllAre IsLinedElement es
-  string-lined cs es k h =
-      lined-elements (string_choice s) (λ earlier previous. covers_string_element s (unused earlier)) string-there es [] None cs k h
+pub string-lined : (s : Setting) (cs : List Code) (es : List Element) → AreSpaced s.bytes cs → AreStringElements s cs es →
+    AllAre IsLinedElement es
+string-lined s cs es k h =
+    lined-elements s (string_choice s) (λ earlier previous. covers_string_element s (unused earlier)) (string-there s) es [] None cs k h

@@ -9,12 +9,11 @@ use Rattle.markdown_content.specs.declared.label_kind.LabelKind.{LabelKind}
 use Rattle.markdown_engine.specs.declared.tokenizer.LabelStart.{LabelStart}
 use Rattle.markdown_model.specs.Grammar.{Reading, ◌>>◌, gives, provided, one}
 use Rattle.markdown_model.specs.CodeTests.{is_value}
-use Rattle.markdown_model.specs.LabelEnd.{Element, plain, starts, ends, Label, label_before, is_image, is_barred, label_identifier, footnote_call, link_or_image, outcome_of, bytes_between, label_end}
+use Rattle.markdown_model.specs.LabelEnd.{Element, plain, starts, ends, Label, label_before, is_image, is_barred, label_identifier, footnote_call, link_or_image, outcome_of, label_name, label_end}
 use Rattle.markdown_model.specs.Laws.{UnusedStart, with_link, unused_starts, IsLabelOf}
 use Rattle.markdown_model.specs.Setting.{Setting}
 use Rattle.markdown_model.proofs.GrammarSteps.{bind-some, bind-none, one-here, either-some, either-second}
 use Rattle.markdown_model.proofs.EndsTakeTheNearest.{ends_take_the_nearest}
-use Rattle.markdown_util.specs.Identifier.{identifier_of}
 use Rattle.markdown_label.specs.LabelFields.{bars, marked, barred_by}
 use Rattle.markdown_label.specs.LabelEnd.{last_start}
 use Rattle.markdown_label_names.specs.LabelNames.{point_or, place_at}
@@ -120,7 +119,7 @@ outcome-same s es (u ∷ us) (l ∷ ls) o back cs k h =
     let place : stop_of document_start h.0.marker ≡ place_at es l.start.1 = ap (stop_of document_start) h.3 ∙ sym k.0.place in
     ap (λ x. outcome_of s x back cs) h.1
     ∙ outcome-parts s h.0 back cs
-    ∙ (λ i. (provided (not (barred i)) >> outcome s (kind i) (identifier_of (bytes_between s (place i) (start_of back)))) cs)
+    ∙ (λ i. (provided (not (barred i)) >> outcome s (kind i) (label_name s (place i).index (start_of back).index)) cs)
 
 pub outcome-kept : (s : Setting) (earlier : List Element) (es : List Event) (ls : List LabelStart) (back cs : List Code) →
     StandFor es (unused_starts earlier) ls → outcome_of s (label_before earlier) back cs ≡ made_by s es ls back cs

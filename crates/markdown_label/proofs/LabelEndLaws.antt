@@ -36,7 +36,7 @@ use Rattle.markdown_label.specs.LabelFields.{AreOrdered, with_kind, as_link}
 use Rattle.markdown_partial.specs.LinkedText.{rules_in}
 use Rattle.markdown_label.specs.Resource.{asks_both}
 use Rattle.markdown_label.specs.LabelEnd.{by_definition, not_full, tail_at, link_tried, after_by, made_here, lost_here, label_seen, label_matters, may_be_shortcut, collapsed_front, collapsed_back, collapsed_at, reference_collapsed_step, collapsed_open_at, AfterReady, FullReady, tail_ends, kind_set, made, after_reading_of}
-use Rattle.markdown_label_names.specs.LabelNames.{identifier_between}
+use Rattle.markdown_label_names.specs.LabelNames.{label_between}
 use Rattle.markdown_label.specs.LabelEnd.{after_reading, after_ends, ok_ends, nok_ends, not_full_reading, reference_collapsed_ends, collapsed_open_plan, reference_collapsed_open_ends, starts_set, states_and_called, ok_words, nok_words, after_words, reference_collapsed_words, reference_collapsed_open_words, reference_not_full_words}
 use Rattle.markdown_model.specs.SingleConstructs.{outcome}
 use Rattle.markdown_label_names.specs.LabelSetting.{setting_in}
@@ -209,13 +209,13 @@ module _ (W : Words) (within : EqualsLayer states_and_called W) where
 
   reads-as : (l : Kept.LabelStart) (ls : List Kept.LabelStart) (T : Tokenizer) →
       T.tokenize_state.label_starts ≡ l ∷ ls →
-      after_reading T (ahead T) ≡ outcome (setting_in T) l.kind (identifier_between T l.start.1 T.tokenize_state.end) (ahead T)
+      after_reading T (ahead T) ≡ outcome (setting_in T) l.kind (label_between T l.start.1 T.tokenize_state.end) (ahead T)
   reads-as l ls T e = ap (λ x. after_reading_of x T (ahead T)) e
 
   -- a tail that makes the label or not, of a start tried as a link's
   tail-after : (l : Kept.LabelStart) (ls : List Kept.LabelStart) (T : Tokenizer) →
       T.tokenize_state.label_starts ≡ l ∷ ls → (name : List ℕ) →
-      name ≡ identifier_between T l.start.1 T.tokenize_state.end →
+      name ≡ label_between T l.start.1 T.tokenize_state.end →
       is_footnote l.kind && is_defined (setting_in T).footnotes name ≡ false → (ok : Bool) (U : Tokenizer) →
       tail_ends (after_label (setting_in T) (defines (setting_in T) (link_identifier l.kind name))) (link_tried T) ok U →
       after_ends T ok U
@@ -244,11 +244,11 @@ module _ (W : Words) (within : EqualsLayer states_and_called W) where
 
   call-after : (l : Kept.LabelStart) (ls : List Kept.LabelStart) (T : Tokenizer) →
       T.tokenize_state.label_starts ≡ l ∷ ls →
-      is_footnote l.kind && is_defined (setting_in T).footnotes (identifier_between T l.start.1 T.tokenize_state.end) ≡ true →
+      is_footnote l.kind && is_defined (setting_in T).footnotes (label_between T l.start.1 T.tokenize_state.end) ≡ true →
       (ok : Bool) (U : Tokenizer) → ok_ends T ok U → after_ends T ok U
   unfolding made
   call-after l ls T e called true U k =
-      let name : List ℕ = identifier_between T l.start.1 T.tokenize_state.end in
+      let name : List ℕ = label_between T l.start.1 T.tokenize_state.end in
       record {
         kind = LabelKind.GfmFootnote;
         tail = empty;
@@ -271,7 +271,7 @@ module _ (W : Words) (within : EqualsLayer states_and_called W) where
   after-goes l ls T alone k e =
       let n : ℕ = weight_at 13 T in
       let s : Setting = setting_in T in
-      let name : List ℕ = identifier_between T l.start.1 T.tokenize_state.end in
+      let name : List ℕ = label_between T l.start.1 T.tokenize_state.end in
       let defined : Bool = defines s (link_identifier l.kind name) in
       let P : Stepped → Type 0 = GoesIn W n (after_ends T) in
       if-step P (is_footnote l.kind && is_defined s.footnotes name) _ _

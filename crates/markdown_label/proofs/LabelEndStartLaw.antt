@@ -33,15 +33,14 @@ use Rattle.markdown_plan.proofs.ContentCharacters.{text-past}
 use Rattle.markdown_plan.proofs.CharacterPlaces.{code-begins}
 use Rattle.markdown_model.specs.CodeTests.{is_value, is_later_byte, next_is}
 use Rattle.markdown_model.specs.Grammar.{Reading, ◌>>=◌, gives, one}
-use Rattle.markdown_model.specs.LabelEnd.{bytes_between}
+use Rattle.markdown_model.specs.LabelEnd.{label_name}
 use Rattle.markdown_model.proofs.GrammarSteps.{bind-some, bind-none, one-here, one-not, switched-on, switched-off, if-true, if-false}
-use Rattle.markdown_util.specs.Identifier.{identifier_of}
 use Rattle.markdown_label.specs.LabelFields.{bars, as_link, loosened}
 use Rattle.std.specs.Str.{IsCharBoundary}
 use Rattle.std.proofs.lemmas.Bool.{eqb-true, true≢false}
 use Rattle.markdown_event.specs.declared.event.Point.{Point}
 use Rattle.markdown_label.specs.LabelEnd.{EndsBetween, end_ops, ended_at, ended, start_by, is_on, start_at, AllEndBetween, LabelEndStartReady, AfterReady, after_reading_of, after_reading, after_ends, nok_ends, lost_here, end_tree, outcome_by, end_reading, lost_starts, lost_by, lost_fields, end_made, start_ends, start_words, states_and_called}
-use Rattle.markdown_label_names.specs.LabelNames.{AreAround, point_or, place_at, identifier_between}
+use Rattle.markdown_label_names.specs.LabelNames.{AreAround, point_or, place_at, label_between}
 use Rattle.markdown_model.specs.SingleConstructs.{outcome}
 use Rattle.markdown_label_names.specs.LabelSetting.{setting_in}
 use Rattle.markdown_label.proofs.LabelEndLemmas.{Fails-lost}
@@ -99,23 +98,23 @@ module _ (T : Tokenizer) (x : Code) (cs : List Code) (whole : ahead T ≡ x ∷ 
   left-there = omega (arith, left-ahead P, left-ahead T, ap length ahead-there, ap length whole)
 
   name-there : (l : Kept.LabelStart) → l.start.1 < length T.events →
-      identifier_between P l.start.1 P.tokenize_state.end ≡ identifier_of (bytes_between (setting_in T) (place_at T.events l.start.1) x.start)
-  unfolding past scratched
+      label_between P l.start.1 P.tokenize_state.end ≡ label_name (setting_in T) (place_at T.events l.start.1).index x.start.index
+  unfolding past scratched moved
   name-there l within =
       let front : place_at P.events l.start.1 ≡ place_at T.events l.start.1 = place-front T.events (appended_from (length T.events) None (end_tree (x ∷ []))) l.start.1 within in
       let back : place_at P.events (length T.events) ≡ x.start = place-there T.events _ _ in
-      λ i. identifier_of (bytes_between (setting_in T) (front i) (back i))
+      λ i. label_name (setting_in T) (front i).index (back i).index
 
   reads-there : (l : Kept.LabelStart) (ls : List Kept.LabelStart) → T.tokenize_state.label_starts ≡ l ∷ ls →
       l.start.1 < length T.events → bars l ≡ false →
       after_reading P (ahead P) ≡ outcome_by T.tokenize_state.label_starts T (x ∷ []) cs
-  unfolding past scratched
+  unfolding past scratched moved
   reads-there l ls e within active =
       let s = setting_in T in
       ap (λ y. after_reading_of y P (ahead P)) e
       ∙ ap (λ y. outcome s l.kind y (ahead P)) (name-there l within)
-      ∙ ap (outcome s l.kind (identifier_of (bytes_between s (place_at T.events l.start.1) x.start))) ahead-there
-      ∙ sym (ap (λ y. outcome_by y T (x ∷ []) cs) e ∙ switched-on (outcome s l.kind (identifier_of (bytes_between s (place_at T.events l.start.1) x.start))) (not (bars l)) cs (ap not active))
+      ∙ ap (outcome s l.kind (label_name s (place_at T.events l.start.1).index x.start.index)) ahead-there
+      ∙ sym (ap (λ y. outcome_by y T (x ∷ []) cs) e ∙ switched-on (outcome s l.kind (label_name s (place_at T.events l.start.1).index x.start.index)) (not (bars l)) cs (ap not active))
 
   first-within : (ls : List Kept.LabelStart) → AllEndBetween T ls → (m : Kept.LabelStart) (ms : List Kept.LabelStart) →
       ls ≡ m ∷ ms → EndsBetween T m
@@ -134,6 +133,7 @@ module _ (T : Tokenizer) (x : Code) (cs : List Code) (whole : ahead T ≡ x ∷ 
       record {
         listed = k.listed;
         text = k.text.text;
+        own = (text-past None (end_tree (x ∷ [])) (ended_at (length T.events) T.tokenize_state) T k.text).own;
         first = omega (arith, w.within, length-append T.events more);
         last = omega (arith, length-append T.events more);
         from = subst (λ (p : Point). IsCharBoundary (bytes_of T) p.index) (sym front) w.between;

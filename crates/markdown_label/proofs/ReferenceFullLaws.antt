@@ -5,11 +5,12 @@ use Rattle.std.proofs.Math.Bool.{and-true, and-false}
 use Rattle.std.specs.Prelude.{◌&&◌, is_some, IsUtf8}
 use Rattle.std.specs.Str.{IsCharBoundary}
 use Rattle.markdown_content.specs.Codes.{Code, stop_of, document_start}
+use Rattle.markdown_content.specs.PlaceInDocument.{IsPlaceOf}
 use Rattle.markdown_engine.specs.FailedRun.{Fails}
 use Rattle.markdown_engine.specs.Operations.{ahead, scratched}
-use Rattle.markdown_engine.specs.PastTree.{Reads, EndsAs, past}
+use Rattle.markdown_engine.specs.PastTree.{Reads, EndsAs, moved_by, past}
 use Rattle.markdown_engine.specs.StateWords.{Words, Law, GoesIn}
-use Rattle.markdown_content.specs.Tree.{Forest}
+use Rattle.markdown_content.specs.Tree.{Forest, leaf_codes}
 use Rattle.markdown_engine.specs.Weights.{codes_left, weight_at}
 use Rattle.markdown_event.specs.declared.state.State.TheVariants.{Next, Retry}
 use Rattle.markdown_event.specs.declared.state.StateName.TheVariants.{LabelEndReferenceFullAfter, LabelEndReferenceFullMissing, LabelStart}
@@ -22,18 +23,20 @@ use Rattle.markdown_engine.proofs.TreeEvents.{Fails-past}
 use Rattle.markdown_plan.specs.LayerEquation.{EqualsLayer}
 use Rattle.markdown_plan.specs.Characters.{bytes_of, later_value}
 use Rattle.markdown_plan.proofs.LawStepsOfLayer.{FollowsIn, follows, Goes-attempt, Goes-end}
+use Rattle.markdown_plan.proofs.ContentCharacters.{text-past}
 use Rattle.markdown_plan.proofs.CharacterPlaces.{text-places}
 use Rattle.markdown_model.specs.Grammar.{gives}
 use Rattle.markdown_model.specs.LabelEnd.{full_reference, reference_identifier}
 use Rattle.markdown_model.specs.Resource.{label, reference_names}
-use Rattle.markdown_model.specs.Setting.{Setting, defines, rules}
+use Rattle.markdown_model.specs.Setting.{Setting, defines, rules, within}
 use Rattle.markdown_model.proofs.NoLinkInConstructs.{PassesValue}
 use Rattle.markdown_model.proofs.GrammarSteps.{bind-some, bind-none, switched-on, switched-off}
 use Rattle.markdown_partial.specs.LinkedText.{rules_in}
 use Rattle.markdown_partial.specs.PartialLabel as PartialLabel
 use Rattle.markdown_label.specs.LabelEnd.{names_set, label_seen, label_matters, reference_name, ReferenceIsAround, FullReady, FullFails, reference_full_ends, reference_full_after_ends, reference_full_missing_ends, states_and_called, reference_full_words, reference_full_after_words, reference_full_missing_words}
 use Rattle.markdown_label.specs.AfterLabelParts.{names_rested, rested, PartReady}
-use Rattle.markdown_label_names.specs.LabelSetting.{setting_in, IsListed}
+use Rattle.markdown_label_names.specs.LabelSetting.{setting_in, setting_of, IsListed}
+use Rattle.markdown_label.proofs.NextCodeTests.{same-codes}
 use Rattle.markdown_label.proofs.ReferenceFullText.{reference-around}
 use Rattle.markdown_label.proofs.ReferenceFullPlaces.{HasText, label-text}
 use Rattle.markdown_label.proofs.ReferenceFullTree.{IsReferenceGroup, label-shape, name-there}
@@ -118,13 +121,17 @@ name-is : (t : Forest) (T U : Tokenizer) → IsReferenceGroup t → length T.eve
     reference_name U ≡ reference_identifier (setting_in T) t
 unfolding past scratched
 name-is t T U k end left =
-    ap reference_name left ∙ name-there (setting_in T) T.events t (T.tokenize_state.end + 7) _ k (omega (arith, end)) refl
+    let there : Setting = within (moved_by (leaf_codes t) T.cursor).codes (setting_of T.parse_state.now) in
+    ap reference_name left
+    ∙ name-there there T.events t (T.tokenize_state.end + 7) _ k (omega (arith, end)) refl
+    ∙ ap (λ cs. reference_identifier (within cs (setting_of T.parse_state.now)) t) (same-codes (leaf_codes t) T.cursor)
 
 setting-past : (t : Forest) (T U : Tokenizer) →
     U ≡ past None t (scratched (names_set T.tokenize_state) (scratched (names_set T.tokenize_state) T)) →
     setting_in U ≡ setting_in T
 unfolding past scratched
-setting-past t T U left = ap setting_in left
+setting-past t T U left =
+    ap setting_in left ∙ ap (λ cs. within cs (setting_of T.parse_state.now)) (same-codes (leaf_codes t) T.cursor)
 
 matters-past : (t : Forest) (T U : Tokenizer) →
     U ≡ past None t (scratched (names_set T.tokenize_state) (scratched (names_set T.tokenize_state) T)) →
@@ -148,7 +155,7 @@ text-around T U f r =
     let codes : ahead T ≡ k.c ∷ k.x ∷ (k.xs ++ k.d ∷ r.rest) = r.whole ∙ ap (λ cs. cs ++ r.rest) k.whole ∙ ap (λ cs. k.c ∷ k.x ∷ cs) (append_assoc k.xs (k.d ∷ []) r.rest) in
     let places = text-places (bytes_of T) T.cursor k.c k.x k.xs k.d r.rest f.text codes (ap (λ v. nat_lt v 128) k.opens) (ap later_value k.closes) in
     let same : bytes_of U ≡ bytes_of T = ap bytes_of r.left in
-    reference-around T U r.tree k (subst IsListed (sym r.left) f.listed) (subst IsUtf8 (sym same) f.text.text) (ap (λ (x : Tokenizer). x.events) r.left) (f.end ∙ ap (λ (x : Tokenizer). x.tokenize_state.end + 4) (sym r.left))
+    reference-around T U r.tree k (subst IsListed (sym r.left) f.listed) (subst IsUtf8 (sym same) f.text.text) (subst (λ (x : Tokenizer). IsPlaceOf (bytes_of x) x.cursor) (sym r.left) (text-past None r.tree T.tokenize_state T f.text).own) (ap (λ (x : Tokenizer). x.events) r.left) (f.end ∙ ap (λ (x : Tokenizer). x.tokenize_state.end + 4) (sym r.left))
     (subst (λ bs. IsCharBoundary bs k.x.start.index) (sym same) places.0)
     (subst (λ bs. IsCharBoundary bs (stop_of document_start (k.x ∷ k.xs)).index) (sym same) places.1)
 

@@ -3,6 +3,7 @@ use Rattle.std.proofs.Common.{◌≡◌, ℕ, ◌+◌, ◌-◌, ◌≤◌, None,
 use Rattle.std.specs.Prelude.{IsUtf8}
 use Rattle.std.specs.Str.{IsCharBoundary}
 use Rattle.markdown_content.specs.Codes.{stop_of, document_start}
+use Rattle.markdown_content.specs.PlaceInDocument.{IsPlaceOf}
 use Rattle.markdown_engine.specs.PastTree.{appended_from}
 use Rattle.markdown_content.specs.Tree.{Forest, event, start_of}
 use Rattle.markdown_event.specs.declared.event.Event.{Event}
@@ -43,9 +44,9 @@ text-there es t k =
     }
 
 -- so its identifier may be asked for
-pub reference-around : (T U : Tokenizer) (t : Forest) (k : HasText t) → IsListed U → IsUtf8 (bytes_of U) → U.events ≡ T.events ++ appended_from (length T.events) None t → length T.events ≡ U.tokenize_state.end + 4
+pub reference-around : (T U : Tokenizer) (t : Forest) (k : HasText t) → IsListed U → IsUtf8 (bytes_of U) → IsPlaceOf (bytes_of U) U.cursor → U.events ≡ T.events ++ appended_from (length T.events) None t → length T.events ≡ U.tokenize_state.end + 4
     → IsCharBoundary (bytes_of U) k.x.start.index → IsCharBoundary (bytes_of U) (stop_of document_start (k.x ∷ k.xs)).index → ReferenceIsAround U
-reference-around T U t k listed text events end from to =
+reference-around T U t k listed text own events end from to =
     let r : AreThere T.events (T.events ++ appended_from (length T.events) None t) k.shape.from k.shape.to = text-there T.events t k.shape in
     let number : U.tokenize_state.end + 7 ≡ length T.events + 3 = omega (arith, end) in
     let enters : place_at U.events (U.tokenize_state.end + 7) ≡ k.x.start = (λ i. place_at (events i) (number i)) ∙ r.enter ∙ k.from in
@@ -54,6 +55,7 @@ reference-around T U t k listed text events end from to =
       record {
         listed = listed;
         text = text;
+        own = own;
         first = omega (arith, end, r.long, ap length events);
         last = omega (arith, r.long, ap length events);
         from = subst (λ (p : Point). IsCharBoundary (bytes_of U) p.index) (sym enters) from;

@@ -13,12 +13,11 @@ use Rattle.markdown_event.specs.declared.event.Name.TheVariants as N
 use Rattle.markdown_event.specs.declared.event.Point.{Point}
 use Rattle.markdown_plan.proofs.FirstStretch.{BeginsWith, stretches-begin}
 use Rattle.markdown_model.specs.Grammar.{one}
-use Rattle.markdown_model.specs.LabelEnd.{bytes_between, reference_identifier}
+use Rattle.markdown_model.specs.LabelEnd.{name_between, reference_identifier}
 use Rattle.markdown_model.specs.TextLines.{lines, lines_from, lines_of, linked_leaf}
 use Rattle.markdown_model.specs.Resource.{label, reference_names, between_markers, string_group}
 use Rattle.markdown_model.specs.Setting.{Setting}
 use Rattle.markdown_model.proofs.NoLinkInConstructs.{PassesValue, Yields, yields_bind, yields_gives, yields_passed, then_any}
-use Rattle.markdown_util.specs.Identifier.{identifier_of}
 use Rattle.markdown_label_names.specs.LabelNames.{point_or, place_at}
 
 -- a group of a marker, a text and a marker
@@ -103,7 +102,7 @@ get-after (x ∷ xs) ys n = next (length xs) n ∙ get-after xs ys n
 
 -- the bytes of the text, by the numbers of its Enter and Exit
 pub name-there : (s : Setting) (es : List Event) (t : Forest) (enter exit : ℕ) → IsReferenceGroup t → enter ≡ length es + 3 → exit ≡ length (es ++ appended_from (length es) None t) - 4
-    → identifier_of (bytes_between s (place_at (es ++ appended_from (length es) None t) enter) (place_at (es ++ appended_from (length es) None t) exit)) ≡ reference_identifier s t
+    → name_between s (place_at (es ++ appended_from (length es) None t) enter).index (place_at (es ++ appended_from (length es) None t) exit).index ≡ reference_identifier s t
 unfolding reference_identifier
 name-there s es t enter exit k at_enter at_exit =
     let n : ℕ = length es in
@@ -120,4 +119,4 @@ name-there s es t enter exit k at_enter at_exit =
     (λ i. place_at (whole i) (at_enter i)) ∙ ap (λ x. place_at x (n + 3)) (append_assoc es first (close ∷ last)) ∙ ap point_or (get-after es (first ++ close ∷ last) 3) in
     let exits : place_at (es ++ appended_from n None t) exit ≡ k.to =
     (λ i. place_at (whole i) (size i)) ∙ ap point_or (get-after (es ++ first) (close ∷ last) 0) in
-    (λ i. identifier_of (bytes_between s (enters i) (exits i))) ∙ sym (ap (reference_identifier s) k.is)
+    (λ i. name_between s (enters i).index (exits i).index) ∙ sym (ap (reference_identifier s) k.is)

@@ -32,7 +32,7 @@ use Rattle.markdown_label.specs.Resource as Resource
 use Rattle.markdown_partial.specs.PartialLabel as PartialLabel
 use Rattle.markdown_label.specs.LabelFields.{AreOrdered, bars, with_kind, as_link, labelled, loosened}
 use Rattle.markdown_label_names.specs.LabelSetting.{setting_in, IsListed}
-use Rattle.markdown_label_names.specs.LabelNames.{place_at, identifier_between, AreAround}
+use Rattle.markdown_label_names.specs.LabelNames.{place_at, identifier_between, label_between, AreAround}
 
 -- the label whose end is passed: from the last event of its start to the first one of its end
 abbrev pub LabelIsAround : Tokenizer → Type 0
@@ -97,7 +97,7 @@ after_as kind name T =
 
 abbrev pub after_by : List Kept.LabelStart → Tokenizer → Stepped
 after_by [] T = stepped Nok T
-after_by (l ∷ ls) T = after_as l.kind (identifier_between T l.start.1 T.tokenize_state.end) T
+after_by (l ∷ ls) T = after_as l.kind (label_between T l.start.1 T.tokenize_state.end) T
 
 abbrev pub after_step : Tokenizer → Stepped
 after_step T = after_by T.tokenize_state.label_starts T
@@ -257,7 +257,7 @@ pub record Loses (reading : MadeReading) (s : TokenizeState) (T U : Tokenizer) :
 -- what the end makes whose `]` is passed
 abbrev pub after_reading_of : List Kept.LabelStart → Tokenizer → MadeReading
 after_reading_of [] T cs = None
-after_reading_of (l ∷ ls) T cs = outcome (setting_in T) l.kind (identifier_between T l.start.1 T.tokenize_state.end) cs
+after_reading_of (l ∷ ls) T cs = outcome (setting_in T) l.kind (label_between T l.start.1 T.tokenize_state.end) cs
 
 abbrev pub after_reading : Tokenizer → MadeReading
 after_reading T = after_reading_of T.tokenize_state.label_starts T

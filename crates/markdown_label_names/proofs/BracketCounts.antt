@@ -1,5 +1,5 @@
 -- An identifier has as many opening brackets as its text.
-use Rattle.std.proofs.Common.{◌≡◌, ◌∙◌, sym, ap, ap₂, refl, ℕ, suc, ◌+◌, ◌<◌, Bool, true, false, ◌==◌, cond, List, [], ◌∷◌, ◌++◌, length, get_or, inl, inr, IsUtf8, append-nil, arith}
+use Rattle.std.proofs.Common.{◌≡◌, ◌∙◌, sym, ap, ap₂, refl, ℕ, suc, ◌+◌, ◌<◌, Bool, true, false, ◌==◌, cond, if◌then◌else◌, List, [], ◌∷◌, ◌++◌, length, get_or, map, inl, inr, IsUtf8, append-nil, arith}
 use Rattle.std.specs.Prelude.{not}
 use Rattle.std.specs.List.{list_all, filter, slice_split, onto_first, join_with_byte}
 use Rattle.std.specs.Str.{chars, encode_utf8_all}
@@ -14,7 +14,8 @@ use Rattle.ucd_case.specs.CaseFolding.{full_folding, or_itself, full_fold}
 use Rattle.ucd_case.proofs.CaseFoldingLemmas.{full_folding_stepped, full_fold-ascii}
 use Rattle.caseless.specs.Caseless.{default_case_fold}
 use Rattle.markdown_notes.specs.BracketIndex.{brackets_of}
-use Rattle.markdown_util.specs.Identifier.{separates_words, is_nonempty, joined_words, identifier_of}
+use Rattle.markdown_util.specs.Identifier.{separates_words, is_nonempty, joined_words, identifier_of, read_text, replaced_nul}
+use Rattle.markdown_util.proofs.ValueBytes.{eqb_off}
 
 abbrev count : Bool → ℕ
 count b = cond b 1 0
@@ -131,3 +132,20 @@ unfolding identifier_of
 of-identifier bs u =
     of-chars (default_case_fold (joined_words (chars bs))) ∙ of-folded (joined_words (chars bs)) ∙ of-joined (chars bs)
     ∙ sym (of-chars (chars bs)) ∙ ap brackets_of (encodes-chars bs u)
+
+-- and so many when NUL is read as another character
+
+of-replaced : (cs : List ℕ) → brackets_of (map replaced_nul cs) ≡ brackets_of cs
+of-replaced [] = refl
+of-replaced (c ∷ cs) = first (replaced_nul c) (map replaced_nul cs) ∙ (λ i. one c i + of-replaced cs i) ∙ sym (first c cs)
+  where
+    one : (c : ℕ) → one_of (replaced_nul c) ≡ one_of c
+    one c = elim (cases_eq c 0) [
+      | inl e ↦ ap (λ x. one_of (replaced_nul x)) e ∙ ap one_of (sym e)
+      | inr n ↦ ap (λ b. one_of (if b then 0xFFFD else c)) (eqb_off c 0 n)
+    ]
+
+pub of-read : (replaced : Bool) (bs : List ℕ) → IsUtf8 bs → brackets_of (read_text replaced bs) ≡ brackets_of bs
+of-read false bs u = refl
+of-read true bs u =
+    of-chars (map replaced_nul (chars bs)) ∙ of-replaced (chars bs) ∙ sym (of-chars (chars bs)) ∙ ap brackets_of (encodes-chars bs u)

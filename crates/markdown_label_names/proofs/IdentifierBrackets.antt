@@ -1,5 +1,5 @@
 -- A label with another number of opening brackets than each name has is not defined.
-use Rattle.std.proofs.Common.{◌≡◌, ◌∙◌, sym, ap, refl, ℕ, ◌+◌, Bool, true, false, ◌&&◌, ◌||◌, ◌==◌, cond, List, [], ◌∷◌, ◌++◌, Option, Some, None, arith}
+use Rattle.std.proofs.Common.{◌≡◌, ◌∙◌, sym, ap, refl, ℕ, ◌+◌, Bool, true, false, ◌&&◌, ◌||◌, ◌==◌, cond, List, [], ◌∷◌, ◌++◌, Option, Some, None, IsUtf8, arith}
 use Rattle.std.specs.Prelude.{not}
 use Rattle.std.specs.List.{slice_range}
 use Rattle.std.specs.Str.{bytes_eq}
@@ -13,8 +13,9 @@ use Rattle.markdown_content.specs.declared.label_kind.LabelKind.{LabelKind}
 use Rattle.markdown_engine.specs.declared.tokenizer.Tokenizer.{Tokenizer}
 use Rattle.markdown_notes.proofs.BracketIndexLemmas.{count-first, counted-is}
 use Rattle.markdown_plan.specs.Characters.{bytes_of}
-use Rattle.markdown_util.specs.Identifier.{identifier_of}
-use Rattle.markdown_label_names.proofs.BracketCounts.{of-identifier}
+use Rattle.markdown_util.specs.Identifier.{identifier_by, read_text}
+use Rattle.markdown_label_names.proofs.BracketCounts.{of-identifier, of-read}
+use Rattle.markdown_label_names.proofs.TextParts.{read-utf8}
 use Rattle.markdown_model.specs.LabelEnd.{is_footnote, link_identifier}
 use Rattle.markdown_model.specs.Setting.{Setting, is_defined}
 use Rattle.markdown_label_names.specs.IdentifierFronts.{AreCuts, IsUnknown, lacks_count}
@@ -47,16 +48,17 @@ link-brackets kind name = go (is_footnote kind)
     go false = refl
 
 -- what is counted between two indexes is how many brackets the identifier has
-between-brackets : (bytes : List ℕ) (start end from to n : ℕ) → AreCuts bytes from to →
+between-brackets : (replaced : Bool) (bytes : List ℕ) (start end from to n : ℕ) → AreCuts bytes from to →
     counted (brackets_between bytes start end) from to ≡ Some n →
-    n ≡ brackets_of (identifier_of (slice_range bytes from to))
-between-brackets bytes start end from to n cuts h =
+    n ≡ brackets_of (identifier_by replaced (slice_range bytes from to))
+between-brackets replaced bytes start end from to n cuts h =
     let k = counted-is bytes start end from to n h in
     let parts : slice_range bytes start to ≡ slice_range bytes start from ++ slice_range bytes from to = range-parts bytes start from to k.0 cuts.in_order cuts.first.0 in
     let both : brackets_of (slice_range bytes start to) ≡ brackets_of (slice_range bytes start from) + brackets_of (slice_range bytes from to) =
     ap brackets_of parts ∙ sum_by-append (λ b. cond (b == 91) 1 0) (slice_range bytes start from) (slice_range bytes from to) in
     let here : n ≡ brackets_of (slice_range bytes from to) = omega (arith, k.1, both) in
-    here ∙ sym (of-identifier (slice_range bytes from to) (cuts-text bytes from to cuts))
+    let u : IsUtf8 (slice_range bytes from to) = cuts-text bytes from to cuts in
+    here ∙ sym (of-identifier (read_text replaced (slice_range bytes from to)) (read-utf8 replaced (slice_range bytes from to) u) ∙ of-read replaced (slice_range bytes from to) u)
 
 unknown-by : (s : Setting) (kind : LabelKind) (name : List ℕ) (n : ℕ) → n ≡ brackets_of name →
     (is_footnote kind && has_brackets n s.footnotes) ≡ false → has_brackets n s.definitions ≡ false →
@@ -74,17 +76,17 @@ module _ (T : Tokenizer) (names : Names) (listed : IsListed T) (known : T.tokeni
   brackets-of : names.brackets ≡ brackets_between (bytes_of T) names.brackets.start names.brackets.end
   brackets-of = ap (λ (x : Names). x.brackets) (listed names known)
 
-  pub lacks-unknown : (kind : LabelKind) (from to : ℕ) → AreCuts (bytes_of T) from to →
+  pub lacks-unknown : (replaced : Bool) (kind : LabelKind) (from to : ℕ) → AreCuts (bytes_of T) from to →
       lacks_count names kind from to ≡ true →
-      IsUnknown (setting_in T) kind (identifier_of (slice_range (bytes_of T) from to))
-  lacks-unknown kind from to cuts h = go (counted names.brackets from to) refl h
+      IsUnknown (setting_in T) kind (identifier_by replaced (slice_range (bytes_of T) from to))
+  lacks-unknown replaced kind from to cuts h = go (counted names.brackets from to) refl h
     where
       go : (found : Option ℕ) → counted names.brackets from to ≡ found → (elim found [ None ↦ false | Some n ↦ not ((is_footnote kind && has_brackets n names.footnotes) || has_brackets n names.definitions) ]) ≡ true
-          → IsUnknown (setting_in T) kind (identifier_of (slice_range (bytes_of T) from to))
+          → IsUnknown (setting_in T) kind (identifier_by replaced (slice_range (bytes_of T) from to))
       go None e h = absurd (false≢true h)
       go (Some n) e h =
           let parts = or_parts (is_footnote kind && has_brackets n names.footnotes) (has_brackets n names.definitions) (not-true _ h) in
           let some : counted (brackets_between (bytes_of T) names.brackets.start names.brackets.end) from to ≡ Some n = ap (λ (b : BracketPlaces). counted b from to) (sym brackets-of) ∙ e in
-          unknown-by (setting_in T) kind (identifier_of (slice_range (bytes_of T) from to)) n (between-brackets (bytes_of T) names.brackets.start names.brackets.end from to n cuts some)
+          unknown-by (setting_in T) kind (identifier_by replaced (slice_range (bytes_of T) from to)) n (between-brackets replaced (bytes_of T) names.brackets.start names.brackets.end from to n cuts some)
           (ap (λ b. is_footnote kind && b) (sym (any-footnote T names listed known (λ text. brackets_of text == n))) ∙ parts.0)
           (sym (any-definition T names listed known (λ text. brackets_of text == n)) ∙ parts.1)

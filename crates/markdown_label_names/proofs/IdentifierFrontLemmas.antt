@@ -187,16 +187,6 @@ pub front-cuts : (bs : List ℕ) (i j k n : ℕ) → AreCuts bs i k → i + n �
 front-cuts bs i j k n cuts after last =
     record { text = cuts.text; in_order = omega (arith, after); first = cuts.first; last = last }
 
--- so with a label from i to k whose front is from i to j
-pub unknown-from : (s : Setting) (kind : LabelKind) (bs front : List ℕ) (i j k : ℕ) → AreCuts bs i j → j ≤ k →
-    front ≡ identifier_of (slice_range bs i j) → begins_defined s kind front ≡ false →
-    IsUnknown s kind (identifier_of (slice_range bs i k))
-unknown-from s kind bs front i j k cuts jk e h =
-    let whole : slice_range bs i k ≡ slice_range bs i j ++ slice_range bs j k = range-parts bs i j k cuts.in_order jk cuts.last.0 in
-    let begins : IsFrontOf (identifier_of (slice_range bs i j)) (identifier_of (slice_range bs i k)) =
-    subst (λ xs. IsFrontOf (identifier_of (slice_range bs i j)) (identifier_of xs)) (sym whole) (identifier-front (slice_range bs i j) (slice_range bs j k) (cuts-text bs i j cuts)) in
-    unknown-by s kind front _ (subst (λ f. IsFrontOf f (identifier_of (slice_range bs i k))) (sym e) begins) h
-
 -- and where nothing is defined
 pub unknown-nothing : (s : Setting) (kind : LabelKind) (name : List ℕ) → s.definitions ≡ [] → s.footnotes ≡ [] →
     IsUnknown s kind name

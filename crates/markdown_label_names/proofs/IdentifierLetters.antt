@@ -1,5 +1,5 @@
 -- Lowercase ASCII letters are their own identifier.
-use Rattle.std.proofs.Common.{◌≡◌, ◌∙◌, sym, ap, refl, ℕ, ◌+◌, ◌<◌, true, false, List, [], ◌∷◌, ◌++◌, ◌-◌, get_or, length, length-drop, take, drop, map, subst, IsAscii, arith}
+use Rattle.std.proofs.Common.{◌≡◌, ◌∙◌, sym, ap, refl, ℕ, ◌+◌, ◌<◌, Bool, true, false, List, [], ◌∷◌, ◌++◌, ◌-◌, get_or, length, length-drop, take, drop, map, subst, IsAscii, arith}
 use Rattle.std.specs.Char.{is_ascii_lowercase, to_ascii_lowercase}
 use Rattle.std.specs.List.{All, slice_range, join_with_byte, filter}
 use Rattle.std.specs.Str.{byte, encode_utf8_all}
@@ -10,7 +10,7 @@ use Rattle.std.proofs.lemmas.List.Splits.{slice_split_none}
 use Rattle.std.proofs.lemmas.Str.{chars-IsAscii, encodes-IsAscii, IsCharBoundary-after_ascii}
 use Rattle.std.proofs.lemmas.Str.Ascii.{IsAscii-from_all}
 use Rattle.caseless.specs.Caseless.{default_case_fold}
-use Rattle.markdown_util.specs.Identifier.{separates_words, is_nonempty, joined_words, identifier_of}
+use Rattle.markdown_util.specs.Identifier.{separates_words, is_nonempty, joined_words, identifier_by, identifier_of, read_text, replaced_nul}
 use Rattle.markdown_util.proofs.AsciiFold.{folded-ascii}
 use Rattle.markdown_label_names.specs.IdentifierFronts.{AreCuts}
 
@@ -49,6 +49,20 @@ letters-kept bs h =
     ∙ folded-ascii bs bs (sym (encodes-IsAscii bs plain)) plain
     ∙ lower-letters bs h
 
+-- and none of them is NUL
+none-nul : (bs : List ℕ) → All IsLetter bs → map replaced_nul bs ≡ bs
+none-nul [] h = refl
+none-nul (b ∷ bs) h = cc (one b (All-head IsLetter b bs h), none-nul bs (All-tail IsLetter b bs h))
+  where
+    one : (b : ℕ) → IsLetter b → replaced_nul b ≡ b
+    one b k = grind (arith, nat_tests)
+
+read-letters : (replaced : Bool) (bs : List ℕ) → All IsLetter bs → read_text replaced bs ≡ bs
+read-letters false bs h = refl
+read-letters true bs h =
+    let plain : IsAscii bs = ascii bs h in
+    ap (λ cs. encode_utf8_all (map replaced_nul cs)) (chars-IsAscii bs plain) ∙ ap encode_utf8_all (none-nul bs h) ∙ encodes-IsAscii bs plain
+
 -- a part of a text that is such letters
 pub record IsWord (bs : List ℕ) (from to : ℕ) : Type 0 where
   pub cuts : AreCuts bs from to
@@ -74,5 +88,5 @@ word-more bs i j w h k =
       letters = subst (All IsLetter) (sym more) (All-append IsLetter (slice_range bs i j) (b ∷ []) w.letters (All-cons IsLetter b [] k (All-nil IsLetter)));
     }
 
-pub word-kept : (bs : List ℕ) (i j : ℕ) → IsWord bs i j → identifier_of (slice_range bs i j) ≡ slice_range bs i j
-word-kept bs i j w = letters-kept (slice_range bs i j) w.letters
+pub word-kept : (bs : List ℕ) (i j : ℕ) → IsWord bs i j → (replaced : Bool) → identifier_by replaced (slice_range bs i j) ≡ slice_range bs i j
+word-kept bs i j w replaced = ap identifier_of (read-letters replaced (slice_range bs i j) w.letters) ∙ letters-kept (slice_range bs i j) w.letters

@@ -2,14 +2,14 @@
 use Rattle.std.specs.Prelude.{ℕ, Bool, ◌<◌, ◌&&◌, if◌then◌else◌, List, length, slice_get, Option, Some, None, IsUtf8}
 use Rattle.std.specs.Str.{IsCharBoundary}
 use Rattle.markdown_content.specs.Codes.{document_start}
+use Rattle.markdown_content.specs.PlaceInDocument.{IsPlaceOf}
 use Rattle.markdown_content.specs.declared.label_kind.LabelKind.{LabelKind}
 use Rattle.markdown_event.specs.declared.event.Event.{Event}
 use Rattle.markdown_event.specs.declared.event.Point.{Point}
 use Rattle.markdown_engine.specs.declared.tokenizer.Tokenizer.{Tokenizer}
 use Rattle.markdown_plan.specs.Characters.{bytes_of}
-use Rattle.markdown_model.specs.LabelEnd.{is_footnote, bytes_between, link_identifier}
+use Rattle.markdown_model.specs.LabelEnd.{is_footnote, label_name, link_identifier, name_between}
 use Rattle.markdown_model.specs.Setting.{Setting, defines, is_defined}
-use Rattle.markdown_util.specs.Identifier.{identifier_of}
 use Rattle.markdown_label_names.specs.LabelSetting.{setting_in, IsListed}
 
 -- whether a label of this kind with this identifier is defined as a link's, and none where it is a footnote call
@@ -25,9 +25,13 @@ point_or (Some e) = e.point
 abbrev pub place_at : List Event → ℕ → Point
 place_at es n = point_or (slice_get es n)
 
--- the identifier of the document's bytes between two events
+-- the identifier of the text between two events
 abbrev pub identifier_between : Tokenizer → ℕ → ℕ → List ℕ
-identifier_between T m n = identifier_of (bytes_between (setting_in T) (place_at T.events m) (place_at T.events n))
+identifier_between T m n = name_between (setting_in T) (place_at T.events m).index (place_at T.events n).index
+
+-- that of a label itself whose text this is
+abbrev pub label_between : Tokenizer → ℕ → ℕ → List ℕ
+label_between T m n = label_name (setting_in T) (place_at T.events m).index (place_at T.events n).index
 
 -- When the bytes between two events are whole characters.
 
@@ -35,6 +39,7 @@ identifier_between T m n = identifier_of (bytes_between (setting_in T) (place_at
 pub record AreAround (T : Tokenizer) (m n : ℕ) : Type 0 where
   pub listed : IsListed T
   pub text : IsUtf8 (bytes_of T)
+  pub own : IsPlaceOf (bytes_of T) T.cursor
   pub first : m < length T.events
   pub last : n < length T.events
   pub from : IsCharBoundary (bytes_of T) (place_at T.events m).index

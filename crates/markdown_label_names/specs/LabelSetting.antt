@@ -5,7 +5,7 @@ use Rattle.markdown_notes.specs.NameIndex.{names_in_order}
 use Rattle.markdown_notes.specs.declared.name_index.Names.{Names}
 use Rattle.markdown_content.specs.declared.parser.ParseState.{ParseState}
 use Rattle.markdown_engine.specs.declared.tokenizer.Tokenizer.{Tokenizer}
-use Rattle.markdown_model.specs.Setting.{Setting, references_of}
+use Rattle.markdown_model.specs.Setting.{Setting, references_of, within}
 
 -- the setting of a run over a content that is not the first of a list item
 abbrev pub setting_of : ParseState → Setting
@@ -19,8 +19,9 @@ setting_of p = record {
   content = [];
 }
 
+-- with the content that is read
 abbrev pub setting_in : Tokenizer → Setting
-setting_in T = setting_of T.parse_state.now
+setting_in T = within T.cursor.codes (setting_of T.parse_state.now)
 
 -- these are the names that are defined, and the brackets of a part of the document
 abbrev pub AreListed : Setting → Names → Type 0

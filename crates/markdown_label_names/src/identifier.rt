@@ -1,36 +1,23 @@
 //! Identifiers of labels.
 #![tactic(auto)]
 
-ghost use Rattle.std.specs.Prelude.{◌≡◌, map, slice_range, ◌&&◌, string_bytes, IfOk, OnOk, OnErr, IsTrue, false};
+ghost use Rattle.std.specs.Prelude.{◌≡◌, map, ◌&&◌, string_bytes, IfOk, IfSome, OnOk, OnErr, IsTrue, false};
 ghost use Rattle.std.specs.List.{list_any};
 ghost use Rattle.std.specs.Str.{bytes_eq};
 ghost use Rattle.markdown_plan.specs.Characters.{bytes_of};
-ghost use Rattle.markdown_util.specs.Identifier.{identifier_of};
+ghost use Rattle.markdown_content.specs.PlaceInDocument.{IsPlaceOf};
 ghost use Rattle.markdown_label_names.specs.LabelNames.{AreAround};
 ghost use Rattle.markdown_label_names.specs.IdentifierFronts.{AreCuts};
-ghost use Rattle.markdown_label_names.specs.LabelNames.{identifier_between, link_as};
+ghost use Rattle.markdown_label_names.specs.LabelNames.{identifier_between, label_between, link_as};
 ghost use Rattle.markdown_label_names.specs.LabelSetting.{setting_in, IsListed};
-ghost use Rattle.markdown_model.specs.LabelEnd.{is_footnote, link_identifier};
-ghost use Rattle.markdown_model.specs.Setting.{brackets_are_escaped, defines, is_defined, is_of_label};
+ghost use Rattle.markdown_model.specs.LabelEnd.{is_footnote, label_name, link_identifier, name_between, no_name};
+ghost use Rattle.markdown_model.specs.Setting.{brackets_are_escaped, defines, is_defined, is_of_label, rules};
 
+use crate::label_text::{is_whole, label_name, name_between};
 use crate::lookup::{is_ruled_out, letters_end};
 use markdown_content::util::slice::Slice;
 use markdown_engine::tokenizer::{LabelKind, Tokenizer};
-use markdown_util::util::normalize_identifier::normalize_identifier;
 use std::alloc::{AllocError, Global};
-
-// The identifier of the document's bytes from an index to another.
-pub(crate) fn identifier_of(
-    tokenizer: &Tokenizer,
-    start: usize,
-    end: usize,
-) -> Result<String, AllocError>
-    requires { AreCuts (bytes_of tokenizer.now) start end }
-    ensures { IfOk result (λ name. string_bytes name ≡ identifier_of (slice_range (bytes_of tokenizer.now) start end)) }
-{
-    let between = Slice::from_indices(tokenizer.parse_state.bytes, start, end);
-    normalize_identifier(tokenizer.alloc, between.as_str())
-}
 
 // Whether the identifier is one of these.
 fn has(definitions: &[String], name: &str) -> bool
@@ -141,7 +128,21 @@ fn link_as(tokenizer: &Tokenizer, kind: LabelKind, name: &str) -> Result<Option<
     Ok(Some(names_definition(tokenizer, text.as_str())))
 }
 
-// As `link_as`, of the label whose text is the document's bytes from an index to another.
+// Whether a footnote is called by a label that is too long.
+fn calls_without_name(tokenizer: &Tokenizer, kind: LabelKind) -> bool
+    requires { IsListed tokenizer.now }
+    ensures { result ≡ (rules (setting_in tokenizer.now)).definitions_have_labels && (is_footnote kind && is_defined (setting_in tokenizer.now).footnotes no_name) }
+{
+    tokenizer
+        .parse_state
+        .options
+        .rules()
+        .definitions_have_labels
+        && is_footnote(kind)
+        && names_footnote(tokenizer, "[")
+}
+
+// As `link_as`, of the label whose text goes from an index to another.
 fn link_from(
     tokenizer: &Tokenizer,
     kind: LabelKind,
@@ -150,12 +151,13 @@ fn link_from(
 ) -> Result<Option<bool>, AllocError>
     requires cuts { AreCuts (bytes_of tokenizer.now) start end }
     requires listed { IsListed tokenizer.now }
-    ensures { IfOk result (λ link. link ≡ link_as (setting_in tokenizer.now) kind (identifier_of (slice_range (bytes_of tokenizer.now) start end))) }
+    requires own { IsPlaceOf (bytes_of tokenizer.now) tokenizer.now.cursor }
+    ensures { IfOk result (λ link. link ≡ link_as (setting_in tokenizer.now) kind (label_name (setting_in tokenizer.now) start end)) }
 {
-    if is_ruled_out(tokenizer, kind, start, end)? {
+    if !calls_without_name(tokenizer, kind) && is_ruled_out(tokenizer, kind, start, end)? {
         return Ok(Some(false));
     }
-    let name = identifier_of(tokenizer, start, end)?;
+    let name = label_name(tokenizer, start, end)?;
     link_as(tokenizer, kind, name.as_str())
 }
 
@@ -170,7 +172,7 @@ pub fn link_between(
     to: usize,
 ) -> Result<Option<bool>, AllocError>
     requires { AreAround tokenizer.old from to }
-    ensures link { IfOk result (λ link. link ≡ link_as (setting_in tokenizer.old) kind (identifier_between tokenizer.old from to)) }
+    ensures link { IfOk result (λ link. link ≡ link_as (setting_in tokenizer.old) kind (label_between tokenizer.old from to)) }
     ensures same { OnOk result (tokenizer.new ≡ tokenizer.old) }
     ensures err { OnErr result (IsTrue tokenizer.new.failed) }
 {
@@ -181,24 +183,37 @@ pub fn link_between(
     tokenizer.noted(link)
 }
 
-// Whether the identifier of the document's bytes from an index to another is that of a definition. One of lowercase letters alone is looked up where it
-// stands, and takes no memory.
+// The lowercase letters that are the whole text from an index to another, which are their own identifier.
+fn letters_between<'a>(tokenizer: &Tokenizer<'a>, start: usize, end: usize) -> Option<&'a str>
+    requires { AreCuts (bytes_of tokenizer.now) start end }
+    ensures { IfSome result (λ letters. letters.now ≡ name_between (setting_in tokenizer.now) start end) }
+{
+    let bytes = tokenizer.parse_state.bytes;
+    if letters_end(bytes, start, end) == end && is_whole(tokenizer, start, end) {
+        return Some(Slice::from_indices(bytes, start, end).as_str());
+    }
+    None
+}
+
+// Whether the identifier of the text from an index to another is that of a definition. One of lowercase letters alone is looked up where it stands, and takes
+// no memory.
 fn is_defined_within(tokenizer: &Tokenizer, start: usize, end: usize) -> Result<bool, AllocError>
     requires cuts { AreCuts (bytes_of tokenizer.now) start end }
     requires listed { IsListed tokenizer.now }
-    ensures { IfOk result (λ defined. defined
-        ≡ defines (setting_in tokenizer.now) (identifier_of (slice_range (bytes_of tokenizer.now) start end))) }
+    requires own { IsPlaceOf (bytes_of tokenizer.now) tokenizer.now.cursor }
+    ensures { IfOk result (λ defined. defined ≡ defines (setting_in tokenizer.now) (name_between (setting_in tokenizer.now) start end)) }
 {
-    let bytes = tokenizer.parse_state.bytes;
-    if letters_end(bytes, start, end) == end {
-        let letters = Slice::from_indices(bytes, start, end);
-        return Ok(names_definition(tokenizer, letters.as_str()));
+    if let Some(letters) = letters_between(tokenizer, start, end) {
+        return Ok(names_definition(tokenizer, letters));
     }
-    let link = link_from(tokenizer, LabelKind::Link, start, end)?;
-    Ok(link == Some(true))
+    if is_ruled_out(tokenizer, LabelKind::Link, start, end)? {
+        return Ok(false);
+    }
+    let name = name_between(tokenizer, start, end)?;
+    Ok(names_definition(tokenizer, name.as_str()))
 }
 
-/// Answers whether the identifier of the document's bytes from an index to another is that of a definition.
+/// Answers whether the identifier of the text from an index to another is that of a definition.
 ///
 /// The bytes are read at most about twice as far as they begin like the identifier of a definition. The error comes where memory is refused; then
 /// `failed` is true.
@@ -209,12 +224,51 @@ pub fn is_defined_from(
 ) -> Result<bool, AllocError>
     requires cuts { AreCuts (bytes_of tokenizer.old) start end }
     requires listed { IsListed tokenizer.old }
-    ensures defined { IfOk result (λ defined. defined
-        ≡ defines (setting_in tokenizer.old) (identifier_of (slice_range (bytes_of tokenizer.old) start end))) }
+    requires own { IsPlaceOf (bytes_of tokenizer.old) tokenizer.old.cursor }
+    ensures defined { IfOk result (λ defined. defined ≡ defines (setting_in tokenizer.old) (name_between (setting_in tokenizer.old) start end)) }
     ensures same { OnOk result (tokenizer.new ≡ tokenizer.old) }
     ensures err { OnErr result (IsTrue tokenizer.new.failed) }
 {
     let defined = is_defined_within(tokenizer, start, end);
+    tokenizer.noted(defined)
+}
+
+// Whether a label that stands for itself, whose text goes from an index to another, names a definition.
+fn is_label_within(tokenizer: &Tokenizer, start: usize, end: usize) -> Result<bool, AllocError>
+    requires cuts { AreCuts (bytes_of tokenizer.now) start end }
+    requires listed { IsListed tokenizer.now }
+    requires own { IsPlaceOf (bytes_of tokenizer.now) tokenizer.now.cursor }
+    ensures { IfOk result (λ defined. defined ≡ defines (setting_in tokenizer.now) (label_name (setting_in tokenizer.now) start end)) }
+{
+    if !tokenizer
+        .parse_state
+        .options
+        .rules()
+        .definitions_have_labels
+    {
+        return is_defined_within(tokenizer, start, end);
+    }
+    let link = link_from(tokenizer, LabelKind::Link, start, end)?;
+    Ok(link == Some(true))
+}
+
+/// Answers whether a label that stands for itself, whose text goes from an index to another, names a definition: as `is_defined_from`, but that by
+/// CommonMark a label has at most 999 characters.
+///
+/// The error comes where memory is refused; then `failed` is true.
+pub fn is_label_from(
+    tokenizer: &mut Tokenizer,
+    start: usize,
+    end: usize,
+) -> Result<bool, AllocError>
+    requires cuts { AreCuts (bytes_of tokenizer.old) start end }
+    requires listed { IsListed tokenizer.old }
+    requires own { IsPlaceOf (bytes_of tokenizer.old) tokenizer.old.cursor }
+    ensures defined { IfOk result (λ defined. defined ≡ defines (setting_in tokenizer.old) (label_name (setting_in tokenizer.old) start end)) }
+    ensures same { OnOk result (tokenizer.new ≡ tokenizer.old) }
+    ensures err { OnErr result (IsTrue tokenizer.new.failed) }
+{
+    let defined = is_label_within(tokenizer, start, end);
     tokenizer.noted(defined)
 }
 

@@ -3,4 +3,5 @@
 #![tactic(auto)]
 
 pub mod identifier;
+mod label_text;
 mod lookup;

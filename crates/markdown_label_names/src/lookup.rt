@@ -1,15 +1,18 @@
 //! Labels that nothing is defined for, by the fronts of their identifiers.
 #![tactic(auto)]
 
-ghost use Rattle.std.specs.Prelude.{◌≡◌, ◌≤◌, ◌==◌, IfOk, IsTrue, [], map, slice_range, string_bytes};
+ghost use Rattle.std.specs.Prelude.{◌≡◌, ◌≤◌, ◌==◌, Bool, IfOk, IsTrue, [], map, slice_range, string_bytes};
 ghost use Rattle.std.specs.List.{list_any, starts_with};
 ghost use Rattle.std.specs.Str.{IsCharBoundary};
 ghost use Rattle.markdown_plan.specs.Characters.{bytes_of};
-ghost use Rattle.markdown_util.specs.Identifier.{identifier_of};
+ghost use Rattle.markdown_util.specs.Identifier.{identifier_by};
 ghost use Rattle.markdown_label_names.specs.IdentifierFronts.{AreCuts, begins_one, begins_defined, lacks_count, IsUnknown};
 ghost use Rattle.markdown_label_names.specs.LabelSetting.{setting_in, IsListed};
+ghost use Rattle.markdown_content.specs.PlaceInDocument.{IsPlaceOf};
+ghost use Rattle.markdown_model.specs.LabelEnd.{name_between};
 
-use crate::identifier::{identifier_of, is_footnote, link_identifier};
+use crate::identifier::{is_footnote, link_identifier};
+use crate::label_text::{is_whole, name_between};
 use markdown_content::util::slice::Slice;
 use markdown_engine::tokenizer::{LabelKind, Tokenizer};
 use markdown_notes::name_index::Names;
@@ -88,7 +91,7 @@ fn begins_defined(tokenizer: &Tokenizer, kind: LabelKind, front: &str) -> Result
     Ok(begins_definition(tokenizer, text.as_str()))
 }
 
-// Whether anything that a label of this kind may stand for begins like the identifier of the document's bytes from an index to another.
+// Whether anything that a label of this kind may stand for begins like the identifier of the text from an index to another.
 fn front_begins(
     tokenizer: &Tokenizer,
     kind: LabelKind,
@@ -97,9 +100,10 @@ fn front_begins(
 ) -> Result<bool, AllocError>
     requires cuts { AreCuts (bytes_of tokenizer.now) start end }
     requires listed { IsListed tokenizer.now }
-    ensures { IfOk result (λ begins. begins ≡ begins_defined (setting_in tokenizer.now) kind (identifier_of (slice_range (bytes_of tokenizer.now) start end))) }
+    requires own { IsPlaceOf (bytes_of tokenizer.now) tokenizer.now.cursor }
+    ensures { IfOk result (λ begins. begins ≡ begins_defined (setting_in tokenizer.now) kind (name_between (setting_in tokenizer.now) start end)) }
 {
-    let front = identifier_of(tokenizer, start, end)?;
+    let front = name_between(tokenizer, start, end)?;
     begins_defined(tokenizer, kind, front.as_str())
 }
 
@@ -130,10 +134,11 @@ fn lacks_count(names: &Names, kind: LabelKind, start: usize, end: usize) -> bool
 fn brackets_rule_out(tokenizer: &Tokenizer, kind: LabelKind, start: usize, end: usize) -> bool
     requires cuts { AreCuts (bytes_of tokenizer.now) start end }
     requires listed { IsListed tokenizer.now }
-    ensures { IsTrue result → IsUnknown (setting_in tokenizer.now) kind (identifier_of (slice_range (bytes_of tokenizer.now) start end)) }
+    requires own { IsPlaceOf (bytes_of tokenizer.now) tokenizer.now.cursor }
+    ensures { IsTrue result → IsUnknown (setting_in tokenizer.now) kind (name_between (setting_in tokenizer.now) start end) }
 {
     match &tokenizer.tokenize_state.names {
-        Some(names) => lacks_count(names, kind, start, end),
+        Some(names) => lacks_count(names, kind, start, end) && is_whole(tokenizer, start, end),
         None => false,
     }
 }
@@ -143,7 +148,7 @@ pub(crate) fn letters_end(bytes: &[u8], start: usize, end: usize) -> usize
     requires { AreCuts bytes.now start end }
     ensures before { result ≤ end }
     ensures cuts { AreCuts bytes.now start result }
-    ensures identifier { identifier_of (slice_range bytes.now start result) ≡ slice_range bytes.now start result }
+    ensures identifier { (replaced : Bool) → identifier_by replaced (slice_range bytes.now start result) ≡ slice_range bytes.now start result }
 {
     for at in start..end {
         if !bytes[at].is_ascii_lowercase() {
@@ -163,10 +168,14 @@ fn letters_rule_out(
 ) -> Result<bool, AllocError>
     requires cuts { AreCuts (bytes_of tokenizer.now) start end }
     requires listed { IsListed tokenizer.now }
-    ensures { IfOk result (λ out. IsTrue out → IsUnknown (setting_in tokenizer.now) kind (identifier_of (slice_range (bytes_of tokenizer.now) start end))) }
+    requires own { IsPlaceOf (bytes_of tokenizer.now) tokenizer.now.cursor }
+    ensures { IfOk result (λ out. IsTrue out → IsUnknown (setting_in tokenizer.now) kind (name_between (setting_in tokenizer.now) start end)) }
 {
     let bytes = tokenizer.parse_state.bytes;
     let middle = letters_end(bytes, start, end);
+    if !is_whole(tokenizer, start, middle) {
+        return Ok(false);
+    }
     let front = Slice::from_indices(bytes, start, middle);
     let begins = begins_defined(tokenizer, kind, front.as_str())?;
     Ok(!begins)
@@ -185,7 +194,8 @@ pub(crate) fn is_ruled_out(
 ) -> Result<bool, AllocError>
     requires cuts { AreCuts (bytes_of tokenizer.now) start end }
     requires listed { IsListed tokenizer.now }
-    ensures { IfOk result (λ out. IsTrue out → IsUnknown (setting_in tokenizer.now) kind (identifier_of (slice_range (bytes_of tokenizer.now) start end))) }
+    requires own { IsPlaceOf (bytes_of tokenizer.now) tokenizer.now.cursor }
+    ensures { IfOk result (λ out. IsTrue out → IsUnknown (setting_in tokenizer.now) kind (name_between (setting_in tokenizer.now) start end)) }
 {
     if defines_nothing(tokenizer) {
         return Ok(true);

@@ -8,6 +8,7 @@ use Rattle.std.proofs.lemmas.Grind.{common_steps}
 use Rattle.std.proofs.lemmas.List.{append_assoc}
 use Rattle.markdown_content.specs.Codes.{Code}
 use Rattle.markdown_content.specs.Place.{Place, ahead_at, code_at, moved}
+use Rattle.markdown_content.specs.PlaceInDocument.{IsPlaceOf}
 use Rattle.markdown_event.specs.PlaceIndex.{is_kept}
 use Rattle.markdown_content.specs.Stretch.{past_stretch}
 use Rattle.markdown_event.specs.declared.event.Point.{Point}
@@ -100,8 +101,11 @@ pub record Finding (bytes : List ℕ) (start p : Place) (found : List ℕ) (o : 
   pub whole : no_domains bytes start.end.index start.codes ≡ found ++ barred_from bytes p.end.index p.at (ahead_at p)
   pub reaches : ReachesOver bytes p o
 
+first-place : {bytes : List ℕ} {start : Place} → IsPlaceOf bytes start → IsPlaceOf bytes (record start { at = 0 })
+first-place k = record { pieces = k.pieces; content = k.content; place = ap (λ (p : Place). record p { at = 0 }) k.place }
+
 restarted : (bytes : List ℕ) (start : Place) → IsText bytes start → IsText bytes (record start { at = 0 })
-restarted bytes start k = record { text = k.text; end = k.end; first = k.first; next = k.next; stop = k.stop; byte = k.byte; past = k.past; behind = k.behind }
+restarted bytes start k = record { text = k.text; own = first-place k.own; end = k.end; first = k.first; next = k.next; stop = k.stop; byte = k.byte; past = k.past; behind = k.behind }
 
 pub finding-start : (bytes : List ℕ) (start p : Place) (found : List ℕ) (o : Outlook) → p ≡ record start { at = 0 } →
     found ≡ [] → o.end ≡ 0 → IsText bytes start → Finding bytes start p found o

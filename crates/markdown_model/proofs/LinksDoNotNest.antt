@@ -344,7 +344,7 @@ links_do_not_nest s cs = by_test s.options.constructs.gfm_autolink_literal
     es = elements_of s cs
 
     labels : AreApart (labels_of es)
-    labels = apart-labels_of es (all_allowed (text_choice s cs) (λ earlier previous. allowed_text_element s _ earlier previous) es [] None cs (text_elements s cs))
+    labels = apart-labels_of es (all_allowed (text_choice s cs) (λ earlier previous. allowed_text_element (within cs s) _ earlier previous) es [] None cs (text_elements s cs))
 
     tree : Forest
     tree = trimmed (breaks s) true true (merged (paired_whole s (pair_list s) (labels_of es)))

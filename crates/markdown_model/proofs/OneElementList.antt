@@ -1,7 +1,7 @@
 -- A content has exactly one list of elements.
 use Rattle.std.proofs.Common.{◌≡◌, ℕ, zero, suc, ◌≤◌, List, [], ◌∷◌, length, refl, sym, ◌∙◌, ap, subst, arith, Option, Some, None}
 use Rattle.markdown_content.specs.Codes.{Code}
-use Rattle.markdown_model.specs.Setting.{Setting}
+use Rattle.markdown_model.specs.Setting.{Setting, within}
 use Rattle.markdown_model.specs.LabelEnd.{Element}
 use Rattle.markdown_model.specs.Elements.{Choice, AreElementsFrom, elements_from, code_before, text_choice, string_choice, AreElements, AreStringElements, elements_of, string_elements_of}
 use Rattle.markdown_model.proofs.ReadsACode.{Left, Consumes}
@@ -63,12 +63,12 @@ module _ (choice : Choice) (takes : (earlier : List Element) (previous : Option 
 pub text_elements : (s : Setting) (cs : List Code) → AreElements s cs (elements_of s cs)
 unfolding elements_of
 text_elements s cs =
-    some_elements (text_choice s cs) (text_element_takes s _) (text_element_holds s _) (length cs) [] None cs (omega arith)
+    some_elements (text_choice s cs) (text_element_takes (within cs s) _) (text_element_holds (within cs s) _) (length cs) [] None cs (omega arith)
 
 pub same_text_elements : (s : Setting) (cs : List Code) (es fs : List Element) → AreElements s cs es →
     AreElements s cs fs → es ≡ fs
 same_text_elements s cs es fs =
-    same_elements (text_choice s cs) (text_element_takes s _) (text_element_holds s _) [] None cs es fs
+    same_elements (text_choice s cs) (text_element_takes (within cs s) _) (text_element_holds (within cs s) _) [] None cs es fs
 
 pub string_elements : (s : Setting) (cs : List Code) → AreStringElements s cs (string_elements_of s cs)
 unfolding string_elements_of

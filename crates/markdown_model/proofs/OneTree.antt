@@ -68,7 +68,7 @@ one_tree s cs = (
 
 codes-of_elements : (s : Setting) (cs : List Code) → elements_codes 0 (elements_of s cs) ≡ cs
 codes-of_elements s cs =
-    codes-elements (text_choice s cs) (λ earlier previous. covers_text_element s _ earlier previous) (elements_of s cs) [] None cs (text_elements s cs)
+    codes-elements (text_choice s cs) (λ earlier previous. covers_text_element (within cs s) _ earlier previous) (elements_of s cs) [] None cs (text_elements s cs)
 
 codes-of_string_elements : (s : Setting) (cs : List Code) → elements_codes 0 (string_elements_of s cs) ≡ cs
 codes-of_string_elements s cs =

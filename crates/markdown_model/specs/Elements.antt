@@ -11,7 +11,7 @@ use Rattle.markdown_model.specs.Grammar.{Reading, ◌>>=◌, ◌>>◌, gives, ei
 use Rattle.markdown_model.specs.LeafConstructs.{character_escape, hard_break_escape, character_reference, span_here, code_names, math_names, autolink, gfm_task_list_item_check}
 use Rattle.markdown_model.specs.HtmlText.{html_text}
 use Rattle.markdown_model.specs.GfmAutolinkLiteral.{schemes, www, first_letters, gfm_autolink_literal_protocol, gfm_autolink_literal_www}
-use Rattle.markdown_model.specs.Setting.{Setting, rules}
+use Rattle.markdown_model.specs.Setting.{Setting, rules, within}
 use Rattle.markdown_model.specs.LabelEnd.{Element, plain, starts, label_end}
 
 -- Single elements.
@@ -148,7 +148,7 @@ module _ (choice : Choice) where
       ]
 
 abbrev pub text_choice : Setting → List Code → Choice
-text_choice s cs = text_element s (stop_of document_start cs).index
+text_choice s cs = text_element (within cs s) (stop_of document_start cs).index
 
 abbrev pub string_choice : Setting → Choice
 string_choice s earlier previous = string_element s

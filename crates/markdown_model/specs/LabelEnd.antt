@@ -1,14 +1,15 @@
 -- Label ends (CommonMark 6.3 and 6.4; footnote calls): which start a `]` belongs to, and what it makes.
-use Rattle.std.specs.Prelude.{ℕ, zero, suc, ◌-◌, Bool, true, false, ◌&&◌, not, List, [], ◌∷◌, take, drop, Option, Some, None}
+use Rattle.std.specs.Prelude.{ℕ, zero, suc, ◌+◌, ◌==◌, Bool, true, false, ◌&&◌, ◌||◌, not, nat_lt, if◌then◌else◌, List, [], ◌∷◌, codes, slice_range, Option, Some, None}
 use Rattle.std.specs.Str.{byte}
 use Rattle.std.specs.List.{list_any}
 use Rattle.markdown_event.specs.declared.event.Name.{Name}
 use Rattle.markdown_event.specs.declared.event.Point.{Point}
 use Rattle.markdown_content.specs.declared.label_kind.LabelKind.{LabelKind}
-use Rattle.markdown_content.specs.Codes.{Code, stop_of, document_start}
+use Rattle.markdown_content.specs.Codes.{Code, stop_of, document_start, is_line_ending_byte, line_feed, carriage_return, space_value, tab_value}
+use Rattle.markdown_content.specs.ContentBytes.{bytes_within}
 use Rattle.markdown_content.specs.Tree.{Forest, empty, leaf_then, group_then, leaf, ◌⊕◌, group, start_of}
-use Rattle.markdown_util.specs.Identifier.{identifier_of}
-use Rattle.markdown_model.specs.CodeTests.{is_value}
+use Rattle.markdown_util.specs.Identifier.{identifier_by, identifier_of}
+use Rattle.markdown_model.specs.CodeTests.{is_between, is_value}
 use Rattle.markdown_model.specs.Grammar.{Reading, ◌>>=◌, ◌>>◌, gives, either, provided, unless, if_next, one}
 use Rattle.markdown_model.specs.Resource.{resource, label, reference_names}
 use Rattle.markdown_model.specs.Setting.{Setting, defines, is_defined, rules}
@@ -62,19 +63,57 @@ makes_link _ = false
 unfoldable pub is_barred : Label → Bool
 is_barred l = not (is_image l.kind) && list_any makes_link l.inside
 
--- Identifiers are those of the document's bytes, left-out bytes at the starts of later lines included.
+-- Identifiers (CommonMark 4.7 and 6.3). That of a label is made of its text.
 
-abbrev pub bytes_between : Setting → Point → Point → List ℕ
-bytes_between s from to = take (to.index - from.index) (drop from.index s.bytes)
+-- The text between two places. By CommonMark it is the content's; here it is the document's, so bytes at the
+-- starts of later lines are in it that the content leaves out.
+abbrev pub text_between : Setting → ℕ → ℕ → List ℕ
+text_between s from to = if (rules s).labels_by_text then bytes_within s.bytes from to s.content else slice_range s.bytes from to
+
+-- the identifier of that text, in which by CommonMark NUL is read as U+FFFD
+abbrev pub name_between : Setting → ℕ → ℕ → List ℕ
+name_between s from to = identifier_by (rules s).nul_is_replaced (text_between s from to)
+
+-- How many characters a text has, without blank ones that stand at the front of a later line; a line ending is
+-- one. `indent` says that a line ending and blank ones alone stand before, `returned` that a carriage return
+-- does, of whose line ending a line feed is a part.
+
+abbrev pub is_blank_byte : ℕ → Bool
+is_blank_byte b = b == space_value || b == tab_value
+
+-- the byte begins a character that counts
+abbrev pub begins_counted : Bool → Bool → ℕ → Bool
+begins_counted indent returned b =
+    if is_line_ending_byte b then not (returned && b == line_feed)
+    else (not (indent && is_blank_byte b) && not (is_between 128 191 b))
+
+abbrev pub characters_of : Bool → Bool → List ℕ → ℕ
+characters_of indent returned [] = 0
+characters_of indent returned (b ∷ bs) =
+    (if begins_counted indent returned b then 1 else 0)
+    + characters_of (is_line_ending_byte b || (indent && is_blank_byte b)) (b == carriage_return) bs
+
+-- a text is too long for a link label (CommonMark 6.3)
+abbrev pub is_too_long : List ℕ → Bool
+is_too_long text = nat_lt 999 (characters_of false false text)
+
+-- the identifier of what is no link label: by CommonMark nothing is defined that has it
+abbrev pub no_name : List ℕ
+no_name = codes "["
+
+-- the identifier of the text of a label itself, which by CommonMark has to be a link label
+abbrev pub label_name : Setting → ℕ → ℕ → List ℕ
+label_name s from to =
+    if (rules s).definitions_have_labels && is_too_long (text_between s from to) then no_name else name_between s from to
 
 -- a label's own identifier: from the end of its start to its `]`
 unfoldable pub label_identifier : Setting → Label → List Code → List ℕ
-label_identifier s l back = identifier_of (bytes_between s (stop_of document_start l.marker) (start_of back))
+label_identifier s l back = label_name s (stop_of document_start l.marker).index (start_of back).index
 
 -- a full reference's: that of its text, from Enter to Exit
 unfoldable pub reference_identifier : Setting → Forest → List ℕ
 reference_identifier s (group_then name enter exit (leaf_then n l cs (group_then text from to inside rest)) more) =
-    identifier_of (bytes_between s from to)
+    name_between s from.index to.index
 reference_identifier s _ = identifier_of []
 
 -- What may follow the end of a label (CommonMark 6.3: inline links and full, collapsed and shortcut

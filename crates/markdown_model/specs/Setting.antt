@@ -19,10 +19,10 @@ pub record Setting : Type 0 where
   pub footnotes : List (List ℕ)
   -- the content is the first paragraph of a list item
   pub first_of_item : Bool
-  -- the codes of the content whose runs are to be paired, as `within` gives them; until then none
+  -- the codes of the content that is read, as `within` gives them; until then none
   pub content : List Code
 
--- the runs that are paired are those of this content
+-- the content that is read is this one
 abbrev pub within : List Code → Setting → Setting
 within cs s = record s { content = cs }
 

@@ -12,13 +12,12 @@ use Rattle.markdown_content.specs.declared.label_kind.LabelKind.{LabelKind}
 use Rattle.markdown_content.specs.Codes.{Code}
 use Rattle.markdown_content.specs.CommonMark.{rules_of}
 use Rattle.markdown_content.specs.Tree.{Forest, empty, start_of}
-use Rattle.markdown_util.specs.Identifier.{identifier_of}
 use Rattle.markdown_util.specs.Reference.{Table}
 use Rattle.markdown_model.specs.CodeTests.{is_value}
 use Rattle.markdown_model.specs.Elements.{switched, attention_run, label_start_image, gfm_label_start_footnote, label_start_link}
 use Rattle.markdown_model.specs.Grammar.{Reading, ◌>>=◌, ◌>>◌, gives, either, provided, one}
 use Rattle.markdown_model.specs.HtmlText.{html_text}
-use Rattle.markdown_model.specs.LabelEnd.{Element, plain, starts, ends, is_footnote, bytes_between, after_label, link_kind, link_identifier}
+use Rattle.markdown_model.specs.LabelEnd.{Element, plain, starts, ends, is_footnote, label_name, after_label, link_kind, link_identifier}
 use Rattle.markdown_model.specs.LeafConstructs.{character_escape, hard_break_escape, character_reference, span_here, code_names, math_names, autolink, gfm_task_list_item_check}
 use Rattle.markdown_model.specs.GfmAutolinkLiteral.{gfm_autolink_literal_protocol, gfm_autolink_literal_www}
 use Rattle.markdown_model.specs.Setting.{Setting, defines, is_defined}
@@ -125,7 +124,7 @@ outcome s kind name =
 -- what an end makes whose `]` this is
 abbrev pub outcome_at : Setting → Option WaitingStart → List Code → Reading (LabelKind × Forest)
 outcome_at s None back cs = None
-outcome_at s (Some l) back cs = (provided (not l.barred) >> outcome s l.kind (identifier_of (bytes_between s l.stop (start_of back)))) cs
+outcome_at s (Some l) back cs = (provided (not l.barred) >> outcome s l.kind (label_name s l.stop.index (start_of back).index)) cs
 
 -- the end's `]`, and what it makes with what follows it
 abbrev pub label_end_here : Setting → Option WaitingStart → Reading (List Code × (LabelKind × Forest))

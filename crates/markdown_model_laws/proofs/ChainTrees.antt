@@ -10,7 +10,7 @@ use Rattle.markdown_content.specs.Tree.{Forest, empty, leaf_then, group_then, le
 use Rattle.markdown_model.specs.Grammar.{Reading, optional_tree}
 use Rattle.markdown_model.specs.Laws.{is_run}
 use Rattle.markdown_model.specs.Resource.{string_group, StringNames, between_markers, label, title_between, title, title_names, literal_destination, raw_destination, destination, resource_names, spaced_title, destination_and_title, resource, reference_names}
-use Rattle.markdown_model.specs.Setting.{Setting}
+use Rattle.markdown_model.specs.Setting.{Setting, within}
 use Rattle.markdown_model.specs.TextLines.{linked_leaf, lines}
 use Rattle.markdown_model.specs.Whitespace.{space_or_tab_eol, spaces_across, spaces_on_line}
 use Rattle.markdown_model.specs.LabelEnd.{Element, plain, starts, ends, label_before, label_end, full_reference, collapsed_reference, shortcut, shortcut_before_bracket, reference_after_label, after_label}
@@ -271,7 +271,7 @@ labels-chains es h =
 
 pub text-labels : (s : Setting) (cs : List Code) → HasChains (labels_of (elements_of s cs))
 text-labels s cs =
-    labels-chains (elements_of s cs) (all_are ElementHasChains (text_choice s cs) (λ earlier previous ds. has-text-element s _ earlier previous ds) (elements_of s cs) [] None cs (text_elements s cs))
+    labels-chains (elements_of s cs) (all_are ElementHasChains (text_choice s cs) (λ earlier previous ds. has-text-element (within cs s) _ earlier previous ds) (elements_of s cs) [] None cs (text_elements s cs))
 
 pub string-labels : (s : Setting) (cs : List Code) → HasChains (labels_of (string_elements_of s cs))
 string-labels s cs =

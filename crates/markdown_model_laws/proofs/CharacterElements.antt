@@ -19,7 +19,7 @@ use Rattle.markdown_model.specs.Laws.{is_run}
 use Rattle.markdown_model.specs.Pairs.{Pair}
 use Rattle.markdown_model.specs.Passes.{Start, End, as_bracket, start_marker, start_tree, label_group, labelled, labels_of}
 use Rattle.markdown_model.specs.Runs.{Run, marker_of, run_of, runs_of}
-use Rattle.markdown_model.specs.Setting.{Setting}
+use Rattle.markdown_model.specs.Setting.{Setting, within}
 use Rattle.markdown_model.proofs.GivenByReadings.{IfGiven, given-map}
 use Rattle.markdown_model.proofs.ElementCases.{either_has}
 use Rattle.markdown_model.proofs.GivenNames.{pair-named}
@@ -306,8 +306,8 @@ text-going set all earlier previous [] s = tt
 text-going set all earlier previous (c ∷ cs) s = by_test (is_later_byte c) refl
   where
     by_test : (b : Bool) → is_later_byte c ≡ b → AnswerFits (c ∷ cs) (text_choice set all earlier previous (c ∷ cs))
-    by_test true e = text-later c cs s e set (stop_of document_start all).index earlier previous
-    by_test false e = text-first c cs s e set (stop_of document_start all).index earlier previous
+    by_test true e = text-later c cs s e (within all set) (stop_of document_start all).index earlier previous
+    by_test false e = text-first c cs s e (within all set) (stop_of document_start all).index earlier previous
 
 no-data : AnswerFits [] (data_code [])
 unfolding data_code one ◌>>=◌

@@ -11,7 +11,7 @@ use Rattle.markdown_content.specs.Codes.{Code, stop_of, document_start}
 use Rattle.markdown_content.specs.Tree.{Forest, empty, leaf_then, group_then, leaf, ◌⊕◌, group, text_group, leaf_codes, start_of}
 use Rattle.markdown_model.specs.CodeTests.{is_value, is_empty, next_is}
 use Rattle.markdown_model.specs.Grammar.{Reading, ◌>>=◌, gives, some, span}
-use Rattle.markdown_model.specs.Setting.{Setting}
+use Rattle.markdown_model.specs.Setting.{Setting, within}
 use Rattle.markdown_model.specs.Runs.{marker_of}
 use Rattle.markdown_model.specs.LabelEnd.{Element, plain, starts, ends, Label, label_before, outcome_of, label_end}
 use Rattle.markdown_model.specs.Elements.{as_plain, line_ending, data_code, attention_run, text_element, AreElementsFrom, code_before, elements_of}
@@ -352,4 +352,4 @@ apart-text-labels s cs =
     es = elements_of s cs
 
     r : ListApart 0 (nest_labels es).0 × AreQuietFrames (nest_labels es).1
-    r = apart-nest 0 es (good-text s cs) (all-apart s _ es [] None cs 0 (inr refl) (text_elements s cs))
+    r = apart-nest 0 es (good-text s cs) (all-apart (within cs s) _ es [] None cs 0 (inr refl) (text_elements s cs))

@@ -9,7 +9,7 @@ use Rattle.markdown_content.specs.declared.label_kind.LabelKind.{LabelKind}
 use Rattle.markdown_content.specs.Codes.{Code, stop_of, document_start}
 use Rattle.markdown_content.specs.Tree.{Forest, empty, leaf_then, group_then, leaf, group, text_group, start_of, ◌⊕◌}
 use Rattle.markdown_model.specs.Grammar.{Reading}
-use Rattle.markdown_model.specs.Setting.{Setting}
+use Rattle.markdown_model.specs.Setting.{Setting, within}
 use Rattle.markdown_model.specs.LabelEnd.{Element, plain, starts, ends, Label, label_before, outcome_of, label_end}
 use Rattle.markdown_model.specs.Elements.{as_plain, line_ending, data_code, attention_run, text_element, string_element, text_choice, string_choice, elements_of, string_elements_of}
 use Rattle.markdown_model.specs.Passes.{End, start_marker, start_tree, label_name, label_group, labels_of, is_nothing}
@@ -172,7 +172,7 @@ made-labels es h =
 
 pub good-text : (s : Setting) (cs : List Code) → AllGood (elements_of s cs)
 good-text s cs =
-    all_are IsMadeElement (text_choice s cs) (λ earlier previous ds. good_text_element s _ earlier previous ds) (elements_of s cs) [] None cs
+    all_are IsMadeElement (text_choice s cs) (λ earlier previous ds. good_text_element (within cs s) _ earlier previous ds) (elements_of s cs) [] None cs
     (text_elements s cs)
 
 pub made-text-labels : (s : Setting) (cs : List Code) → IsLabelled (labels_of (elements_of s cs))

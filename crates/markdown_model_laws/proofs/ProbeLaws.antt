@@ -136,7 +136,7 @@ module _ (s : Setting) where
   label-codes : (cs : List Code) → leaf_codes (label_tree s cs) ≡ cs
   unfolding label_tree
   label-codes cs =
-      codes-labels_of (elements_of s cs) ∙ codes-elements (text_choice s cs) (λ earlier previous. covers_text_element s _ earlier previous) (elements_of s cs) [] None cs (text_elements s cs)
+      codes-labels_of (elements_of s cs) ∙ codes-elements (text_choice s cs) (λ earlier previous. covers_text_element (within cs s) _ earlier previous) (elements_of s cs) [] None cs (text_elements s cs)
 
 tree-probes : (s : Setting) (f : Forest) → list_probe_bound s f ≤ 11 * length (leaf_codes f)
 tree-probes s f =

@@ -5,7 +5,7 @@ use Rattle.markdown_content.specs.declared.label_kind.LabelKind.{LabelKind}
 use Rattle.markdown_content.specs.Codes.{Code, stop_of, document_start}
 use Rattle.markdown_content.specs.Tree.{Forest, leaf, group, text_group, start_of, ◌⊕◌}
 use Rattle.markdown_model.specs.Grammar.{Reading, either}
-use Rattle.markdown_model.specs.Setting.{Setting}
+use Rattle.markdown_model.specs.Setting.{Setting, within}
 use Rattle.markdown_model.specs.LabelEnd.{Element, plain, starts, ends, label_before, label_end}
 use Rattle.markdown_model.specs.Elements.{as_plain, switched, line_ending, data_code, attention_run, label_start_image, gfm_label_start_footnote, label_start_link, code_text, math_text, tries, first_check, text_element, string_element, text_choice, string_choice, elements_of, string_elements_of}
 use Rattle.markdown_model.specs.Passes.{start_marker, start_tree, label_name, label_group, labels_of}
@@ -149,7 +149,7 @@ labels-refer es h =
 
 pub text-labels : (s : Setting) (cs : List Code) → HasReferences (labels_of (elements_of s cs))
 text-labels s cs =
-    labels-refer (elements_of s cs) (all_are ElementHasReferences (text_choice s cs) (λ earlier previous ds. text-has s _ earlier previous ds) (elements_of s cs) [] None cs (text_elements s cs))
+    labels-refer (elements_of s cs) (all_are ElementHasReferences (text_choice s cs) (λ earlier previous ds. text-has (within cs s) _ earlier previous ds) (elements_of s cs) [] None cs (text_elements s cs))
 
 pub string-labels : (s : Setting) (cs : List Code) → HasReferences (labels_of (string_elements_of s cs))
 string-labels s cs =

@@ -320,6 +320,7 @@ pub content-text : (bytes : List ℕ) (pieces : List Piece) (n : ℕ) → IsCont
 unfolding start_of_content
 content-text bytes pieces n content = record {
   text = content.is_text;
+  own = record { pieces = pieces; content = content; place = refl };
   end = end-at bytes pieces content.is_text (between-all bytes pieces content.between_characters) content.in_order;
   first = λ k c e h. first-at bytes pieces k c content e h;
   next = λ k c d e f h. after-at bytes pieces k c d content e f h;

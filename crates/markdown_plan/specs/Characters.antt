@@ -3,6 +3,7 @@ use Rattle.std.specs.Prelude.{◌≡◌, ◌<◌, ◌+◌, ℕ, suc, get_or, Boo
 use Rattle.std.specs.Str.{IsCharBoundary}
 use Rattle.markdown_content.specs.Codes.{Code}
 use Rattle.markdown_content.specs.Place.{Place, start_or, value_of}
+use Rattle.markdown_content.specs.PlaceInDocument.{IsPlaceOf}
 use Rattle.markdown_engine.specs.declared.tokenizer.Tokenizer.{Tokenizer}
 use Rattle.markdown_model.specs.CodeTests.{is_between, is_later_byte}
 
@@ -17,11 +18,12 @@ abbrev pub at_later : Option ℕ → Bool
 at_later None = false
 at_later (Some v) = later_value v
 
--- The document is a text, and the codes of the content are those of its bytes: each but a later byte of a character begins where
+-- The document is a text, and the place is one of a content of it. Its codes are those of the document's bytes: each but a later byte of a character begins where
 -- one does, no later byte follows an ASCII code, a code ends between characters unless a later byte follows, and so does the content.
 -- A code above the space is the byte at its place, it ends right behind that byte, and what comes next stands there.
 pub record IsText (bytes : List ℕ) (p : Place) : Type 0 where
   pub text : IsUtf8 bytes
+  pub own : IsPlaceOf bytes p
   pub end : IsCharBoundary bytes p.end.index
   pub first : (n : ℕ) (c : Code) → slice_get p.codes n ≡ Some c → is_later_byte c ≡ false → IsCharBoundary bytes c.start.index
   pub next : (n : ℕ) (c d : Code) → slice_get p.codes n ≡ Some c → slice_get p.codes (suc n) ≡ Some d → nat_lt c.value 128 ≡ true → is_later_byte d ≡ false

@@ -11,15 +11,14 @@ use Rattle.markdown_label.specs.LabelEnd.{Ends}
 use Rattle.markdown_label.specs.LabelStarts.{begins_as, kept_start, link_ops, link_test, link_ends, footnote_front, footnote_back, footnote_test, footnote_ends, image_front, image_back, image_test, image_ends}
 use Rattle.markdown_model.specs.CodeTests.{is_value}
 use Rattle.markdown_model.specs.Grammar.{Reading, one, provided, ◌>>◌}
-use Rattle.markdown_model.specs.LabelEnd.{Element, plain, starts, ends, bytes_between, link_kind}
+use Rattle.markdown_model.specs.LabelEnd.{Element, plain, starts, ends, label_name, link_kind}
 use Rattle.markdown_model.specs.Setting.{Setting}
-use Rattle.markdown_util.specs.Identifier.{identifier_of}
 use Rattle.markdown_model.specs.SingleConstructs.{WaitingStart, outcome, outcome_at, label_end_here}
 use Rattle.markdown_model.proofs.DefinitionSteps.{read-codes}
 use Rattle.markdown_model.proofs.LabelsCover.{covers_after_label, outcome_codes}
 use Rattle.markdown_model.proofs.ReadingsCover.{Covers, bind, given, if_passed, one_of, takes_one, itself}
 use Rattle.markdown_run_text.specs.Row.{begins, past_mark}
-use Rattle.markdown_run_text.specs.RunSetting.{setting_of}
+use Rattle.markdown_label_names.specs.LabelSetting.{setting_in}
 use Rattle.markdown_label.specs.LabelEnd.{last_start}
 use Rattle.markdown_run.specs.RunConstruct.{EndsOrLoses, start_reading}
 use Rattle.markdown_run_text.specs.ReaderEnds.{BeginsOrStays}
@@ -98,7 +97,7 @@ unfolding outcome
 covers-outcome-at s None back = record { at = λ cs. tt }
 covers-outcome-at s (Some l) back = record { at = λ cs. (inside).at cs }
   where
-    inside : Covers outcome_codes [] (provided (not l.barred) >> outcome s l.kind (identifier_of (bytes_between s l.stop (start_of back))))
+    inside : Covers outcome_codes [] (provided (not l.barred) >> outcome s l.kind (label_name s l.stop.index (start_of back).index))
     inside =
         if_passed outcome_codes [] (not l.barred) _
         (one_of outcome_codes [] _ _ (if_passed outcome_codes [] _ _ (given outcome_codes [] (LabelKind.GfmFootnote, empty) refl))
@@ -122,6 +121,6 @@ end-made T U k =
       rest = ahead U;
       holds = k.1.1.1.0;
       left = k.1.1.1.1;
-      whole = read-codes end_codes (label_end_here (setting_of T.parse_state.now) (last_start T.events T.tokenize_state.label_starts)) (covers-end _ _) (ahead T) (ahead U) (back, (k.1.0, tail)) k.1.1.1.0 ∙ append_assoc back (leaf_codes tail) (ahead U);
+      whole = read-codes end_codes (label_end_here (setting_in T) (last_start T.events T.tokenize_state.label_starts)) (covers-end _ _) (ahead T) (ahead U) (back, (k.1.0, tail)) k.1.1.1.0 ∙ append_assoc back (leaf_codes tail) (ahead U);
       after = refl;
     }

@@ -14,7 +14,7 @@ use Rattle.markdown_model.specs.LabelEnd.{Element, plain, starts, ends, label_en
 use Rattle.markdown_model.specs.Pairs.{Pair, pair_list}
 use Rattle.markdown_model.specs.Passes.{HardBreaks, breaks, labels_of, merged, trimmed, with_emails_apart}
 use Rattle.markdown_model.specs.Runs.{Run}
-use Rattle.markdown_model.specs.Setting.{Setting}
+use Rattle.markdown_model.specs.Setting.{Setting, within}
 use Rattle.markdown_model.proofs.ElementCases.{AllAre, EachConstruct, all_are, text_has}
 use Rattle.markdown_model.proofs.OneElementList.{text_elements, same_text_elements}
 use Rattle.markdown_model.proofs.PlainConstructs.{IsPlainTree, ReadsPlain}
@@ -96,7 +96,7 @@ pub text-still : (s : Setting) (cs : List Code) (es : List Element) → AreEleme
     s.options.constructs.attention ≡ false → s.options.constructs.gfm_strikethrough ≡ false →
     row_has_run (row_of_elements es) ≡ false
 text-still s cs es are off none =
-    still-row es (all_are IsRunlessElement (text_choice s cs) (text_passes IsRunlessElement s (parts-still s.options.constructs off none) (stop_of document_start cs).index) es [] None cs are)
+    still-row es (all_are IsRunlessElement (text_choice s cs) (text_passes IsRunlessElement (within cs s) (parts-still s.options.constructs off none) (stop_of document_start cs).index) es [] None cs are)
 
 -- The tree of labels.
 

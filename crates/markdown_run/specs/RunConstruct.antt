@@ -16,8 +16,8 @@ use Rattle.markdown_attention.specs.Attention as Attention
 use Rattle.markdown_label.specs.LabelEnd as LabelEnd
 use Rattle.markdown_model.specs.Grammar.{Reading}
 use Rattle.markdown_label.specs.LabelEnd.{last_start, lost_fields}
+use Rattle.markdown_label_names.specs.LabelSetting.{setting_in}
 use Rattle.markdown_run_text.specs.ReaderEnds.{options_here, ReadsOrStays, BeginsOrStays}
-use Rattle.markdown_run_text.specs.RunSetting.{setting_of}
 use Rattle.markdown_run_text.specs.TextContent.{tried_reading}
 use Rattle.markdown_run.specs.Layer.{ready_of}
 use Rattle.markdown_model.specs.LabelEnd.{Element}
@@ -109,7 +109,7 @@ start_reading _ T = λ cs. None
 
 -- the end of a label that is read, by the last start kept
 abbrev pub end_reading : Tokenizer → Reading (List Code × (LabelKind × Forest))
-end_reading T = SingleConstructs.label_end_here (setting_of T.parse_state.now) (last_start T.events T.tokenize_state.label_starts)
+end_reading T = SingleConstructs.label_end_here (setting_in T) (last_start T.events T.tokenize_state.label_starts)
 
 -- either an end of a label is read, with what follows it, and U is T past the label that it makes of the last start kept; or none is, and U is
 -- T but for the scratch fields: where a `]` stands here and ends are on, the last start is used up

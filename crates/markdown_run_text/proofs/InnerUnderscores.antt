@@ -276,13 +276,13 @@ pub text-read : (s : Setting) (p : Place) (on : Bool) → IsText s.bytes p → o
 text-read s p on text same front earlier previous c cs whole free = by_stop (text_stops on (c ∷ cs)) refl free
   where
     by_inner : (b : Bool) → is_inner_underscore p.codes (c ∷ cs) ≡ b → not b ≡ false →
-        IsReadOne s p.codes (stop_of document_start p.codes).index earlier previous c cs
+        IsReadOne (record s { content = p.codes }) p.codes (stop_of document_start p.codes).index earlier previous c cs
     by_inner false e k = cc
     by_inner true e k =
-        inner-read s p.codes (stop_of document_start p.codes).index earlier previous c cs (inner-found s.bytes p text front c cs whole e)
+        inner-read (record s { content = p.codes }) p.codes (stop_of document_start p.codes).index earlier previous c cs (inner-found s.bytes p text front c cs whole e)
         (no-marker cs (and_parts (is_some_code is_alphanumeric (code_before p.codes (c ∷ cs))) (next_is is_alphanumeric cs) (and_parts (is_value (byte "_") c) _ e).1).1)
 
     by_stop : (b : Bool) → text_stops on (c ∷ cs) ≡ b → (b && not (is_inner_underscore p.codes (c ∷ cs))) ≡ false →
-        IsReadOne s p.codes (stop_of document_start p.codes).index earlier previous c cs
+        IsReadOne (record s { content = p.codes }) p.codes (stop_of document_start p.codes).index earlier previous c cs
     by_stop false e k = (plain (code_leaf c), (text-single s on p.codes same front earlier previous c cs whole e, inl refl))
     by_stop true e k = by_inner (is_inner_underscore p.codes (c ∷ cs)) refl k

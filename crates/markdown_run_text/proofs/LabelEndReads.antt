@@ -21,13 +21,12 @@ use Rattle.markdown_label.proofs.LabelEndReadings.{outcome-tail}
 use Rattle.markdown_label.proofs.LabelEndStartLaw.{reading-at}
 use Rattle.markdown_model.specs.CodeTests.{is_value}
 use Rattle.markdown_model.specs.Grammar.{gives}
-use Rattle.markdown_model.specs.LabelEnd.{after_label, bytes_between, is_footnote, is_image, link_identifier, link_kind}
+use Rattle.markdown_model.specs.LabelEnd.{after_label, is_footnote, is_image, label_name, link_identifier, link_kind}
 use Rattle.markdown_model.specs.Setting.{Setting, defines, is_defined}
 use Rattle.markdown_model.specs.SingleConstructs.{outcome}
 use Rattle.markdown_model.proofs.GrammarSteps.{bind-some, switched-on}
 use Rattle.markdown_partial.specs.LinkedTreeOps.{linked_ops}
 use Rattle.markdown_partial.proofs.LinkedTreeLemmas.{CoversRow, linked-past}
-use Rattle.markdown_util.specs.Identifier.{identifier_of}
 use Rattle.markdown_run_text.specs.PlainResource.{may_make, takes_resource}
 
 -- what follows a `]`, where the end makes a label of it: whatever is defined, or if the label itself is
@@ -69,7 +68,7 @@ takes l h = let p = takes-by l.kind l.inactive h in record { active = p.0; plain
 abbrev pub AnswersBy : Tokenizer → Bool → Code → List Kept.LabelStart → Type 0
 AnswersBy T asks x [] = Unit {0}
 AnswersBy T asks x (l ∷ ls) =
-    asks ≡ true → defines (setting_in T) (identifier_of (bytes_between (setting_in T) (place_at T.events l.start.1) x.start)) ≡ true
+    asks ≡ true → defines (setting_in T) (label_name (setting_in T) (place_at T.events l.start.1).index x.start.index) ≡ true
 
 -- nothing is asked of the label
 pub asks-nothing : (T : Tokenizer) (x : Code) (ls : List Kept.LabelStart) → AnswersBy T false x ls
@@ -101,7 +100,7 @@ module _ (T : Tokenizer) (asks : Bool) (read : Tokenizer → Tokenizer) (x : Cod
     s = setting_in T
 
     abbrev name : List ℕ
-    name = identifier_of (bytes_between s (place_at T.events l.start.1) x.start)
+    name = label_name s (place_at T.events l.start.1).index x.start.index
 
     -- the label is defined, if that is asked for
     abbrev Answers : Type 0

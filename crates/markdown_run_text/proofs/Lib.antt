@@ -58,3 +58,4 @@ pub mod TagSteps
 pub mod TagReads
 pub mod BytesOfReferences
 pub mod ReferenceReads
+pub mod TextsBetween

@@ -24,13 +24,13 @@ use Rattle.markdown_engine.specs.declared.tokenizer.Tokenizer.{Tokenizer}
 use Rattle.markdown_engine.proofs.PlaceAfterCodes.{stop-moved}
 use Rattle.markdown_label_names.specs.IdentifierFronts.{AreCuts}
 use Rattle.markdown_label.specs.LabelEnd.{AllEndBetween, Ends, EndsBetween, LabelEndStartReady, end_ops, ended, is_on, made_here}
-use Rattle.markdown_label_names.proofs.BytesBetween.{max-between, max-size}
+use Rattle.markdown_label_names.proofs.BytesBetween.{max-between}
 use Rattle.markdown_label_names.specs.LabelNames.{place_at}
 use Rattle.markdown_label_names.specs.LabelSetting.{setting_in}
 use Rattle.markdown_label.proofs.LabelEndReadings.{after-bracket, after-other, full-first}
 use Rattle.markdown_model.specs.CodeTests.{is_among, is_between, is_value, is_whitespace_code, next_is}
 use Rattle.markdown_model.specs.Grammar.{gives, one, up_to}
-use Rattle.markdown_model.specs.LabelEnd.{bytes_between, full_reference, reference_identifier, shortcut}
+use Rattle.markdown_model.specs.LabelEnd.{full_reference, label_name, name_between, reference_identifier, shortcut}
 use Rattle.markdown_model.specs.Resource.{begins_character, counted, label, reference_names, string_group}
 use Rattle.markdown_model.specs.Setting.{Setting, defines, rules}
 use Rattle.markdown_model.proofs.GrammarSteps.{after-some, bind-some, if-false, if-true, one-here, provided-true, switched-on}
@@ -38,7 +38,6 @@ use Rattle.markdown_partial.proofs.BoolLemmas.{same-value}
 use Rattle.markdown_plan.specs.Characters.{ReadsText, bytes_of}
 use Rattle.markdown_plan.proofs.CharacterPlaces.{code-begins, text-places}
 use Rattle.markdown_plan.proofs.CharactersAlongContent.{text-moved}
-use Rattle.markdown_util.specs.Identifier.{identifier_of}
 use Rattle.markdown_run_text.specs.PlacesPassed.{is_some_value}
 use Rattle.markdown_run_text.specs.PlainReference.{ends_here, front_stops, is_named, label_stops, name_at, names_at, past_text, reference_here, reference_read, refers_by, text_at}
 use Rattle.markdown_run_text.specs.PlainResource.{between_read, has_markers, may_make, plain_here}
@@ -47,6 +46,7 @@ use Rattle.markdown_run_text.proofs.ImageStarts.{first-at, some-value}
 use Rattle.markdown_run_text.proofs.LabelEndReads.{AnswersBy, EndFollows, asks-nothing, ends-where}
 use Rattle.markdown_run_text.proofs.PlainResourceReads.{EndsText, IsFreeOf, IsTextStretch, between-covers, between-reads, between_tree, closes-there, code-here, ends-text, free-here, no-blank-line, one-line, text-is, value-here, value-is}
 use Rattle.markdown_run_text.proofs.StretchParts.{text-passed}
+use Rattle.markdown_run_text.proofs.TextsBetween.{label-between, name-between}
 
 -- The label of a full reference.
 
@@ -109,11 +109,11 @@ module _ (f t : Code) (ts : List Code) (b : Code) (rest : List Code) (k : IsText
       (after-some _ _ rest [] rest _ (provided-true _ rest filled) refl)))))
       ∙ ap (λ u. Some (group N.Reference (leaf N.ReferenceMarker (f ∷ []) ⊕ string_group N.ReferenceString u ⊕ leaf N.ReferenceMarker (b ∷ [])), rest)) (one-line label_stops t ts (b ∷ rest) k)
 
-  name-is : (s : Setting) → reference_identifier s (full_tree f (t ∷ ts) b) ≡ identifier_of (bytes_between s t.start (stop_of document_start (t ∷ ts)))
+  name-is : (s : Setting) → reference_identifier s (full_tree f (t ∷ ts) b) ≡ name_between s t.start.index (stop_of document_start (t ∷ ts)).index
   unfolding reference_identifier
   name-is s = refl
 
-  full-follows : (s : Setting) → defines s (identifier_of (bytes_between s t.start (stop_of document_start (t ∷ ts)))) ≡ true →
+  full-follows : (s : Setting) → defines s (name_between s t.start.index (stop_of document_start (t ∷ ts)).index) ≡ true →
       EndFollows s false reference_read full
   unfolding full_reference gives
   full-follows s defined =
@@ -196,11 +196,6 @@ cuts-of bs i j text from to start end e h =
     (subst (AreCuts bs i) (sym (h ∙ ap (max j) e))
     (record { text = text; in_order = le-max_right j i; first = from; last = max-between bs i j from to }))
 
-name-between : (bs : List ℕ) (i j : ℕ) → (start end : ℕ) → start ≡ i → end ≡ max j start →
-    slice_range bs start end ≡ take (j - i) (drop i bs)
-name-between bs i j start end e h =
-    (λ k. slice_range bs (e k) ((h ∙ ap (max j) e) k)) ∙ ap (λ n. take n (drop i bs)) (max-size i j)
-
 module _ (T : Tokenizer) (text : ReadsText T) (front : is_some_value 91 (code_at (moved T.cursor)) ≡ true) (there : text_at (moved (moved T.cursor)) ≡ true) (start end : ℕ) (from : start ≡ (point_of (moved (moved T.cursor))).index) (to : end ≡ max (exit_point (past_text (moved (moved T.cursor)))).index start) where
   pub full-cuts : AreCuts (bytes_of T) start end
   full-cuts =
@@ -212,6 +207,13 @@ module _ (T : Tokenizer) (text : ReadsText T) (front : is_some_value 91 (code_at
       (subst (λ (q : Point). IsCharBoundary (bytes_of T) q.index) (sym k.from) places.0)
       (subst (λ (q : Point). IsCharBoundary (bytes_of T) q.index) (sym k.to) places.1)
       start end from to
+
+  -- what is looked up is the name of the text
+  pub full-is : defines (setting_in T) (name_between (setting_in T) start end) ≡ names_at (setting_in T) (moved (moved T.cursor))
+  full-is =
+      let p : Place = moved (moved T.cursor) in
+      ap (defines (setting_in T)) (name-between (setting_in T) (point_of p).index (exit_point (past_text p)).index start end from to)
+      ∙ ap (λ b. b && defines (setting_in T) (name_at (setting_in T) p)) (sym there)
 
 module _ (T : Tokenizer) (ready : LabelEndStartReady T) (here : is_some_value 93 (code_at T.cursor) ≡ true) (l : Kept.LabelStart) (ls : List Kept.LabelStart) (top : T.tokenize_state.label_starts ≡ l ∷ ls) where
   last-start : EndsBetween T l
@@ -230,9 +232,9 @@ module _ (T : Tokenizer) (ready : LabelEndStartReady T) (here : is_some_value 93
         (subst (λ (q : Point). IsCharBoundary (bytes_of T) q.index) (sym (point_ahead p a.code _ a.codes)) begins)
         start end from to
 
-    pub named-is : defines (setting_in T) (identifier_of (slice_range (bytes_of T) start end)) ≡ is_named T.tokenize_state.label_starts T
+    pub named-is : defines (setting_in T) (label_name (setting_in T) start end) ≡ is_named T.tokenize_state.label_starts T
     named-is =
-        ap (λ bs. defines (setting_in T) (identifier_of bs)) (name-between (bytes_of T) (place_at T.events l.start.1).index (point_of T.cursor).index start end from to)
+        ap (defines (setting_in T)) (label-between (setting_in T) (place_at T.events l.start.1).index (point_of T.cursor).index start end from to)
         ∙ sym (ap (λ ks. is_named ks T) top)
 
 -- By what stands behind the `]`.
@@ -259,12 +261,12 @@ full-here T front h =
     let defined : defines s (name_at s (moved p)) ≡ true = and-right (text_at (moved p)) _ h in
     subst (EndFollows s false reference_read) (sym (f.codes ∙ ap (λ cs. f.code ∷ cs) k.codes))
     (full-follows f.code k.first k.more k.back k.rest k.text (value-is f.code 91 f.value) (value-is k.back 93 k.closes) k.white k.short s
-    (sym (λ i. defines s (identifier_of (bytes_between s (k.from i) (k.to i)))) ∙ defined))
+    (sym (λ i. defines s (name_between s (k.from i).index (k.to i).index)) ∙ defined))
 
 own-answers : (T : Tokenizer) (x : Code) → point_of T.cursor ≡ x.start → (ls : List Kept.LabelStart) → is_named ls T ≡ true → AnswersBy T true x ls
 own-answers T x e [] h = tt
 own-answers T x e (l ∷ ls) h = λ asked.
-    sym (ap (λ q. defines (setting_in T) (identifier_of (bytes_between (setting_in T) (place_at T.events l.start.1) q))) e) ∙ h
+    sym (ap (λ (q : Point). defines (setting_in T) (label_name (setting_in T) (place_at T.events l.start.1).index q.index)) e) ∙ h
 
 -- where one stands, it is read
 pub reference-ends : (T U : Tokenizer) → reference_here T ≡ true → U ≡ made_here (reference_read (done end_ops (ended T))) → Ends T U

@@ -12,7 +12,7 @@ use Rattle.markdown_model.specs.Elements.{text_choice, text_element}
 use Rattle.markdown_model.specs.GfmAutolinkLiteral.{schemes, www, literal_words, first_letters, letters, one_word_of, begins_with_www, may_precede_www, gfm_autolink_literal_protocol, www_from_here, gfm_autolink_literal_www}
 use Rattle.markdown_model.specs.Grammar.{Reading, either, ◌>>◌, provided}
 use Rattle.markdown_model.specs.LabelEnd.{Element, plain}
-use Rattle.markdown_model.specs.Setting.{Setting}
+use Rattle.markdown_model.specs.Setting.{Setting, within}
 use Rattle.markdown_model.specs.TextLines.{code_leaf}
 use Rattle.markdown_model.proofs.GrammarSteps.{bind-none, either-second, either-some, switched-off}
 use Rattle.markdown_run_text.specs.TextStops.{begins_word, text_stops}
@@ -113,4 +113,4 @@ module _ (s : Setting) (end : ℕ) (c : Code) (cs : List Code) where
 pub text-single : (s : Setting) (on : Bool) (cs : List Code) → on ≡ s.options.constructs.gfm_autolink_literal →
     AreSingle (text_choice s cs) (text_stops on) cs
 text-single s on whole same front earlier previous c cs w free =
-    goes-single s (stop_of document_start whole).index c cs earlier previous (ap (λ b. text_stops b (c ∷ cs)) (sym same) ∙ free)
+    goes-single (within whole s) (stop_of document_start whole).index c cs earlier previous (ap (λ b. text_stops b (c ∷ cs)) (sym same) ∙ free)

@@ -11,9 +11,8 @@ use Rattle.markdown_engine.specs.declared.tokenizer.Tokenizer.{Tokenizer}
 use Rattle.markdown_label.specs.LabelEnd.{is_on}
 use Rattle.markdown_label_names.specs.LabelNames.{place_at}
 use Rattle.markdown_label_names.specs.LabelSetting.{setting_in}
-use Rattle.markdown_model.specs.LabelEnd.{bytes_between}
+use Rattle.markdown_model.specs.LabelEnd.{label_name, name_between}
 use Rattle.markdown_model.specs.Setting.{Setting, defines}
-use Rattle.markdown_util.specs.Identifier.{identifier_of}
 use Rattle.markdown_run_text.specs.PlacesPassed.{is_some_value}
 use Rattle.markdown_run_text.specs.PlainResource.{between_read, may_make}
 
@@ -37,7 +36,7 @@ text_at p = is_free front_stops (code_at p) && (is_some_value (byte "]") (code_a
 
 -- the identifier of the text at the place
 abbrev pub name_at : Setting → Place → List ℕ
-name_at s p = identifier_of (bytes_between s (point_of p) (exit_point (past_text p)))
+name_at s p = name_between s (point_of p).index (exit_point (past_text p)).index
 
 -- such a text is at the place, and names a definition
 abbrev pub names_at : Setting → Place → Bool
@@ -47,7 +46,7 @@ names_at s p = text_at p && defines s (name_at s p)
 abbrev pub is_named : List Kept.LabelStart → Tokenizer → Bool
 is_named [] T = false
 is_named (l ∷ ls) T =
-    defines (setting_in T) (identifier_of (bytes_between (setting_in T) (place_at T.events l.start.1) (point_of T.cursor)))
+    defines (setting_in T) (label_name (setting_in T) (place_at T.events l.start.1).index (point_of T.cursor).index)
 
 -- by the code behind the `]` at the place: what follows names a definition, or where it cannot, the label does
 abbrev pub refers_by : Option ℕ → Tokenizer → Bool

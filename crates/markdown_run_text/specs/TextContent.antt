@@ -40,7 +40,7 @@ use Rattle.markdown_model.specs.Elements.{Choice, text_choice}
 use Rattle.markdown_model.specs.GfmAutolinkLiteral.{schemes, www, literal_words, first_letters}
 use Rattle.markdown_model.specs.LabelEnd.{Element, plain}
 use Rattle.markdown_model.specs.TextLines.{data_up_to, code_leaf}
-use Rattle.markdown_model.specs.Setting.{Setting}
+use Rattle.markdown_model.specs.Setting.{Setting, within}
 use Rattle.markdown_partial.specs.PartialData.{stops_of}
 use Rattle.markdown_run_text.specs.RunOverElements.{AreSingle, DataFinishes, Finishes, StandsAfter}
 use Rattle.markdown_run_text.specs.RunSetting.{text_setting_of}
@@ -225,7 +225,8 @@ before_data_step T = stepped (Retry DataStart) (attempted false (Next TextBefore
 -- What is read.
 
 abbrev pub text_setting : Tokenizer → Setting
-text_setting T = text_setting_of T.parse_state.now T.tokenize_state.document_at_first_paragraph_of_list_item
+text_setting T =
+    within T.cursor.codes (text_setting_of T.parse_state.now T.tokenize_state.document_at_first_paragraph_of_list_item)
 
 abbrev pub text_choice_of : Tokenizer → Choice
 text_choice_of T = text_choice (text_setting T) T.cursor.codes

@@ -4,6 +4,7 @@ pub mod AsciiFold
 pub mod JoinedWords
 pub mod LastChar
 pub mod WordsAcrossSpaces
+pub mod ReplacedNul
 pub mod SortedTable
 pub mod TableTextCuts
 pub mod HalvedText

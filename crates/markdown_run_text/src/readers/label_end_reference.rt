@@ -45,7 +45,7 @@ use markdown_content::bytes::{ByteSet, ByteTable};
 use markdown_content::cursor::Cursor;
 use markdown_engine::tokenizer::Tokenizer;
 use markdown_event::event::Name;
-use markdown_label_names::identifier::is_defined_from;
+use markdown_label_names::identifier::{is_defined_from, is_label_from};
 use std::alloc::AllocError;
 
 // How many codes the text of a reference has at most.
@@ -125,7 +125,7 @@ fn is_named(tokenizer: &mut Tokenizer) -> Result<bool, AllocError>
     };
     let start = tokenizer.events.at(top.start.1).point.index;
     let end = tokenizer.cursor.point().index.max(start);
-    is_defined_from(tokenizer, start, end)
+    is_label_from(tokenizer, start, end)
 }
 
 // Whether ends are on, and the `]` of one is at the place that may make a label.

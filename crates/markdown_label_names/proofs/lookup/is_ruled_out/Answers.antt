@@ -1,8 +1,8 @@
 -- A front that no definition begins with rules the whole label out.
 use Rattle.std.proofs.Common.{refl, sym, ◌∙◌}
-use Rattle.markdown_plan.specs.Characters.{bytes_of}
 use Rattle.markdown_label_names.specs.LabelSetting.{setting_in}
-use Rattle.markdown_label_names.proofs.IdentifierFrontLemmas.{front-cuts, unknown-from, unknown-nothing}
+use Rattle.markdown_label_names.proofs.IdentifierFrontLemmas.{front-cuts, unknown-nothing}
+use Rattle.markdown_label_names.proofs.TextParts.{unknown-from}
 use Rattle.markdown_label_names.proofs.lookup.is_ruled_out.Goals as goal
 
 pub front_begins-requires-clause-cuts : goal.front_begins-requires-clause-cuts
@@ -21,5 +21,5 @@ returns-then-branch c = λ _. c.in_ok-letters_rule_out.ensures c.if-branch.true
 
 pub returns-then-not-branch : goal.returns-then-not-branch
 returns-then-not-branch c = λ _.
-    unknown-from (setting_in c.args.tokenizer.now) c.args.kind (bytes_of c.args.tokenizer.now) _ c.args.start c.boundary-middle.result c.args.end
+    unknown-from c.args.tokenizer.now c.requires.own c.args.kind _ c.args.start c.boundary-middle.result c.args.end
     (front-cuts _ c.args.start c.boundary-middle.result c.args.end _ c.requires.cuts c.boundary-middle.ensures.after c.boundary-middle.ensures.boundary) c.boundary-middle.ensures.before refl (sym c.in_ok-front_begins.ensures ∙ c.if-not-branch.true)

@@ -1,4 +1,4 @@
-use Rattle.std.proofs.Common.{◌≡◌, ◌∙◌, sym, ap, subst, ℕ, ◌≤◌, ◌⊎◌, inl, inr, arith}
+use Rattle.std.proofs.Common.{◌≡◌, ◌∙◌, sym, subst, ℕ, ◌≤◌, ◌⊎◌, inl, inr, arith}
 use Rattle.std.specs.Char.{InScalarRange, OutOfScalarRange}
 use Rattle.markdown_util.proofs.NumberValues.{number_read, character_stays, no_character_stays, null_replaced}
 use Rattle.markdown_util.proofs.decoding.decode_kept.Goals as goal

@@ -7,8 +7,11 @@ use Rattle.markdown_label_names.proofs.BytesBetween.{place-lent}
 use Rattle.markdown_run_text.proofs.PlainReferenceReads.{named-cuts, named-is, start-within}
 use Rattle.markdown_run_text.proofs.readers.label_end_reference.is_named.Goals as goal
 
-pub is_defined_from-requires-clause-cuts : goal.is_defined_from-requires-clause-cuts
-is_defined_from-requires-clause-cuts c =
+pub is_label_from-requires-clause-own : goal.is_label_from-requires-clause-own
+is_label_from-requires-clause-own c = c.requires.ready.text.own
+
+pub is_label_from-requires-clause-cuts : goal.is_label_from-requires-clause-cuts
+is_label_from-requires-clause-cuts c =
     let T : Tokenizer = c.args.tokenizer.now in
     let l = c.in-Some.top.now in
     named-cuts T c.requires.ready c.requires.here l _ c.in-Some.ensures c.at-start.result.point.index c.max-end.result
@@ -19,8 +22,8 @@ pub returns-clause-named : goal.returns-clause-named
 returns-clause-named c =
     let T : Tokenizer = c.args.tokenizer.now in
     let l = c.in-Some.top.now in
-    IfOk-weaker c.is_defined_from.result _ _
+    IfOk-weaker c.is_label_from.result _ _
     (λ named k. k ∙ named-is T c.requires.ready c.requires.here l _ c.in-Some.ensures c.at-start.result.point.index c.max-end.result
     (ap (λ (q : Point). q.index) (place-lent T.events l.start.1 c.at-start.result (start-within T c.requires.ready c.requires.here l _ c.in-Some.ensures) c.at-start.ensures))
     (c.max-end.ensures ∙ ap (λ (q : Point). max q.index c.at-start.result.point.index) c.point.ensures))
-    c.is_defined_from.ensures.defined
+    c.is_label_from.ensures.defined
