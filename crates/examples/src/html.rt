@@ -26,6 +26,7 @@ fn html_of(
     to_html(
         alloc,
         parse_state,
+        pieces,
         &found.events.as_slice(),
         targets,
         &mut FootnoteCalls::new(alloc),

@@ -12,7 +12,7 @@
 #![tactic(auto)]
 
 ghost use Rattle.std.specs.Prelude.{◌≡◌, ◌≤◌, [], IfOk, IfSome};
-ghost use Rattle.markdown_content.specs.Content.{content_of};
+ghost use Rattle.markdown_content.specs.Content.{IsContent, content_of};
 ghost use Rattle.markdown_content.specs.Tree.{Forest, events_of};
 ghost use Rattle.markdown_html.specs.Brought.{brought};
 ghost use Rattle.markdown_html.specs.View.{page_from};
@@ -87,17 +87,27 @@ fn fault_of(error: io::Error) -> Fault {
 fn check_limit(
     alloc: Global,
     parse_state: &ParseState,
+    pieces: &[Piece],
     events: &EventSlice,
     definitions: &Targets,
     options: HtmlOptions,
     limit: Option<usize>,
 ) -> Result<(), Fault>
-    ensures { (t : Forest) → events.now ≡ events_of t → IfOk result (λ _. IfSome limit (λ most. brought (page_from parse_state.now definitions.now options) t ≤ most)) }
+    requires { IsContent parse_state.now.bytes.now pieces.now }
+    ensures { (t : Forest) → events.now ≡ events_of t → IfOk result (λ _. IfSome limit (λ most. brought (page_from parse_state.now pieces.now definitions.now options) t ≤ most)) }
 {
     let Some(limit) = limit else {
         return Ok(());
     };
-    match left_of_limit(alloc, parse_state, events, definitions, options, limit)? {
+    match left_of_limit(
+        alloc,
+        parse_state,
+        pieces,
+        events,
+        definitions,
+        options,
+        limit,
+    )? {
         Some(_) => Ok(()),
         None => Err(Fault::References),
     }
@@ -114,18 +124,34 @@ fn html_of(
     limit: Option<usize>,
 ) -> Result<Vec<u8>, Fault>
     ensures html { let s = text_setting_of parse_state.now first_of_item in let tree = text_tree s (content_of s.bytes pieces.now) in
-        IfOk result (λ written. written.items ≡ html (page_from parse_state.now definitions.now options) [] tree) }
+        IfOk result (λ written. written.items ≡ html (page_from parse_state.now pieces.now definitions.now options) [] tree) }
     ensures limit { let s = text_setting_of parse_state.now first_of_item in let tree = text_tree s (content_of s.bytes pieces.now) in
-        IfOk result (λ _. IfSome limit (λ most. brought (page_from parse_state.now definitions.now options) tree ≤ most)) }
+        IfOk result (λ _. IfSome limit (λ most. brought (page_from parse_state.now pieces.now definitions.now options) tree ≤ most)) }
 {
     if !run::is_text(parse_state.bytes, pieces) {
         return Err(Fault::BlankLine);
     }
     let found = run::text_list(alloc, parse_state, pieces, first_of_item)?;
     let events = found.events.as_slice();
-    check_limit(alloc, parse_state, &events, definitions, options, limit)?;
+    check_limit(
+        alloc,
+        parse_state,
+        pieces,
+        &events,
+        definitions,
+        options,
+        limit,
+    )?;
     let calls = &mut FootnoteCalls::new(alloc);
-    Ok(to_html(alloc, parse_state, &events, definitions, calls, options)?)
+    Ok(to_html(
+        alloc,
+        parse_state,
+        pieces,
+        &events,
+        definitions,
+        calls,
+        options,
+    )?)
 }
 
 // The HTML of a paragraph with what the words ask.

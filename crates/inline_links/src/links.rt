@@ -1,12 +1,14 @@
 //! The links, images, autolinks and literals of a text.
 
+ghost use Rattle.markdown_content.specs.Content.{IsContent};
+
 use crate::definition::Target;
 use crate::strings::one_line;
 use markdown_inline::configuration::{COMMONMARK, Constructs, ParseOptions};
 use markdown_inline::definitions::Definitions;
 use markdown_inline::document::Document;
 use markdown_inline::event::{Name, Point};
-use markdown_inline::event_list::{EventList, EventSlice};
+use markdown_inline::event_list::EventSlice;
 use markdown_inline::labels::Labels;
 use markdown_inline::node::Node;
 use markdown_inline::parser::{ParseState, Piece};
@@ -41,18 +43,6 @@ pub fn parse_state<'a>(
         definitions: definitions.identifiers()?,
         gfm_footnote_definitions: Vec::new(alloc),
     })
-}
-
-// The events of a text of the document; none where the pieces are no text.
-fn events_of(
-    alloc: Global,
-    document: &Document,
-    pieces: &[Piece],
-) -> Result<EventList, AllocError> {
-    match document.content(pieces) {
-        Some(content) if content.is_text() => Ok(content.text_list(alloc, false)?.events),
-        _ => Ok(EventList::new(alloc)),
-    }
 }
 
 // What kind of link stands somewhere.
@@ -134,7 +124,9 @@ fn target(
     tree: &Tree,
     node: Node,
     targets: &[Target],
-) -> Result<Target, AllocError> {
+) -> Result<Target, AllocError>
+    requires { IsContent labels.now.bytes.now labels.now.pieces.now }
+{
     match target_of(alloc, labels, tree, node.enter)? {
         Some(Leads::Here(address)) => texts_of(alloc, address),
         Some(Leads::Definition(number)) => target_at(alloc, targets, number),
@@ -165,7 +157,9 @@ fn push_lines(
     labels: &Labels,
     events: &EventSlice,
     targets: &[Target],
-) -> Result<(), AllocError> {
+) -> Result<(), AllocError>
+    requires { IsContent labels.now.bytes.now labels.now.pieces.now }
+{
     let tree = Tree::new(alloc, events)?;
     for number in 0..events.len() {
         let Some(node) = tree.node(number) else {
@@ -179,15 +173,28 @@ fn push_lines(
     Ok(())
 }
 
-/// Adds a line for each link of a text of the document.
+/// Adds a line for each link of a text of the document, where these are all definitions; none where the pieces are no text.
 pub fn push_text(
     alloc: Global,
     lines: &mut String,
     document: &Document,
-    labels: &Labels,
+    definitions: &Definitions,
     text: &[Piece],
     targets: &[Target],
 ) -> Result<(), AllocError> {
-    let events = events_of(alloc, document, text)?;
-    push_lines(alloc, lines, labels, &events.as_slice(), targets)
+    let Some(content) = document.content(text) else {
+        return Ok(());
+    };
+    if !content.is_text() {
+        return Ok(());
+    }
+    let events = content.text_list(alloc, false)?.events;
+    let labels = Labels {
+        bytes: document.parse_state().bytes,
+        pieces: text,
+        options: &OPTIONS,
+        definitions,
+        footnotes: &Definitions::new(alloc),
+    };
+    push_lines(alloc, lines, &labels, &events.as_slice(), targets)
 }

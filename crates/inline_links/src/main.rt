@@ -11,18 +11,15 @@ mod rest;
 mod strings;
 
 use crate::blocks::Blocks;
-use markdown_inline::definitions::Definitions;
 use markdown_inline::document::Document;
-use markdown_inline::labels::Labels;
 use std::alloc::{AllocError, Global};
 use std::io::Read;
 use std::process::ExitCode;
 
-// The lines of the texts of these blocks, where the labels say where links lead.
-fn lines_by_labels(
+// The lines of the texts of these blocks, whose definitions are all that is defined.
+fn lines_by_definitions(
     alloc: Global,
     document: &Document,
-    labels: &Labels,
     blocks: &Blocks,
 ) -> Result<String, AllocError> {
     let mut lines = String::new(alloc);
@@ -32,29 +29,12 @@ fn lines_by_labels(
             alloc,
             &mut lines,
             document,
-            labels,
+            &blocks.definitions,
             text.as_slice(),
             targets,
         )?;
     }
     Ok(lines)
-}
-
-// The same, where the definitions of the blocks are all that is defined.
-fn lines_by_definitions(
-    alloc: Global,
-    document: &Document,
-    bytes: &[u8],
-    blocks: &Blocks,
-) -> Result<String, AllocError> {
-    let footnotes = Definitions::new(alloc);
-    let labels = Labels {
-        bytes,
-        options: &links::OPTIONS,
-        definitions: &blocks.definitions,
-        footnotes: &footnotes,
-    };
-    lines_by_labels(alloc, document, &labels, blocks)
 }
 
 // The same, of the blocks of these bytes; none where these are not UTF-8.
@@ -65,7 +45,7 @@ fn lines_of_bytes(
 ) -> Result<Option<String>, AllocError> {
     let parse_state = links::parse_state(alloc, bytes, &blocks.definitions)?;
     match Document::new(alloc, parse_state)? {
-        Some(document) => lines_by_definitions(alloc, &document, bytes, blocks).map(Some),
+        Some(document) => lines_by_definitions(alloc, &document, blocks).map(Some),
         None => Ok(None),
     }
 }

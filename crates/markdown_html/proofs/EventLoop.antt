@@ -4,6 +4,10 @@ use Rattle.std.specs.Str.{is_utf8, IsUtf8}
 use Rattle.std.proofs.lemmas.Str.{is_utf8-from_IsUtf8, IsUtf8-from_is_utf8}
 use Rattle.markdown_content.specs.Tree.{Forest, events_from}
 use Rattle.markdown_event.specs.declared.event.Event.{Event}
+use Rattle.markdown_content.specs.Codes.{Code}
+use Rattle.markdown_content.specs.CommonMark.{rules_of}
+use Rattle.markdown_content.specs.DefaultOptions.{default_options}
+use Rattle.markdown_content.specs.declared.configuration.Rules.{Rules}
 use Rattle.markdown_util.specs.declared.decoding.Decoding.{Decoding}
 use Rattle.markdown_html_model.specs.Html.{Defined, Page, plain_text_by, text_page}
 use Rattle.markdown_html_model.specs.declared.options.HtmlOptions.{HtmlOptions}
@@ -22,16 +26,20 @@ walked_end p before within n previous t events s [] so_far none is =
     walk-html p before within n previous t s (ap (walked p (beginning before within)) (sym is) ∙ sym so_far)
 walked_end p before within n previous t events s (x ∷ left) so_far none is = cc
 
-abbrev pub page-with : List ℕ → Decoding → List Defined → HtmlOptions → Page
-page-with bytes decoding definitions options = record { bytes = bytes; footnotes_on = false; decoding = decoding; definitions = definitions; options = options }
+abbrev pub page-with : List ℕ → List Code → Rules → Decoding → List Defined → HtmlOptions → Page
+page-with bytes cs rules decoding definitions options =
+    record { bytes = bytes; content = cs; rules = rules; footnotes_on = false; decoding = decoding; definitions = definitions; options = options }
 
 -- with no definitions, no calls and these options, what is written is plain text
-pub text-alone : (how : Decoding) (bytes : List ℕ) (definitions : List Defined) (options : HtmlOptions) (before : List (List ℕ)) (t : Forest) → definitions ≡ [] → options ≡ Page.options (text_page how bytes) → before ≡ []
-    → html_within (page-with bytes how definitions options) before Within.InText t ≡ plain_text_by how bytes t
+pub text-alone : (how : Decoding) (bytes : List ℕ) (cs : List Code) (rules : Rules) (definitions : List Defined) (options : HtmlOptions) (before : List (List ℕ)) (t : Forest) → cs ≡ []
+    → rules ≡ rules_of default_options → definitions ≡ [] → options ≡ Page.options (text_page how bytes) → before ≡ []
+    → html_within (page-with bytes cs rules how definitions options) before Within.InText t ≡ plain_text_by how bytes t
 unfolding plain_text_by
-text-alone how bytes definitions options before t d o none =
-    ap (λ ds. html_within (page-with bytes how ds options) before Within.InText t) d
-    ∙ ap (λ os. html_within (page-with bytes how [] os) before Within.InText t) o
+text-alone how bytes cs rules definitions options before t c r d o none =
+    ap (λ x. html_within (page-with bytes x rules how definitions options) before Within.InText t) c
+    ∙ ap (λ x. html_within (page-with bytes [] x how definitions options) before Within.InText t) r
+    ∙ ap (λ ds. html_within (page-with bytes [] (rules_of default_options) how ds options) before Within.InText t) d
+    ∙ ap (λ os. html_within (page-with bytes [] (rules_of default_options) how [] os) before Within.InText t) o
     ∙ ap (λ calls. html_within (text_page how bytes) calls Within.InText t) none
 
 -- what reading a label as UTF-8 answers

@@ -5,3 +5,4 @@ pub mod OneMoreCall
 pub mod WalkTree
 pub mod PlainStretch
 pub mod BroughtTree
+pub mod ClippedText

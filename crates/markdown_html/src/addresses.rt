@@ -7,6 +7,8 @@ ghost use Rattle.markdown_html_model.specs.Html.{address, tag, text_html, title_
 ghost use Rattle.markdown_html.specs.View.{page_of};
 
 use crate::targets::Targets;
+use markdown_content::configuration::Rules;
+use markdown_content::parser::Piece;
 use markdown_html_model::escape::{push_address, push_escaped};
 use markdown_html_model::options::HtmlOptions;
 use markdown_html_model::role::Within;
@@ -18,6 +20,9 @@ use std::alloc::AllocError;
 #[derive(Clone, Copy)]
 pub(crate) struct Given<'a> {
     pub(crate) bytes: &'a [u8],
+    // The pieces that are the content whose events they are.
+    pub(crate) pieces: &'a [Piece],
+    pub(crate) rules: Rules,
     pub(crate) footnotes_on: bool,
     pub(crate) decoding: Decoding,
     pub(crate) definitions: &'a Targets,

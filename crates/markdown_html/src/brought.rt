@@ -2,16 +2,17 @@
 #![tactic(auto)]
 
 ghost use Rattle.std.specs.Prelude.{◌≡◌, IfOk, OnOk};
+ghost use Rattle.markdown_content.specs.Content.{IsContent};
 ghost use Rattle.markdown_content.specs.Tree.{Forest, events_of};
 ghost use Rattle.markdown_html.specs.Brought.{brought, left_of, target_bytes};
 ghost use Rattle.markdown_html.specs.BroughtWalk.{brought_where, count_of, counted_close, counted_enter, counted_step, joined_seen, nothing_seen, own_seen, seen_brought};
-ghost use Rattle.markdown_html.specs.View.{page_from, page_of, target_view};
+ghost use Rattle.markdown_html.specs.View.{HasContent, page_from, page_of, target_view};
 
 use crate::addresses::Given;
 use crate::references::reference_target;
 use crate::targets::{Goal, Targets};
 use crate::writer::is_apart;
-use markdown_content::parser::ParseState;
+use markdown_content::parser::{ParseState, Piece};
 use markdown_engine_events::event_list::EventSlice;
 use markdown_event::event::{Event, Kind};
 use markdown_html_model::options::HtmlOptions;
@@ -113,6 +114,7 @@ fn left_by_reference(
     seen: Seen,
     left: usize,
 ) -> Result<Option<usize>, AllocError>
+    requires content { HasContent given.now }
     ensures { IfOk result (λ rest. rest ≡ left_of (Some left) (brought_where (page_of given.now) seen)) }
 {
     if seen.has_destination {
@@ -130,6 +132,7 @@ fn left_by(
     seen: Seen,
     left: Option<usize>,
 ) -> Result<Option<usize>, AllocError>
+    requires content { HasContent given.now }
     ensures { IfOk result (λ rest. rest ≡ left_of left (seen_brought (page_of given.now) role seen)) }
 {
     match (role, left) {
@@ -159,6 +162,7 @@ impl Count {
         role: Role,
         to: usize,
     ) -> Result<(), AllocError>
+        requires content { HasContent given.now }
         ensures { let s = count_of self.old in OnOk result (count_of self.new ≡ counted_close (page_of given.now) s s.opened role to) }
     {
         let Some(before) = self.opened.pop() else {
@@ -171,6 +175,7 @@ impl Count {
 
     // Passes one event.
     fn step(&mut self, alloc: Global, given: &Given, event: &Event) -> Result<(), AllocError>
+        requires content { HasContent given.now }
         ensures { OnOk result (count_of self.new ≡ counted_step (page_of given.now) (count_of self.old) event.now) }
     {
         let role = role_of(event.name);
@@ -197,15 +202,19 @@ impl Count {
 pub fn left_of_limit(
     alloc: Global,
     parse_state: &ParseState,
+    pieces: &[Piece],
     events: &EventSlice,
     definitions: &Targets,
     options: HtmlOptions,
     limit: usize,
 ) -> Result<Option<usize>, AllocError>
-    ensures { (t : Forest) → events.now ≡ events_of t → IfOk result (λ left. left ≡ left_of (Some limit) (brought (page_from parse_state.now definitions.now options) t)) }
+    requires content { IsContent parse_state.now.bytes.now pieces.now }
+    ensures { (t : Forest) → events.now ≡ events_of t → IfOk result (λ left. left ≡ left_of (Some limit) (brought (page_from parse_state.now pieces.now definitions.now options) t)) }
 {
     let given = Given {
         bytes: parse_state.bytes,
+        pieces,
+        rules: parse_state.options.rules(),
         footnotes_on: parse_state.options.constructs.gfm_label_start_footnote,
         decoding: decoding_of(parse_state.options),
         definitions,

@@ -4,7 +4,7 @@
 ghost use Rattle.std.specs.Prelude.{◌≡◌, ◌++◌, codes, decimal, OnOk};
 ghost use Rattle.markdown_html_model.specs.Escaped.{addressed, escaped};
 ghost use Rattle.markdown_html_model.specs.Html.{call_html, call_identifier, call_link, call_suffix};
-ghost use Rattle.markdown_html.specs.View.{page_of};
+ghost use Rattle.markdown_html.specs.View.{HasContent, page_of};
 
 use crate::addresses::{Given, push_tag};
 use crate::footnotes::{Footnote, FootnoteCalls};
@@ -98,6 +98,7 @@ pub(crate) fn push_call(
     within: Within,
     label: Option<(usize, usize)>,
 ) -> Result<(), AllocError>
+    requires content { HasContent given.now }
     ensures { OnOk result (out.new.items ≡ out.old.items ++ call_html within (call_identifier (page_of given.now) label) calls.now) }
 {
     let identifier = call_identifier(alloc, given, label)?;

@@ -3,14 +3,14 @@
 
 ghost use Rattle.std.specs.Prelude.{◌≡◌, ◌≤◌, ◌++◌, ◌∷◌, ◌&&◌, [], List, if◌then◌else◌, map, reverse, IfOk, IfSome, OnErr, OnOk, Option, drop, false, length, take, true, ℕ};
 ghost use Rattle.std.specs.List.{All};
-ghost use Rattle.markdown_content.specs.Content.{document_limit};
+ghost use Rattle.markdown_content.specs.Content.{IsContent, document_limit};
 ghost use Rattle.markdown_content.specs.Tree.{Forest, events_from, events_of};
 ghost use Rattle.markdown_passes.specs.TrimmedData.{IsStretch};
 ghost use Rattle.markdown_innermost.specs.InnermostEvents.{innermost, IsSpanInOrder};
 ghost use Rattle.markdown_html_model.specs.Html.{calls_behind, group_html, html, joined_parts, no_parts, own_calls, plain_text, plain_text_by, within_of, written};
 ghost use Rattle.markdown_html_model.specs.Roles.{role_of};
 ghost use Rattle.markdown_html_model.specs.OwnMarkup.{IsOwnMarkup};
-ghost use Rattle.markdown_html.specs.View.{open_view, page_from, page_of, parts_of, state_of};
+ghost use Rattle.markdown_html.specs.View.{HasContent, open_view, page_from, page_of, parts_of, state_of};
 ghost use Rattle.markdown_html.specs.EventWalk.{before_left, before_parts, closed_apart, closed_around, entered, exit_first, exited, filled_before, has_parts, is_apart, is_bare, is_leaf, is_light, is_text_alone, keeps_inside, left_behind, opened_by, rewritten, stepped, walked};
 
 use crate::addresses::Given;
@@ -25,7 +25,8 @@ use crate::leaves::push_leaf_between;
 use crate::references::{call_identifier, target};
 use crate::stretch::bytes_between;
 use crate::targets::Targets;
-use markdown_content::parser::ParseState;
+use markdown_content::configuration::ParseOptions;
+use markdown_content::parser::{ParseState, Piece};
 use markdown_engine_events::event_list::EventSlice;
 use markdown_event::event::{Event, Kind, Point};
 use markdown_html_model::options::HtmlOptions;
@@ -160,6 +161,7 @@ fn replace(
     role: Role,
     found: &Found,
 ) -> Result<(), AllocError>
+    requires content { HasContent given.now }
     ensures { OnOk result (out.new.items ≡ take entry.start out.old.items ++ rewritten (page_of given.now) entry.within role (drop entry.start out.old.items) (parts_of found.now)) }
 {
     take_inside(out, room, entry.start)?;
@@ -226,6 +228,7 @@ fn push_calls(
     role: Role,
     found: &Found,
 ) -> Result<(), AllocError>
+    requires content { HasContent given.now }
     ensures { OnOk result (calls.new ≡ own_calls (page_of given.now) role (parts_of found.now) ++ calls.old) }
 {
     match role {
@@ -307,6 +310,7 @@ impl Writer {
         entry: Entry,
         to: Point,
     ) -> Result<(), AllocError>
+        requires content { HasContent given.now }
         ensures { OnOk result (state_of self.new ≡ closed_around (page_of given.now) (state_of self.old) (open_view entry) role to) }
     {
         self.within = entry.within;
@@ -364,6 +368,7 @@ impl Writer {
         entry: Entry,
         to: Point,
     ) -> Result<(), AllocError>
+        requires content { HasContent given.now }
         ensures { let s = state_of self.old in OnOk result (state_of self.new ≡ closed_apart (page_of given.now) s (open_view entry) role to) }
     {
         let string = string_of(
@@ -387,6 +392,7 @@ impl Writer {
         role: Role,
         to: Point,
     ) -> Result<(), AllocError>
+        requires content { HasContent given.now }
         ensures { OnOk result (state_of self.new ≡ exited (page_of given.now) (state_of self.old) role to) }
     {
         if is_light(role) {
@@ -423,6 +429,7 @@ fn step(
     event: &Event,
     rest: &EventSlice,
 ) -> Result<bool, AllocError>
+    requires content { HasContent given.now }
     requires fits { length given.now.bytes.now ≤ document_limit }
     requires places { All (IsSpanInOrder given.now.bytes.now) (innermost (event.now ∷ rest.now)) }
     ensures { let p = page_of given.now in IfOk result (λ skips. walked p (state_of writer.new) (left_behind rest.now skips) ≡ walked p (stepped p (state_of writer.old) event.now rest.now) rest.now) }
@@ -447,6 +454,7 @@ fn written(
     within: Within,
     events: &EventSlice,
 ) -> Result<Writer, AllocError>
+    requires content { HasContent given.now }
     requires fits { length given.now.bytes.now ≤ document_limit }
     requires places { All (IsSpanInOrder given.now.bytes.now) (innermost events.now) }
     ensures { (n : ℕ) (previous : Option ℕ) (t : Forest) → events.now ≡ events_from n previous t → IfOk result (λ writer. let w = written (page_of given.now) calls within t in (writer.out.items ≡ w.html) × (writer.calls ≡ w.calls ++ calls)) }
@@ -470,8 +478,8 @@ fn written(
 
 /// The HTML of the tree whose events these are, over the bytes of a document.
 ///
-/// The events are those of a run with this parse state, of which the bytes and the options are read. A reference leads to the first definition with its
-/// identifier, and to an empty address where there is none.
+/// The events are those of a run over these pieces with this parse state, of which the bytes and the options are read. A reference leads to the first
+/// definition with its identifier, and to an empty address where there is none.
 ///
 /// A footnote call is written with its number in the document. So one `FootnoteCalls` is handed to the contents of a document one after the other. It then has the
 /// calls of this content too; after an error it has none, and the document has to be written anew.
@@ -486,21 +494,24 @@ fn written(
 pub fn to_html(
     alloc: Global,
     parse_state: &ParseState,
+    pieces: &[Piece],
     events: &EventSlice,
     definitions: &Targets,
     calls: &mut FootnoteCalls,
     options: HtmlOptions,
 ) -> Result<Vec<u8>, AllocError>
-    requires fits { length parse_state.now.bytes.now ≤ document_limit }
+    requires content { IsContent parse_state.now.bytes.now pieces.now }
     requires places { All (IsSpanInOrder parse_state.now.bytes.now) (innermost events.now) }
-    ensures exact { (t : Forest) → events.now ≡ events_of t → IfOk result (λ written. written.items ≡ html (page_from parse_state.now definitions.now options) calls.old t) }
-    ensures calls { (t : Forest) → events.now ≡ events_of t → OnOk result (calls.new ≡ calls_behind (page_from parse_state.now definitions.now options) calls.old t) }
+    ensures exact { (t : Forest) → events.now ≡ events_of t → IfOk result (λ written. written.items ≡ html (page_from parse_state.now pieces.now definitions.now options) calls.old t) }
+    ensures calls { (t : Forest) → events.now ≡ events_of t → OnOk result (calls.new ≡ calls_behind (page_from parse_state.now pieces.now definitions.now options) calls.old t) }
     ensures err { OnErr result (calls.new ≡ []) }
     ensures own { (t : Forest) → events.now ≡ events_of t → options.raw_html ≡ false → IfOk result (λ written. IsOwnMarkup true written.items) }
     ensures safe { (t : Forest) → events.now ≡ events_of t → options.raw_html ≡ false → options.any_link ≡ false → IfOk result (λ written. IsOwnMarkup false written.items) }
 {
     let given = Given {
         bytes: parse_state.bytes,
+        pieces,
+        rules: parse_state.options.rules(),
         footnotes_on: parse_state.options.constructs.gfm_label_start_footnote,
         decoding: decoding_of(parse_state.options),
         definitions,
@@ -530,6 +541,7 @@ pub fn text_of(alloc: Global, bytes: &[u8], events: &EventSlice) -> Result<Vec<u
 /// The text of these trees as [`text_of`] has it, with references decoded in this way. `decoding_of` says which way that is under the options of the run.
 ///
 /// The error comes only where memory is refused.
+#[tactic(auto, unfolding(markdown_content::specs::CommonMark::rules_of))]
 pub fn text_by(
     alloc: Global,
     how: Decoding,
@@ -543,6 +555,8 @@ pub fn text_by(
     let definitions = Targets::new(alloc);
     let given = Given {
         bytes,
+        pieces: &[],
+        rules: ParseOptions::default().rules(),
         footnotes_on: false,
         decoding: how,
         definitions: &definitions,

@@ -2,11 +2,15 @@
 use Rattle.std.specs.Prelude.{ℕ, zero, suc, ◌-◌, Bool, true, false, not, ◌&&◌, ◌||◌, ◌==◌, if◌then◌else◌, List, [], ◌∷◌, ◌++◌, length, map, take, drop, replicate, codes, decimal, Option, None, Some}
 use Rattle.std.specs.List.{list_any}
 use Rattle.std.specs.Str.{byte, bytes_eq, is_utf8}
-use Rattle.markdown_content.specs.Codes.{stop_of, document_start}
+use Rattle.markdown_content.specs.Codes.{Code, stop_of, document_start}
+use Rattle.markdown_content.specs.CommonMark.{rules_of}
+use Rattle.markdown_content.specs.ContentBytes.{bytes_within}
+use Rattle.markdown_content.specs.DefaultOptions.{default_options}
 use Rattle.markdown_content.specs.Slices.{position_bytes, spaces_before, spaces_after}
 use Rattle.markdown_content.specs.Tree.{Forest, empty, leaf_then, group_then, start_of}
+use Rattle.markdown_content.specs.declared.configuration.Rules.{Rules}
 use Rattle.markdown_event.specs.declared.event.Point.{Point}
-use Rattle.markdown_util.specs.Identifier.{identifier_of}
+use Rattle.markdown_util.specs.Identifier.{identifier_by}
 use Rattle.markdown_util.specs.Reference.{shipped_decoding}
 use Rattle.markdown_util.specs.declared.decoding.Decoding.{Decoding}
 use Rattle.markdown_html_model.specs.Escaped.{escaped, addressed}
@@ -24,14 +28,20 @@ pub record Defined : Type 0 where
   pub destination : List ℕ
   pub title : Option (List ℕ)
 
--- what stands beside the tree: the document, whether footnotes were looked for, how references are decoded, what labels are defined to be, and
--- what may be written
+-- what stands beside the tree: the document, the content that was read, by which rules, whether footnotes were looked for, how references are decoded,
+-- what labels are defined to be, and what may be written
 pub record Page : Type 0 where
   pub bytes : List ℕ
+  pub content : List Code
+  pub rules : Rules
   pub footnotes_on : Bool
   pub decoding : Decoding
   pub definitions : List Defined
   pub options : HtmlOptions
+
+-- the page of a tree of this content
+abbrev pub page_of_content : List Code → Page → Page
+page_of_content cs p = record p { content = cs }
 
 -- Texts of the document.
 
@@ -103,29 +113,36 @@ abbrev pub defined : List ℕ → List Defined → Target
 defined identifier [] = nowhere
 defined identifier (d ∷ ds) = if bytes_eq d.identifier identifier then record { destination = d.destination; title = d.title } else defined identifier ds
 
--- the identifier of bytes, which are UTF-8 as the document is
-abbrev pub text_identifier : List ℕ → List ℕ
-text_identifier text = identifier_of (if is_utf8 text then text else [])
+-- The text of a label, from a byte to a byte. By CommonMark it is the content's; else it is the document's, so prefixes of later lines are in it.
+abbrev pub label_text : Page → ℕ × ℕ → List ℕ
+label_text p place = if p.rules.labels_by_text then bytes_within p.bytes place.0 place.1 p.content else bytes_from p.bytes place.0 place.1
+
+-- the identifier of a text, which is UTF-8 as the document is; by CommonMark NUL is read as U+FFFD in it
+abbrev pub text_identifier : Page → List ℕ → List ℕ
+text_identifier p text = identifier_by p.rules.nul_is_replaced (if is_utf8 text then text else [])
 
 -- what follows a caret
 abbrev pub behind_caret : List ℕ → Option (List ℕ)
 behind_caret [] = None
 behind_caret (b ∷ bs) = if b == byte "^" then Some bs else None
 
--- the identifier of a label's text. Where footnotes are looked for, a caret stands before the identifier of what follows it.
-abbrev pub label_identifier : Bool → List ℕ → List ℕ
-label_identifier false text = text_identifier text
-label_identifier true text = elim (behind_caret text) [ None ↦ text_identifier text | Some name ↦ byte "^" ∷ text_identifier name ]
+-- where a start with a caret has no footnote, the caret stands before the identifier of what follows it
+abbrev pub undefined_footnote : Page → List ℕ → List ℕ
+undefined_footnote p text = elim (behind_caret text) [ None ↦ text_identifier p text | Some name ↦ byte "^" ∷ text_identifier p name ]
+
+-- the identifier of a text, where it is that of a label, before whose text a caret may stand, or another
+abbrev pub label_identifier : Page → (has_caret : Bool) → List ℕ → List ℕ
+label_identifier p has_caret text = if has_caret then undefined_footnote p text else text_identifier p text
 
 -- the target that a label has by its text
 abbrev pub label_target : Page → Option (ℕ × ℕ) → Target
 label_target p None = nowhere
-label_target p (Some place) = defined (label_identifier p.footnotes_on (bytes_from p.bytes place.0 place.1)) p.definitions
+label_target p (Some place) = defined (label_identifier p p.footnotes_on (label_text p place)) p.definitions
 
 -- that of a full reference, and else that of the label
 abbrev pub reference_target : Page → Option (ℕ × ℕ) → Option (ℕ × ℕ) → Target
 reference_target p label None = label_target p label
-reference_target p label (Some place) = defined (text_identifier (bytes_from p.bytes place.0 place.1)) p.definitions
+reference_target p label (Some place) = defined (label_identifier p false (label_text p place)) p.definitions
 
 -- the target in a resource, and else that of the definition that is referred to (CommonMark 6.3)
 abbrev pub target_of : Page → PartsSoFar → Target
@@ -162,7 +179,7 @@ footnote_number identifier (call ∷ before) =
 -- the identifier of a call, by its label
 abbrev pub call_identifier : Page → Option (ℕ × ℕ) → List ℕ
 call_identifier p None = []
-call_identifier p (Some place) = text_identifier (bytes_from p.bytes place.0 place.1)
+call_identifier p (Some place) = label_identifier p false (label_text p place)
 
 -- the calls that something is
 abbrev pub own_calls : Page → Role → PartsSoFar → List (List ℕ)
@@ -369,7 +386,7 @@ calls_behind p before tree = let w = written p before Within.Outside tree in w.c
 
 -- a document alone, and how references are decoded: text asks for nothing else
 abbrev pub text_page : Decoding → List ℕ → Page
-text_page how bytes = record { bytes = bytes; footnotes_on = false; decoding = how; definitions = []; options = record { raw_html = false; any_link = false; line_ends = LineEnds.Kept } }
+text_page how bytes = record { bytes = bytes; content = []; rules = rules_of default_options; footnotes_on = false; decoding = how; definitions = []; options = record { raw_html = false; any_link = false; line_ends = LineEnds.Kept } }
 
 -- the text of trees over a document, as the description of an image has it
 unfoldable pub plain_text_by : Decoding → List ℕ → Forest → List ℕ

@@ -4,13 +4,12 @@ use Rattle.std.specs.Option.{option_and_then, option_map}
 use Rattle.std.proofs.lemmas.Bool.{false≢true}
 use Rattle.std.proofs.lemmas.List.{length-take-le, take_more}
 use Rattle.markdown_tree.specs.Numbers.{number_of}
-use Rattle.markdown_tree.specs.Referred.{Given, behind, definition_of, first_inside, label_identifier, met, met_by, named_by_label, named_by_part, named_by_reference, named_by_tail, named_by_text, second_inside, text_of}
+use Rattle.markdown_tree.specs.Referred.{Given, behind, definition_of, first_inside, met, met_by, named_by_label, named_by_part, named_by_reference, named_by_tail, named_by_text, node_identifier, second_inside}
 use Rattle.markdown_event.specs.declared.event.Event.{Event}
 use Rattle.markdown_event.specs.declared.event.Kind.{Kind}
 use Rattle.markdown_event.specs.declared.event.Name.{Name}
 use Rattle.markdown_tree.specs.Nodes.{if_enter, node_at, node_of, own_exit}
 use Rattle.markdown_tree.specs.declared.node.Node.{Node}
-use Rattle.markdown_util.specs.Identifier.{identifier_of}
 use Rattle.markdown_inline_c.specs.FlatEvents.{short_event}
 use Rattle.markdown_inline_c.specs.ShortEvents.{HasNone, refers, refers_by, refers_where, short_from}
 use Rattle.markdown_inline_c.specs.declared.flat.ShortEvent.{ShortEvent}
@@ -24,11 +23,11 @@ and-none f (Some a) h = h a
 
 by-label : (g : Given) (es : List Event) (label : Node) → g.definitions ≡ [] → named_by_label g es label ≡ None
 by-label g es label e =
-    and-none (λ text. number_of (label_identifier g.footnotes_on text) g.definitions) (option_and_then (text_of g.bytes) (second_inside es label))
-    (λ text. ap (number_of (label_identifier g.footnotes_on text)) e)
+    and-none (λ identifier. number_of identifier g.definitions) (option_and_then (node_identifier g g.footnotes_on) (second_inside es label))
+    (λ identifier. ap (number_of identifier) e)
 
 by-text : (g : Given) (node : Node) → g.definitions ≡ [] → named_by_text g node ≡ None
-by-text g node e = and-none (λ text. number_of (identifier_of text) g.definitions) (text_of g.bytes node) (λ text. ap (number_of (identifier_of text)) e)
+by-text g node e = and-none (λ identifier. number_of identifier g.definitions) (node_identifier g false node) (λ identifier. ap (number_of identifier) e)
 
 by-part : (g : Given) (es : List Event) (label : Node) (name : Name) (node : Node) → g.definitions ≡ [] → named_by_part g es label name node ≡ None
 by-part g es label Name.ReferenceString node e = by-text g node e
@@ -50,7 +49,7 @@ by-name : (g : Given) (es : List Event) (name : Name) (label : Node) → HasNone
 by-name g es Name.Link label none = by-definition g es label (behind es label) none.definitions
 by-name g es Name.Image label none = by-definition g es label (behind es label) none.definitions
 by-name g es Name.GfmFootnoteCall label none =
-    and-none (λ text. number_of (identifier_of text) g.footnotes) (option_and_then (text_of g.bytes) (second_inside es label)) (λ text. ap (number_of (identifier_of text)) none.footnotes)
+    and-none (λ identifier. number_of identifier g.footnotes) (option_and_then (node_identifier g false) (second_inside es label)) (λ identifier. ap (number_of identifier) none.footnotes)
 by-name g es name label none = refl
 
 pub none_met : (g : Given) (es : List Event) (n : ℕ) → HasNone g → met g es n ≡ None

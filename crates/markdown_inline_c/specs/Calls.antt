@@ -3,10 +3,11 @@ use Rattle.std.specs.Prelude.{◌≡◌, ℕ, List, length, map}
 use Rattle.std.specs.List.{All}
 use Rattle.markdown_content.specs.DefaultOptions.{AreKnown}
 use Rattle.markdown_event.specs.declared.event.Event.{Event}
+use Rattle.markdown_model.specs.Setting.{Setting}
 use Rattle.markdown_inline_c.specs.FlatHtml.{page}
 use Rattle.markdown_inline_c.specs.FlatHtmls.{AreWritable, IsHtmlFaultAt, htmls_of, tree_at}
 use Rattle.markdown_inline_c.specs.FlatStrings.{IsStringAt, string_text}
-use Rattle.markdown_inline_c.specs.FlatTexts.{IsTextAt, many_setting, text_at}
+use Rattle.markdown_inline_c.specs.FlatTexts.{IsTextAt, many_setting, setting_at, text_at}
 use Rattle.markdown_inline_c.specs.Many.{EndsByInput, IsAnswerOfMany}
 use Rattle.markdown_inline_c.specs.References.{decoding_by}
 use Rattle.markdown_inline_c.specs.Refusals.{AreOptionsRefused, IsHtmlInputRefused, IsInputRefused, IsReady, IsReadyForHtml}
@@ -18,10 +19,10 @@ use Rattle.markdown_inline_c.specs.declared.flat.Input.{Input}
 use Rattle.markdown_inline_c.specs.declared.flat.Range.{Range}
 use Rattle.markdown_inline_c.specs.declared.outcome.Outcome.{Outcome}
 
--- the events of each content, in a form
-abbrev pub AreTexts : {X : Type 0} → (List Event → List X) → Input → List FlatContent → (old new : List X) (ends_old ends_new : List ℕ) → Outcome → ℕ → Type 0
+-- the events of each content, in a form that the setting and the content may change
+abbrev pub AreTexts : {X : Type 0} → (Setting → List Event → List X) → Input → List FlatContent → (old new : List X) (ends_old ends_new : List ℕ) → Outcome → ℕ → Type 0
 AreTexts form i contents =
-    IsAnswerOfMany (length contents) (map (λ c. form (text_at (many_setting i) i.pieces.now c)) contents)
+    IsAnswerOfMany (length contents) (map (λ c. form (setting_at (many_setting i) i.pieces.now c) (text_at (many_setting i) i.pieces.now c)) contents)
     (λ end read. EndsByInput (IsReady (AreKnown i.options) i) (IsInputRefused (AreKnown i.options) i) (All (IsTextAt i.bytes.now i.pieces.now)) (λ before at fault. IsContentAtFault i.bytes.now i.pieces.now at fault) contents read end)
 
 -- the HTML of each content

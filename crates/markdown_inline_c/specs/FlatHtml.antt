@@ -1,17 +1,18 @@
 -- What a caller in C hands in beside an input, and the HTML that it gets.
 use Rattle.std.specs.Prelude.{◌≡◌, ◌⊎◌, ℕ, ◌<◌, ◌≤◌, Bool, ◌==◌, if◌then◌else◌, List, [], ◌∷◌, length, Option, None, Some}
 use Rattle.std.specs.List.{All}
+use Rattle.markdown_content.specs.CommonMark.{rules_of}
 use Rattle.markdown_content.specs.Content.{content_of}
 use Rattle.markdown_content.specs.DefaultOptions.{has_option, options_of}
 use Rattle.markdown_content.specs.Tree.{Forest}
 use Rattle.markdown_html.specs.Brought.{brought}
-use Rattle.markdown_html_model.specs.Html.{Defined, Page, html}
+use Rattle.markdown_html_model.specs.Html.{Defined, Page, html, page_of_content}
 use Rattle.markdown_html_model.specs.Resolved.{decoding_of}
 use Rattle.markdown_html_model.specs.declared.options.HtmlOptions.{HtmlOptions}
 use Rattle.markdown_html_model.specs.declared.options.LineEnds.{LineEnds}
 use Rattle.markdown_model.specs.InlineTree.{text_tree}
-use Rattle.markdown_util.specs.Identifier.{identifier_of}
-use Rattle.markdown_inline_c.specs.FlatInput.{IsLabelRange, IsTextInput, pieces_of, range_bytes, text_setting}
+use Rattle.markdown_util.specs.Identifier.{identifier_by}
+use Rattle.markdown_inline_c.specs.FlatInput.{IsLabelRange, IsTextInput, pieces_of, range_bytes, replaces_nul, text_setting}
 use Rattle.markdown_inline_c.specs.declared.flat.FlatTarget.{FlatTarget}
 use Rattle.markdown_inline_c.specs.declared.flat.Input.{Input}
 use Rattle.markdown_inline_c.specs.declared.flat.Range.{Range}
@@ -44,25 +45,28 @@ pub record AreTargets (i : Input) (targets : List FlatTarget) : Type 0 where
   pub one_each : length targets ≡ length i.definitions.now
   pub each : All (IsTarget i.labels.now) targets
 
-abbrev pub defined_at : List ℕ → Range → FlatTarget → Defined
-defined_at labels r t = record { identifier = identifier_of (range_bytes labels r); destination = range_bytes labels t.destination; title = title_of labels t }
+abbrev pub defined_at : Bool → List ℕ → Range → FlatTarget → Defined
+defined_at replaced labels r t = record { identifier = identifier_by replaced (range_bytes labels r); destination = range_bytes labels t.destination; title = title_of labels t }
 
 -- each label with its target
-abbrev pub defined_by : List ℕ → List Range → List FlatTarget → List Defined
-defined_by labels [] targets = []
-defined_by labels (r ∷ ranges) [] = []
-defined_by labels (r ∷ ranges) (t ∷ targets) = defined_at labels r t ∷ defined_by labels ranges targets
+abbrev pub defined_by : Bool → List ℕ → List Range → List FlatTarget → List Defined
+defined_by replaced labels [] targets = []
+defined_by replaced labels (r ∷ ranges) [] = []
+defined_by replaced labels (r ∷ ranges) (t ∷ targets) = defined_at replaced labels r t ∷ defined_by replaced labels ranges targets
 
 -- whether footnotes are looked for
 abbrev pub footnotes_on : Input → Bool
 footnotes_on i = let o = options_of i.options in o.constructs.gfm_label_start_footnote
 
+-- what stands beside the trees of all contents: each tree has a content of its own
 abbrev pub page : Input → List FlatTarget → ℕ → Page
 page i targets options = record {
   bytes = i.bytes.now;
+  content = [];
+  rules = rules_of (options_of i.options);
   footnotes_on = footnotes_on i;
   decoding = decoding_of (options_of i.options);
-  definitions = defined_by i.labels.now i.definitions.now targets;
+  definitions = defined_by (replaces_nul (options_of i.options)) i.labels.now i.definitions.now targets;
   options = html_options_of options;
 }
 
@@ -70,9 +74,13 @@ page i targets options = record {
 abbrev pub tree_of : Input → Forest
 tree_of i = text_tree (text_setting i) (content_of i.bytes.now (pieces_of i.pieces.now))
 
+-- what stands beside that tree
+abbrev pub own_page : Input → List FlatTarget → ℕ → Page
+own_page i targets options = page_of_content (content_of i.bytes.now (pieces_of i.pieces.now)) (page i targets options)
+
 -- its HTML, with no footnote calls before it
 abbrev pub html_of : Input → List FlatTarget → ℕ → List ℕ
-html_of i targets options = html (page i targets options) [] (tree_of i)
+html_of i targets options = html (own_page i targets options) [] (tree_of i)
 
 -- so many bytes are no more than the limit; 0 is no limit
 abbrev pub IsWithinLimit : ℕ → ℕ → Type 0
@@ -80,7 +88,7 @@ IsWithinLimit limit n = (limit ≡ 0) ⊎ (n ≤ limit)
 
 -- what definitions bring to the tree is no more than the limit
 abbrev pub IsBroughtWithin : Input → List FlatTarget → (options limit : ℕ) → Type 0
-IsBroughtWithin i targets options limit = IsWithinLimit limit (brought (page i targets options) (tree_of i))
+IsBroughtWithin i targets options limit = IsWithinLimit limit (brought (own_page i targets options) (tree_of i))
 
 -- an input that can be written as HTML
 pub record IsHtmlInput (i : Input) (targets : List FlatTarget) (options limit : ℕ) : Type 0 where

@@ -1,11 +1,13 @@
 -- What a caller in C hands in.
-use Rattle.std.specs.Prelude.{ℕ, ◌≤◌, false, List, [], map, length, slice_range, IsUtf8}
+use Rattle.std.specs.Prelude.{ℕ, ◌≤◌, Bool, false, List, [], map, length, slice_range, IsUtf8}
 use Rattle.std.specs.List.{All}
+use Rattle.markdown_content.specs.CommonMark.{rules_of}
 use Rattle.markdown_content.specs.Content.{IsContent, IsTextContent}
 use Rattle.markdown_content.specs.DefaultOptions.{AreKnown, has_option, options_of}
+use Rattle.markdown_content.specs.declared.configuration.ParseOptions.{ParseOptions}
 use Rattle.markdown_content.specs.declared.parser.Piece.{Piece}
 use Rattle.markdown_model.specs.Setting.{Setting, references_of}
-use Rattle.markdown_util.specs.Identifier.{identifier_of}
+use Rattle.markdown_util.specs.Identifier.{identifier_by}
 use Rattle.markdown_inline_c.specs.declared.check.Pieces.{Pieces}
 use Rattle.markdown_inline_c.specs.declared.flat.FlatPiece.{FlatPiece}
 use Rattle.markdown_inline_c.specs.declared.flat.Input.{Input}
@@ -32,8 +34,12 @@ pub record IsLabelRange (labels : List ℕ) (r : Range) : Type 0 where
   pub within : r.end ≤ length labels
   pub is_utf_8 : IsUtf8 (range_bytes labels r)
 
-abbrev pub identifiers : List ℕ → List Range → List (List ℕ)
-identifiers labels ranges = map (λ r. identifier_of (range_bytes labels r)) ranges
+-- whether NUL in a label is read as U+FFFD, by these options
+abbrev pub replaces_nul : ParseOptions → Bool
+replaces_nul o = (rules_of o).nul_is_replaced
+
+abbrev pub identifiers : Bool → List ℕ → List Range → List (List ℕ)
+identifiers replaced labels ranges = map (λ r. identifier_by replaced (range_bytes labels r)) ranges
 
 abbrev pub AreLabels : Input → Type 0
 AreLabels i = All (IsLabelRange i.labels.now) i.definitions.now × All (IsLabelRange i.labels.now) i.footnotes.now
@@ -53,8 +59,8 @@ string_setting i = record {
 
 abbrev pub text_setting : Input → Setting
 text_setting i = record (string_setting i) {
-  definitions = identifiers i.labels.now i.definitions.now;
-  footnotes = identifiers i.labels.now i.footnotes.now;
+  definitions = identifiers (replaces_nul (options_of i.options)) i.labels.now i.definitions.now;
+  footnotes = identifiers (replaces_nul (options_of i.options)) i.labels.now i.footnotes.now;
   first_of_item = has_option i.options 0x10_0000;
 }
 

@@ -1,13 +1,13 @@
 -- What a caller in C hands in to read many contents of one document, and what it gets.
 use Rattle.std.specs.Prelude.{ℕ, ◌≤◌, Bool, false, not, ◌==◌, List, [], length, slice_range}
-use Rattle.markdown_content.specs.Content.{IsContent, IsTextContent}
+use Rattle.markdown_content.specs.Content.{IsContent, IsTextContent, content_of}
 use Rattle.markdown_content.specs.DefaultOptions.{options_of}
 use Rattle.markdown_content.specs.declared.configuration.ParseOptions.{ParseOptions}
 use Rattle.markdown_content.specs.declared.parser.Piece.{Piece}
 use Rattle.markdown_event.specs.declared.event.Event.{Event}
 use Rattle.markdown_model.specs.InlineTree.{text_events}
-use Rattle.markdown_model.specs.Setting.{Setting, references_of}
-use Rattle.markdown_inline_c.specs.FlatInput.{identifiers, pieces_of}
+use Rattle.markdown_model.specs.Setting.{Setting, references_of, within}
+use Rattle.markdown_inline_c.specs.FlatInput.{identifiers, pieces_of, replaces_nul}
 use Rattle.markdown_inline_c.specs.declared.flat.FlatContent.{FlatContent}
 use Rattle.markdown_inline_c.specs.declared.flat.FlatPiece.{FlatPiece}
 use Rattle.markdown_inline_c.specs.declared.flat.Input.{Input}
@@ -37,6 +37,10 @@ is_first_of_item c = not (c.first_of_item == 0)
 abbrev pub text_at : Setting → List FlatPiece → FlatContent → List Event
 text_at s pieces c = text_events (record s { first_of_item = is_first_of_item c }) (pieces_at pieces c)
 
+-- the setting with the content that is read
+abbrev pub setting_at : Setting → List FlatPiece → FlatContent → Setting
+setting_at s pieces c = within (content_of s.bytes (pieces_at pieces c)) s
+
 -- The setting of a document and what is defined by labels, which says nothing of the first of an item: each content says it.
 
 abbrev pub setting_by : List ℕ → ParseOptions → (labels : List ℕ) (definitions footnotes : List Range) → Setting
@@ -44,8 +48,8 @@ setting_by bytes options labels definitions footnotes = record {
   bytes = bytes;
   options = options;
   references = references_of options;
-  definitions = identifiers labels definitions;
-  footnotes = identifiers labels footnotes;
+  definitions = identifiers (replaces_nul options) labels definitions;
+  footnotes = identifiers (replaces_nul options) labels footnotes;
   first_of_item = false;
   content = [];
 }

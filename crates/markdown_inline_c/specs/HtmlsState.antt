@@ -1,13 +1,19 @@
 -- What functions promise each other where many contents are written as HTML.
-use Rattle.std.specs.Prelude.{◌≡◌, ℕ, ◌-◌, ◌<◌, ◌≤◌, ◌==◌, if◌then◌else◌, Option, None, Some}
+use Rattle.std.specs.Prelude.{◌≡◌, ℕ, ◌-◌, ◌<◌, ◌≤◌, ◌==◌, if◌then◌else◌, List, [], Option, None, Some}
+use Rattle.markdown_content.specs.declared.parser.Piece.{Piece}
 use Rattle.markdown_html.specs.View.{page_from}
 use Rattle.markdown_html_model.specs.Html.{Page}
 use Rattle.markdown_model.specs.Setting.{Setting}
 use Rattle.markdown_run_text.specs.RunSetting.{setting_of}
 use Rattle.markdown_inline_c.specs.declared.htmls.Given.{Given}
 
+-- what stands beside the trees of all contents
 abbrev pub page_of : Given → Page
-page_of g = page_from g.contents.document.now g.definitions.now g.options
+page_of g = page_from g.contents.document.now [] g.definitions.now g.options
+
+-- and beside the tree of the content with these pieces
+abbrev pub page_within : Given → List Piece → Page
+page_within g pieces = page_from g.contents.document.now pieces g.definitions.now g.options
 
 abbrev pub setting : Given → Setting
 setting g = setting_of g.contents.document.now

@@ -1,5 +1,6 @@
 -- Short events as a caller in C gets them, with the definitions that they refer to.
 use Rattle.std.specs.Prelude.{◌≡◌, ℕ, suc, Bool, true, false, List, [], ◌∷◌, Option}
+use Rattle.markdown_content.specs.CommonMark.{rules_of}
 use Rattle.markdown_tree.specs.Referred.{Given, met}
 use Rattle.markdown_event.specs.declared.event.Event.{Event}
 use Rattle.markdown_event.specs.declared.event.Kind.{Kind}
@@ -8,10 +9,12 @@ use Rattle.markdown_model.specs.Setting.{Setting}
 use Rattle.markdown_inline_c.specs.FlatEvents.{short_event}
 use Rattle.markdown_inline_c.specs.declared.flat.ShortEvent.{ShortEvent}
 
--- the document and its definitions, by the setting with which it is read
+-- the document, the content and the definitions, by the setting with which it is read
 abbrev pub given_by : Setting → Given
 given_by s = record {
   bytes = s.bytes;
+  content = s.content;
+  rules = rules_of s.options;
   footnotes_on = s.options.constructs.gfm_label_start_footnote;
   definitions = s.definitions;
   footnotes = s.footnotes;

@@ -6,10 +6,11 @@ ghost use Rattle.markdown_content.specs.KnownPlaces.{IsDocument};
 ghost use Rattle.markdown_innermost.specs.InnermostEvents.{innermost, IsSpanInOrder};
 ghost use Rattle.markdown_run_text.specs.RunSetting.{setting_of};
 ghost use Rattle.markdown_inline_c.specs.FlatInput.{AreLabels, IsLabelRange, identifiers};
-ghost use Rattle.markdown_inline_c.specs.FlatTexts.{IsTextAt, setting_by, text_at};
+ghost use Rattle.markdown_inline_c.specs.FlatTexts.{IsAmong, IsTextAt, pieces_at, setting_by, text_at};
+ghost use Rattle.markdown_inline_c.specs.FlatInput.{pieces_listed};
 ghost use Rattle.markdown_inline_c.specs.Refusals.{AreLabelsRefused, IsDocumentRefused, IsFirstBlamed, IsFirstOther};
 ghost use Rattle.markdown_inline_c.specs.Statuses.{IsContentAtFault};
-ghost use Rattle.markdown_inline_c.specs.declared.fault.Fault.TheVariants.{Definition, Memory};
+ghost use Rattle.markdown_inline_c.specs.declared.fault.Fault.TheVariants.{Definition, Memory, NoContent};
 
 use crate::check::{Pieces, check_document};
 use crate::fault::Fault;
@@ -17,7 +18,7 @@ use crate::flat::{FlatContent, FlatPiece, Input, Range};
 use crate::input::{identifiers_of, text_of};
 use crate::refusal::Refusal;
 use markdown_content::configuration::ParseOptions;
-use markdown_content::parser::ParseState;
+use markdown_content::parser::{ParseState, Piece};
 use markdown_document::document::Document;
 use markdown_run::run::ListRun;
 use std::alloc::{AllocError, Global};
@@ -32,19 +33,34 @@ pub struct Contents<'a> {
 }
 
 impl<'a> Contents<'a> {
-    /// Reads a content as a text, by its pieces among these.
-    pub fn read(&self, alloc: Global, content: FlatContent) -> Result<ListRun, Fault>
-        ensures events { IfOk result (λ run. run.events ≡ text_at (setting_of self.now.document.now) self.now.pieces.now content) }
-        ensures places { IfOk result (λ run. All (IsSpanInOrder self.now.document.now.bytes.now) (innermost run.events)) }
-        ensures text { IfOk result (λ _. IsTextAt self.now.document.now.bytes.now self.now.pieces.now content) }
-        ensures err { IfErr result (λ fault. (fault ≡ Memory) ⊎ IsContentAtFault self.now.document.now.bytes.now self.now.pieces.now content fault) }
+    /// The pieces of a content among these.
+    pub fn pieces_of(&self, alloc: Global, content: FlatContent) -> Result<Pieces, Fault>
+        ensures pieces { IfOk result (λ found. pieces_listed found ≡ pieces_at self.now.pieces.now content) }
+        ensures among { IfOk result (λ _. IsAmong self.now.pieces.now content) }
+        ensures err { IfErr result (λ fault. (fault ≡ Memory) ⊎ ((fault ≡ NoContent) × (IsAmong self.now.pieces.now content → ⊥))) }
     {
         let (start, end) = (content.pieces.start, content.pieces.end);
         if start > end || end > self.pieces.len() {
             return Err(Fault::NoContent);
         }
-        let pieces = Pieces::new(alloc, &self.pieces[start..end])?;
-        let Some(found) = self.document.content(pieces.as_slice()) else {
+        Ok(Pieces::new(alloc, &self.pieces[start..end])?)
+    }
+
+    /// Reads a content as a text, which has these pieces.
+    pub fn read(
+        &self,
+        alloc: Global,
+        pieces: &[Piece],
+        content: FlatContent,
+    ) -> Result<ListRun, Fault>
+        requires pieces { pieces.now ≡ pieces_at self.now.pieces.now content }
+        requires among { IsAmong self.now.pieces.now content }
+        ensures events { IfOk result (λ run. run.events ≡ text_at (setting_of self.now.document.now) self.now.pieces.now content) }
+        ensures places { IfOk result (λ run. All (IsSpanInOrder self.now.document.now.bytes.now) (innermost run.events)) }
+        ensures text { IfOk result (λ _. IsTextAt self.now.document.now.bytes.now self.now.pieces.now content) }
+        ensures err { IfErr result (λ fault. (fault ≡ Memory) ⊎ IsContentAtFault self.now.document.now.bytes.now self.now.pieces.now content fault) }
+    {
+        let Some(found) = self.document.content(pieces) else {
             return Err(Fault::NoContent);
         };
         if !found.is_text() {
@@ -97,16 +113,17 @@ pub fn check_input(input: &Input) -> Result<(), Refusal>
     check_labels(input)
 }
 
-// The identifiers of labels.
+// The identifiers of labels, in which NUL may be read as U+FFFD.
 fn known_identifiers(
     alloc: Global,
     labels: &[u8],
     ranges: &[Range],
+    replaced: bool,
 ) -> Result<Vec<String>, AllocError>
     requires { All (IsLabelRange labels.now) ranges.now }
-    ensures { IfOk result (λ found. map string_bytes found.items ≡ identifiers labels.now ranges.now) }
+    ensures { IfOk result (λ found. map string_bytes found.items ≡ identifiers replaced labels.now ranges.now) }
 {
-    match identifiers_of(alloc, labels, ranges) {
+    match identifiers_of(alloc, labels, ranges, replaced) {
         Ok(found) => Ok(found),
         Err(_) => Err(AllocError),
     }
@@ -126,11 +143,12 @@ pub fn prepared<'a>(
     requires footnotes { All (IsLabelRange labels.now) footnotes.now }
     ensures { IfOk result (λ document. setting_of document ≡ setting_by bytes.entry.now options.entry.now labels.now definitions.now footnotes.now) }
 {
+    let replaced = options.rules().nul_is_replaced;
     let parse_state = ParseState {
         bytes,
         options,
-        definitions: known_identifiers(alloc, labels, definitions)?,
-        gfm_footnote_definitions: known_identifiers(alloc, labels, footnotes)?,
+        definitions: known_identifiers(alloc, labels, definitions, replaced)?,
+        gfm_footnote_definitions: known_identifiers(alloc, labels, footnotes, replaced)?,
     };
     match Document::new(alloc, parse_state)? {
         Some(document) => Ok(document),

@@ -1,16 +1,18 @@
 //! The forms in which events cross to C.
 
 ghost use Rattle.std.specs.Prelude.{◌≡◌, List, IfOk, MatchOption, Some, map, slice_get, string_bytes};
+ghost use Rattle.markdown_content.specs.Content.{IsContent, content_of};
 ghost use Rattle.markdown_tree.specs.LabelsView.{given_of};
 ghost use Rattle.markdown_tree.specs.Referred.{met};
 ghost use Rattle.markdown_event.specs.declared.event.Event.{Event};
-ghost use Rattle.markdown_model.specs.Setting.{Setting};
+ghost use Rattle.markdown_model.specs.Setting.{Setting, within};
 ghost use Rattle.markdown_run_text.specs.RunSetting.{setting_of};
 ghost use Rattle.markdown_inline_c.specs.FlatEvents.{flat_event};
 ghost use Rattle.markdown_inline_c.specs.ShortEvents.{HasNone, refers, short_events, short_from};
 
 use crate::flat::{FlatEvent, ShortEvent, short_event};
 use crate::found::Found;
+use markdown_content::parser::Piece;
 use markdown_document::document::Document;
 use markdown_engine_events::event_list::EventSlice;
 use markdown_event::event::{Event, Kind, Name};
@@ -29,21 +31,23 @@ pub trait Form {
     // what it is for: runs with this setting
     ghost IsFor: { Self → Setting → Type 0 };
 
-    // the events of a run with this setting, as they cross
+    // the events of a run with this setting, which has the content that is read, as they cross
     ghost items: { Setting → List Event → List Self.Item };
 
     /// The form for runs over contents of a document.
     fn over(alloc: Global, document: &Document) -> Result<Self, AllocError>
         ensures { IfOk result (λ form. IsFor form (setting_of document.now)) };
 
-    /// The events of a run over a content of this document, as they cross.
+    /// The events of a run over the content of this document that has these pieces, as they cross.
     fn of(
         &self,
         alloc: Global,
         document: &Document,
+        pieces: &[Piece],
         run: ListRun,
     ) -> Result<Self::Events, AllocError>
-        ensures { IsFor self.now (setting_of document.now) → IfOk result (λ found. Self.Events.items found ≡ items (setting_of document.now) run.events) };
+        requires { IsContent document.now.bytes.now pieces.now }
+        ensures { IsFor self.now (setting_of document.now) → IfOk result (λ found. Self.Events.items found ≡ items (within (content_of document.now.bytes.now pieces.now) (setting_of document.now)) run.events) };
 }
 
 /// Events with all that is known of each by itself.
@@ -67,6 +71,7 @@ impl Form for Large {
         &self,
         _alloc: Global,
         _document: &Document,
+        _pieces: &[Piece],
         run: ListRun,
     ) -> Result<ListRun, AllocError> {
         Ok(run)
@@ -123,6 +128,7 @@ fn referred(
     number: usize,
     event: &Event,
 ) -> Result<Option<usize>, AllocError>
+    requires { IsContent labels.now.bytes.now labels.now.pieces.now }
     ensures { (events : List Event) → slice_get events number ≡ Some event.now → MatchOption tree.now (HasNone (given_of labels.now)) (λ tree. tree ≡ events) → IfOk result (λ found. found ≡ met (given_of labels.now) events number) }
 {
     match tree {
@@ -143,6 +149,7 @@ fn shortened(
     labels: &Labels,
     events: &EventSlice,
 ) -> Result<Vec<ShortEvent>, AllocError>
+    requires { IsContent labels.now.bytes.now labels.now.pieces.now }
     ensures { IfOk result (λ found. found.items ≡ short_from (met (given_of labels.now) events.now) 0 events.now) }
 {
     let tree = tree_of(alloc, labels, events)?;
@@ -176,11 +183,13 @@ impl Form for Short {
         &self,
         alloc: Global,
         document: &Document,
+        pieces: &[Piece],
         run: ListRun,
     ) -> Result<Vec<ShortEvent>, AllocError> {
         let parse_state = document.parse_state();
         let labels = Labels {
             bytes: parse_state.bytes,
+            pieces,
             options: parse_state.options,
             definitions: &self.definitions,
             footnotes: &self.footnotes,

@@ -2,27 +2,30 @@
 
 ghost use Rattle.std.specs.Prelude.{◌≡◌, ◌⊎◌, ◌∷◌, ◌++◌, [], IfErr, IfOk, OnOk, length, option_map, string_bytes};
 ghost use Rattle.std.specs.List.{All};
+ghost use Rattle.markdown_content.specs.Content.{IsContent};
+ghost use Rattle.markdown_content.specs.DefaultOptions.{options_of};
 ghost use Rattle.markdown_content.specs.Tree.{Forest, events_of};
 ghost use Rattle.markdown_html.specs.Brought.{brought};
 ghost use Rattle.markdown_html.specs.DefinitionView.{defined_of};
 ghost use Rattle.markdown_html.specs.View.{page_from};
 ghost use Rattle.markdown_inline_c.specs.FlatHtml.{AreKnownForHtml, AreTargets, IsHtmlInput, IsTarget, IsTitleRange, IsWithinLimit, defined_at, defined_by, html_of, html_options_of, title_of};
-ghost use Rattle.markdown_inline_c.specs.FlatInput.{IsLabelRange, range_bytes};
+ghost use Rattle.markdown_inline_c.specs.FlatInput.{IsLabelRange, range_bytes, replaces_nul};
 ghost use Rattle.markdown_inline_c.specs.Statuses.{IsHtmlFault, IsTargetsFault};
 ghost use Rattle.markdown_inline_c.specs.declared.fault.Fault.TheVariants.{Definition as NoDefinition, Memory, References, UnknownOption};
-ghost use Rattle.markdown_util.specs.Identifier.{identifier_of};
+ghost use Rattle.markdown_util.specs.Identifier.{identifier_by};
 
+use crate::check::Pieces;
 use crate::fault::Fault;
 use crate::flat::{FlatTarget, Input, Range};
 use crate::input::{self, text_of};
 use markdown_content::configuration::{ParseOptions, has_option};
-use markdown_content::parser::ParseState;
+use markdown_content::parser::{ParseState, Piece};
 use markdown_engine_events::event_list::EventSlice;
 use markdown_html::footnotes::FootnoteCalls;
 use markdown_html::targets::Targets;
 use markdown_html::{left_of_limit, to_html};
 use markdown_html_model::options::{Definition, HtmlOptions, LineEnds};
-use markdown_util::util::normalize_identifier::normalize_identifier;
+use markdown_util::util::normalize_identifier::identifier_by;
 use std::alloc::{AllocError, Global};
 
 // The lowest number with a bit that says nothing of HTML.
@@ -55,15 +58,20 @@ fn text_at(alloc: Global, labels: &[u8], range: Range) -> Result<String, Fault>
     Ok(String::from_str(alloc, text)?)
 }
 
-// The identifier of the label at a range.
-fn identifier_at(alloc: Global, labels: &[u8], range: Range) -> Result<String, Fault>
-    ensures ok { IfOk result (λ text. string_bytes text ≡ identifier_of (range_bytes labels.now range)) }
+// The identifier of the label at a range, in which NUL may be read as U+FFFD.
+fn identifier_at(
+    alloc: Global,
+    labels: &[u8],
+    range: Range,
+    replaced: bool,
+) -> Result<String, Fault>
+    ensures ok { IfOk result (λ text. string_bytes text ≡ identifier_by replaced (range_bytes labels.now range)) }
     ensures err { IfErr result (λ fault. (fault ≡ Memory) ⊎ ((fault ≡ NoDefinition) × (IsLabelRange labels.now range → ⊥))) }
 {
     let Some(text) = text_of(labels, range) else {
         return Err(Fault::Definition);
     };
-    Ok(normalize_identifier(alloc, text)?)
+    Ok(identifier_by(alloc, text, replaced)?)
 }
 
 // The title of a definition, if it has one.
@@ -84,14 +92,15 @@ fn definition_at(
     labels: &[u8],
     range: Range,
     target: FlatTarget,
+    replaced: bool,
 ) -> Result<Definition, Fault>
     requires { IsLabelRange labels.now range }
-    ensures ok { IfOk result (λ found. defined_of found ≡ defined_at labels.now range target) }
+    ensures ok { IfOk result (λ found. defined_of found ≡ defined_at replaced labels.now range target) }
     ensures target { IfOk result (λ _. IsTarget labels.now target) }
     ensures err { IfErr result (λ fault. (fault ≡ Memory) ⊎ ((fault ≡ NoDefinition) × (IsTarget labels.now target → ⊥))) }
 {
     Ok(Definition {
-        identifier: identifier_at(alloc, labels, range)?,
+        identifier: identifier_at(alloc, labels, range, replaced)?,
         destination: text_at(alloc, labels, target.destination)?,
         title: title_at(alloc, labels, target)?,
     })
@@ -111,16 +120,17 @@ fn definitions_of(
     labels: &[u8],
     ranges: &[Range],
     targets: &[FlatTarget],
+    replaced: bool,
 ) -> Result<Targets, Fault>
     requires labels { All (IsLabelRange labels.now) ranges.now }
     requires one_each { length targets.now ≡ length ranges.now }
-    ensures found { IfOk result (λ found. found ≡ defined_by labels.now ranges.now targets.now) }
+    ensures found { IfOk result (λ found. found ≡ defined_by replaced labels.now ranges.now targets.now) }
     ensures targets { IfOk result (λ _. All (IsTarget labels.now) targets.now) }
     ensures err { IfErr result (λ fault. (fault ≡ Memory) ⊎ ((fault ≡ NoDefinition) × (All (IsTarget labels.now) targets.now → ⊥))) }
 {
     let mut found = Targets::new(alloc);
     for at in 0..targets.len() {
-        let definition = definition_at(alloc, labels, ranges[at], targets[at])?;
+        let definition = definition_at(alloc, labels, ranges[at], targets[at], replaced)?;
         push(&mut found, definition)?;
     }
     Ok(found)
@@ -133,32 +143,43 @@ pub(crate) fn definitions(
     targets: &[FlatTarget],
 ) -> Result<Targets, Fault>
     requires { All (IsLabelRange input.now.labels.now) input.now.definitions.now }
-    ensures found { IfOk result (λ found. found ≡ defined_by input.now.labels.now input.now.definitions.now targets.now) }
+    ensures found { IfOk result (λ found. found ≡ defined_by (replaces_nul (options_of input.now.options)) input.now.labels.now input.now.definitions.now targets.now) }
     ensures targets { IfOk result (λ _. AreTargets input.now targets.now) }
     ensures err { IfErr result (IsTargetsFault input.now targets.now) }
 {
     if targets.len() != input.definitions.len() {
         return Err(Fault::Definition);
     }
-    definitions_of(alloc, input.labels, input.definitions, targets)
+    let replaced = ParseOptions::of_bits(input.options).rules().nul_is_replaced;
+    definitions_of(alloc, input.labels, input.definitions, targets, replaced)
 }
 
 // Whether definitions bring no more bytes than the limit to the tree of these events, or that they bring more; 0 is no limit.
 fn check_limit(
     alloc: Global,
     parse_state: &ParseState,
+    pieces: &[Piece],
     events: &EventSlice,
     definitions: &Targets,
     options: HtmlOptions,
     limit: usize,
 ) -> Result<(), Fault>
-    ensures ok { (t : Forest) → events.now ≡ events_of t → IfOk result (λ _. IsWithinLimit limit (brought (page_from parse_state.now definitions.now options) t)) }
-    ensures err { (t : Forest) → events.now ≡ events_of t → IfErr result (λ fault. (fault ≡ Memory) ⊎ ((fault ≡ References) × (IsWithinLimit limit (brought (page_from parse_state.now definitions.now options) t) → ⊥))) }
+    requires content { IsContent parse_state.now.bytes.now pieces.now }
+    ensures ok { (t : Forest) → events.now ≡ events_of t → IfOk result (λ _. IsWithinLimit limit (brought (page_from parse_state.now pieces.now definitions.now options) t)) }
+    ensures err { (t : Forest) → events.now ≡ events_of t → IfErr result (λ fault. (fault ≡ Memory) ⊎ ((fault ≡ References) × (IsWithinLimit limit (brought (page_from parse_state.now pieces.now definitions.now options) t) → ⊥))) }
 {
     if limit == 0 {
         return Ok(());
     }
-    match left_of_limit(alloc, parse_state, events, definitions, options, limit)? {
+    match left_of_limit(
+        alloc,
+        parse_state,
+        pieces,
+        events,
+        definitions,
+        options,
+        limit,
+    )? {
         Some(_) => Ok(()),
         None => Err(Fault::References),
     }
@@ -186,8 +207,25 @@ pub fn html(
         definitions: Vec::new(alloc),
         gfm_footnote_definitions: Vec::new(alloc),
     };
-    let events = run.events.as_slice();
-    check_limit(alloc, &parse_state, &events, &definitions, allowed, limit)?;
+    let pieces = Pieces::new(alloc, input.pieces)?;
+    let (pieces, events) = (pieces.as_slice(), run.events.as_slice());
+    check_limit(
+        alloc,
+        &parse_state,
+        pieces,
+        &events,
+        &definitions,
+        allowed,
+        limit,
+    )?;
     let calls = &mut FootnoteCalls::new(alloc);
-    Ok(to_html(alloc, &parse_state, &events, &definitions, calls, allowed)?)
+    Ok(to_html(
+        alloc,
+        &parse_state,
+        pieces,
+        &events,
+        &definitions,
+        calls,
+        allowed,
+    )?)
 }

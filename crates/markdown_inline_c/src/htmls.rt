@@ -2,17 +2,17 @@
 
 ghost use Rattle.std.specs.Prelude.{◌≡◌, ◌⊎◌, ◌↔◌, ◌≤◌, [], IfErr, IfOk, IsTrue, MatchOption, OnOk, length, map};
 ghost use Rattle.std.specs.List.{All};
-ghost use Rattle.markdown_content.specs.Content.{document_limit};
+ghost use Rattle.markdown_content.specs.Content.{IsContent};
 ghost use Rattle.markdown_content.specs.DefaultOptions.{options_of};
 ghost use Rattle.markdown_content.specs.Tree.{Forest, events_of};
 ghost use Rattle.markdown_html.specs.Brought.{brought};
 ghost use Rattle.markdown_html_model.specs.Html.{calls_behind, html};
 ghost use Rattle.markdown_innermost.specs.InnermostEvents.{innermost, IsSpanInOrder};
 ghost use Rattle.markdown_inline_c.specs.FlatHtml.{AreTargets, IsTarget, defined_by, html_options_of, page};
-ghost use Rattle.markdown_inline_c.specs.FlatHtmls.{AreWritable, IsHtmlFaultAt, html_of_each, htmls_of, tree_at};
-ghost use Rattle.markdown_inline_c.specs.FlatInput.{IsLabelRange};
+ghost use Rattle.markdown_inline_c.specs.FlatHtmls.{AreWritable, IsHtmlFaultAt, brought_to_one, calls_of_one, html_of_each, html_of_one, htmls_of, tree_at};
+ghost use Rattle.markdown_inline_c.specs.FlatInput.{IsLabelRange, replaces_nul};
 ghost use Rattle.markdown_inline_c.specs.FlatTexts.{IsTextAt, many_setting};
-ghost use Rattle.markdown_inline_c.specs.HtmlsState.{IsOverspent, IsSpent, limit_of, page_of, setting};
+ghost use Rattle.markdown_inline_c.specs.HtmlsState.{IsOverspent, IsSpent, limit_of, page_of, page_within, setting};
 ghost use Rattle.markdown_inline_c.specs.Many.{AreFound, EndsBy, EndsByInput};
 ghost use Rattle.markdown_inline_c.specs.Refusals.{AreAllKnown, AreTargetsRefused, IsFirstOther, IsHtmlInputRefused, IsReadyForHtml, blames_none};
 ghost use Rattle.markdown_inline_c.specs.Statuses.{IsContentAtFault};
@@ -26,6 +26,7 @@ use crate::input::{self, text_of};
 use crate::outcome::Outcome;
 use crate::refusal::Refusal;
 use markdown_content::configuration::ParseOptions;
+use markdown_content::parser::Piece;
 use markdown_engine_events::event_list::EventSlice;
 use markdown_html::footnotes::FootnoteCalls;
 use markdown_html::targets::Targets;
@@ -54,18 +55,28 @@ struct Carried {
 fn spend(
     alloc: Global,
     given: &Given,
+    pieces: &[Piece],
     events: &EventSlice,
     left: Option<usize>,
 ) -> Result<Option<usize>, Fault>
-    ensures ok { (t : Forest) → events.now ≡ events_of t → IfOk result (λ rest. IsSpent left (brought (page_of given.now) t) rest) }
-    ensures err { (t : Forest) → events.now ≡ events_of t → IfErr result (λ fault. (fault ≡ Memory) ⊎ ((fault ≡ References) × IsOverspent left (brought (page_of given.now) t))) }
+    requires content { IsContent given.now.contents.document.now.bytes.now pieces.now }
+    ensures ok { (t : Forest) → events.now ≡ events_of t → IfOk result (λ rest. IsSpent left (brought (page_within given.now pieces.now) t) rest) }
+    ensures err { (t : Forest) → events.now ≡ events_of t → IfErr result (λ fault. (fault ≡ Memory) ⊎ ((fault ≡ References) × IsOverspent left (brought (page_within given.now pieces.now) t))) }
 {
     let Some(limit) = left else {
         return Ok(None);
     };
     let parse_state = given.contents.document.parse_state();
     let (definitions, options) = (given.definitions, given.options);
-    match left_of_limit(alloc, parse_state, events, definitions, options, limit)? {
+    match left_of_limit(
+        alloc,
+        parse_state,
+        pieces,
+        events,
+        definitions,
+        options,
+        limit,
+    )? {
         Some(rest) => Ok(Some(rest)),
         None => Err(Fault::References),
     }
@@ -94,20 +105,29 @@ impl Carried {
         &mut self,
         alloc: Global,
         given: &Given,
+        pieces: &[Piece],
         events: &EventSlice,
     ) -> Result<Vec<u8>, Fault>
-        requires fits { length given.now.contents.document.now.bytes.now ≤ document_limit }
+        requires content { IsContent given.now.contents.document.now.bytes.now pieces.now }
         requires places { All (IsSpanInOrder given.now.contents.document.now.bytes.now) (innermost events.now) }
-        ensures html { (t : Forest) → events.now ≡ events_of t → IfOk result (λ written. written.items ≡ html (page_of given.now) self.old.calls t) }
-        ensures calls { (t : Forest) → events.now ≡ events_of t → OnOk result (self.new.calls ≡ calls_behind (page_of given.now) self.old.calls t) }
-        ensures left { (t : Forest) → events.now ≡ events_of t → OnOk result (IsSpent self.old.left (brought (page_of given.now) t) self.new.left) }
-        ensures err { (t : Forest) → events.now ≡ events_of t → IfErr result (λ fault. (fault ≡ Memory) ⊎ ((fault ≡ References) × IsOverspent self.old.left (brought (page_of given.now) t))) }
+        ensures html { (t : Forest) → events.now ≡ events_of t → IfOk result (λ written. written.items ≡ html (page_within given.now pieces.now) self.old.calls t) }
+        ensures calls { (t : Forest) → events.now ≡ events_of t → OnOk result (self.new.calls ≡ calls_behind (page_within given.now pieces.now) self.old.calls t) }
+        ensures left { (t : Forest) → events.now ≡ events_of t → OnOk result (IsSpent self.old.left (brought (page_within given.now pieces.now) t) self.new.left) }
+        ensures err { (t : Forest) → events.now ≡ events_of t → IfErr result (λ fault. (fault ≡ Memory) ⊎ ((fault ≡ References) × IsOverspent self.old.left (brought (page_within given.now pieces.now) t))) }
     {
-        self.left = spend(alloc, given, events, self.left)?;
+        self.left = spend(alloc, given, pieces, events, self.left)?;
         let parse_state = given.contents.document.parse_state();
         let calls = &mut self.calls;
         let (definitions, options) = (given.definitions, given.options);
-        Ok(to_html(alloc, parse_state, events, definitions, calls, options)?)
+        Ok(to_html(
+            alloc,
+            parse_state,
+            pieces,
+            events,
+            definitions,
+            calls,
+            options,
+        )?)
     }
 
     // The HTML of a content.
@@ -117,14 +137,15 @@ impl Carried {
         given: &Given,
         content: FlatContent,
     ) -> Result<Vec<u8>, Fault>
-        ensures html { IfOk result (λ written. written.items ≡ html (page_of given.now) self.old.calls (tree_at (setting given.now) given.now.contents.pieces.now content)) }
-        ensures calls { OnOk result (self.new.calls ≡ calls_behind (page_of given.now) self.old.calls (tree_at (setting given.now) given.now.contents.pieces.now content)) }
-        ensures left { OnOk result (IsSpent self.old.left (brought (page_of given.now) (tree_at (setting given.now) given.now.contents.pieces.now content)) self.new.left) }
+        ensures html { IfOk result (λ written. written.items ≡ html_of_one (page_of given.now) self.old.calls (tree_at (setting given.now) given.now.contents.pieces.now content)) }
+        ensures calls { OnOk result (self.new.calls ≡ calls_of_one (page_of given.now) self.old.calls (tree_at (setting given.now) given.now.contents.pieces.now content)) }
+        ensures left { OnOk result (IsSpent self.old.left (brought_to_one (page_of given.now) (tree_at (setting given.now) given.now.contents.pieces.now content)) self.new.left) }
         ensures text { OnOk result (IsTextAt given.now.contents.document.now.bytes.now given.now.contents.pieces.now content) }
-        ensures err { IfErr result (λ fault. (fault ≡ Memory) ⊎ (IsContentAtFault given.now.contents.document.now.bytes.now given.now.contents.pieces.now content fault ⊎ ((fault ≡ References) × (IsTextAt given.now.contents.document.now.bytes.now given.now.contents.pieces.now content × IsOverspent self.old.left (brought (page_of given.now) (tree_at (setting given.now) given.now.contents.pieces.now content)))))) }
+        ensures err { IfErr result (λ fault. (fault ≡ Memory) ⊎ (IsContentAtFault given.now.contents.document.now.bytes.now given.now.contents.pieces.now content fault ⊎ ((fault ≡ References) × (IsTextAt given.now.contents.document.now.bytes.now given.now.contents.pieces.now content × IsOverspent self.old.left (brought_to_one (page_of given.now) (tree_at (setting given.now) given.now.contents.pieces.now content)))))) }
     {
-        let run = given.contents.read(alloc, content)?;
-        self.written(alloc, given, &run.events.as_slice())
+        let pieces = given.contents.pieces_of(alloc, content)?;
+        let run = given.contents.read(alloc, pieces.as_slice(), content)?;
+        self.written(alloc, given, pieces.as_slice(), &run.events.as_slice())
     }
 }
 
@@ -205,7 +226,7 @@ fn known_definitions(
 ) -> Result<Targets, Refusal>
     requires labels { All (IsLabelRange input.now.labels.now) input.now.definitions.now }
     requires targets { AreTargets input.now targets.now }
-    ensures ok { IfOk result (λ found. found ≡ defined_by input.now.labels.now input.now.definitions.now targets.now) }
+    ensures ok { IfOk result (λ found. found ≡ defined_by (replaces_nul (options_of input.now.options)) input.now.labels.now input.now.definitions.now targets.now) }
     ensures err { IfErr result (λ r. r ≡ blames_none Memory) }
 {
     Ok(definitions(alloc, input, targets)?)

@@ -5,7 +5,7 @@ ghost use Rattle.std.specs.List.{All};
 ghost use Rattle.markdown_content.specs.DefaultOptions.{AreKnown, options_of};
 ghost use Rattle.markdown_model.specs.InlineTree.{string_events, text_events};
 ghost use Rattle.markdown_innermost.specs.InnermostEvents.{innermost, IsSpanInOrder};
-ghost use Rattle.markdown_util.specs.Identifier.{identifier_of};
+ghost use Rattle.markdown_util.specs.Identifier.{identifier_by};
 ghost use Rattle.markdown_inline_c.specs.FlatInput.{identifiers, IsLabelRange, pieces_of, range_bytes, string_setting, text_setting, IsStringInput, IsTextInput};
 ghost use Rattle.markdown_inline_c.specs.Statuses.{IsStringFault, IsTextFault};
 ghost use Rattle.markdown_inline_c.specs.declared.fault.Fault.TheVariants.{Definition, Memory, UnknownOption};
@@ -16,7 +16,7 @@ use crate::flat::{Input, Range};
 use markdown_content::configuration::{ParseOptions, UNKNOWN_OPTION, has_option};
 use markdown_content::parser::ParseState;
 use markdown_run::run::{self, ListRun};
-use markdown_util::util::normalize_identifier::normalize_identifier;
+use markdown_util::util::normalize_identifier::identifier_by;
 use std::alloc::{AllocError, Global};
 
 // The bit that says that the text is the first of a list item.
@@ -44,19 +44,29 @@ pub(crate) fn text_of(labels: &[u8], range: Range) -> Option<&str>
     str::from_utf8(&labels[range.start..range.end]).ok()
 }
 
-// Adds the identifier of one more label.
-fn push_identifier(alloc: Global, found: &mut Vec<String>, text: &str) -> Result<(), AllocError>
-    ensures { OnOk result (map string_bytes found.new.items ≡ map string_bytes found.old.items ++ identifier_of text.now ∷ []) }
+// Adds the identifier of one more label, in which NUL may be read as U+FFFD.
+fn push_identifier(
+    alloc: Global,
+    found: &mut Vec<String>,
+    text: &str,
+    replaced: bool,
+) -> Result<(), AllocError>
+    ensures { OnOk result (map string_bytes found.new.items ≡ map string_bytes found.old.items ++ identifier_by replaced text.now ∷ []) }
 {
-    found.push(normalize_identifier(alloc, text)?)?;
+    found.push(identifier_by(alloc, text, replaced)?)?;
     Ok(())
 }
 
 // The identifiers of the labels at these ranges, of which there are some. It is kept out of line, since most inputs have none.
 #[inline(never)]
 #[tactic(auto, using(crate::proofs::Labels::all_read))]
-fn some_identifiers_of(alloc: Global, labels: &[u8], ranges: &[Range]) -> Result<Vec<String>, Fault>
-    ensures found { IfOk result (λ found. map string_bytes found.items ≡ identifiers labels.now ranges.now) }
+fn some_identifiers_of(
+    alloc: Global,
+    labels: &[u8],
+    ranges: &[Range],
+    replaced: bool,
+) -> Result<Vec<String>, Fault>
+    ensures found { IfOk result (λ found. map string_bytes found.items ≡ identifiers replaced labels.now ranges.now) }
     ensures labels { IfOk result (λ _. All (IsLabelRange labels.now) ranges.now) }
     ensures err { IfErr result (λ fault. (fault ≡ Memory) ⊎ ((fault ≡ Definition) × (All (IsLabelRange labels.now) ranges.now → ⊥))) }
 {
@@ -65,26 +75,27 @@ fn some_identifiers_of(alloc: Global, labels: &[u8], ranges: &[Range]) -> Result
         let Some(text) = text_of(labels, *range) else {
             return Err(Fault::Definition);
         };
-        push_identifier(alloc, &mut found, text)?;
+        push_identifier(alloc, &mut found, text, replaced)?;
     }
     Ok(found)
 }
 
-// The identifiers of the labels at these ranges.
+// The identifiers of the labels at these ranges, in which NUL may be read as U+FFFD.
 #[inline]
 pub(crate) fn identifiers_of(
     alloc: Global,
     labels: &[u8],
     ranges: &[Range],
+    replaced: bool,
 ) -> Result<Vec<String>, Fault>
-    ensures found { IfOk result (λ found. map string_bytes found.items ≡ identifiers labels.now ranges.now) }
+    ensures found { IfOk result (λ found. map string_bytes found.items ≡ identifiers replaced labels.now ranges.now) }
     ensures labels { IfOk result (λ _. All (IsLabelRange labels.now) ranges.now) }
     ensures err { IfErr result (λ fault. (fault ≡ Memory) ⊎ ((fault ≡ Definition) × (All (IsLabelRange labels.now) ranges.now → ⊥))) }
 {
     if ranges.is_empty() {
         return Ok(Vec::new(alloc));
     }
-    some_identifiers_of(alloc, labels, ranges)
+    some_identifiers_of(alloc, labels, ranges, replaced)
 }
 
 /// What is found in the input as a string, or why it is refused.
@@ -115,11 +126,12 @@ pub fn text(alloc: Global, input: &Input) -> Result<ListRun, Fault>
     let options = known_options(input.options)?;
     let pieces = Pieces::new(alloc, input.pieces)?;
     check_text(input.bytes, pieces.as_slice())?;
+    let replaced = options.rules().nul_is_replaced;
     let parse_state = ParseState {
         bytes: input.bytes,
         options: &options,
-        definitions: identifiers_of(alloc, input.labels, input.definitions)?,
-        gfm_footnote_definitions: identifiers_of(alloc, input.labels, input.footnotes)?,
+        definitions: identifiers_of(alloc, input.labels, input.definitions, replaced)?,
+        gfm_footnote_definitions: identifiers_of(alloc, input.labels, input.footnotes, replaced)?,
     };
     let first_of_item = has_option(input.options, FIRST_OF_ITEM);
     Ok(run::text_list(alloc, &parse_state, pieces.as_slice(), first_of_item)?)

@@ -11,7 +11,6 @@ ghost use Rattle.std.specs.Prelude.{◌≡◌, IsUtf8, map};
 ghost use Rattle.markdown_model.specs.InlineTree.{string_events, text_events};
 ghost use Rattle.markdown_inline_c.specs.FlatInput.{pieces_of, string_setting, text_setting, IsStringInput, IsTextInput};
 ghost use Rattle.markdown_inline_c.specs.FlatEvents.{flat_event};
-ghost use Rattle.markdown_inline_c.specs.FlatTexts.{many_setting};
 ghost use Rattle.markdown_inline_c.specs.ShortEvents.{short_events};
 ghost use Rattle.markdown_inline_c.specs.FlatLeaves.{leaves_of};
 ghost use Rattle.markdown_inline_c.specs.FlatHtml.{html_of, IsHtmlInput};
@@ -187,7 +186,7 @@ pub extern "C" fn markdown_inline_texts(
     ends: &mut [usize],
     outcome: &mut Outcome,
 ) -> u32
-    ensures { AreTexts (map flat_event) input.now contents.now events.old events.new ends.old ends.new outcome.new result }
+    ensures { AreTexts (λ _. map flat_event) input.now contents.now events.old events.new ends.old ends.new outcome.new result }
 {
     let end = texts::<Large>(alloc, input, contents, events, ends, outcome);
     outcome.ended(end, contents.len())
@@ -206,7 +205,7 @@ pub extern "C" fn markdown_inline_short_texts(
     ends: &mut [usize],
     outcome: &mut Outcome,
 ) -> u32
-    ensures { AreTexts (short_events (many_setting input.now)) input.now contents.now events.old events.new ends.old ends.new outcome.new result }
+    ensures { AreTexts short_events input.now contents.now events.old events.new ends.old ends.new outcome.new result }
 {
     let end = texts::<Short>(alloc, input, contents, events, ends, outcome);
     outcome.ended(end, contents.len())

@@ -4,7 +4,7 @@ ghost use Rattle.std.specs.Prelude.{◌≡◌, ◌⊎◌, IfErr, IfOk, map};
 ghost use Rattle.std.specs.List.{All};
 ghost use Rattle.markdown_content.specs.DefaultOptions.{AreKnown};
 ghost use Rattle.markdown_run_text.specs.RunSetting.{setting_of};
-ghost use Rattle.markdown_inline_c.specs.FlatTexts.{IsTextAt, many_setting, text_at};
+ghost use Rattle.markdown_inline_c.specs.FlatTexts.{IsTextAt, many_setting, setting_at, text_at};
 ghost use Rattle.markdown_inline_c.specs.Many.{AreFound, EndsBy, EndsByInput};
 ghost use Rattle.markdown_inline_c.specs.Refusals.{IsInputRefused, IsReady};
 ghost use Rattle.markdown_inline_c.specs.Statuses.{IsContentAtFault};
@@ -27,12 +27,13 @@ fn found_in<F: Form>(
     content: FlatContent,
 ) -> Result<F::Events, Fault>
     requires { F.IsFor form.now (setting_of given.now.document.now) }
-    ensures items { let s = setting_of given.now.document.now in IfOk result (λ found. F.Events.items found ≡ F.items s (text_at s given.now.pieces.now content)) }
+    ensures items { let s = setting_of given.now.document.now in IfOk result (λ found. F.Events.items found ≡ F.items (setting_at s given.now.pieces.now content) (text_at s given.now.pieces.now content)) }
     ensures text { IfOk result (λ _. IsTextAt given.now.document.now.bytes.now given.now.pieces.now content) }
     ensures err { IfErr result (λ fault. (fault ≡ Memory) ⊎ IsContentAtFault given.now.document.now.bytes.now given.now.pieces.now content fault) }
 {
-    let run = given.read(alloc, content)?;
-    Ok(form.of(alloc, given.document, run)?)
+    let pieces = given.pieces_of(alloc, content)?;
+    let run = given.read(alloc, pieces.as_slice(), content)?;
+    Ok(form.of(alloc, given.document, pieces.as_slice(), run)?)
 }
 
 // Reads contents as texts one after another, and hands out their events.
@@ -47,7 +48,7 @@ fn read_all<F: Form>(
 ) -> Result<(), Refusal>
     requires form { F.IsFor form.now (setting_of given.now.document.now) }
     requires none_yet { (outcome.old.done ≡ 0) × (outcome.old.count ≡ 0) }
-    ensures { let s = setting_of given.now.document.now in AreFound (map (λ c. F.items s (text_at s given.now.pieces.now c)) contents.now) array.old array.new ends.old ends.new outcome.new (λ read. EndsBy (All (IsTextAt s.bytes given.now.pieces.now)) (λ before at fault. IsContentAtFault s.bytes given.now.pieces.now at fault) contents.now read result) }
+    ensures { let s = setting_of given.now.document.now in AreFound (map (λ c. F.items (setting_at s given.now.pieces.now c) (text_at s given.now.pieces.now c)) contents.now) array.old array.new ends.old ends.new outcome.new (λ read. EndsBy (All (IsTextAt s.bytes given.now.pieces.now)) (λ before at fault. IsContentAtFault s.bytes given.now.pieces.now at fault) contents.now read result) }
 {
     for at in 0..contents.len() {
         match found_in(alloc, given, form, contents[at]) {
@@ -67,7 +68,7 @@ pub fn texts<F: Form + Drop>(
     ends: &mut [usize],
     outcome: &mut Outcome,
 ) -> Result<(), Refusal>
-    ensures { let i = input.now in AreFound (map (λ c. F.items (many_setting i) (text_at (many_setting i) i.pieces.now c)) contents.now) array.old array.new ends.old ends.new outcome.new (λ read. EndsByInput (IsReady (AreKnown i.options) i) (IsInputRefused (AreKnown i.options) i) (All (IsTextAt i.bytes.now i.pieces.now)) (λ before at fault. IsContentAtFault i.bytes.now i.pieces.now at fault) contents.now read result) }
+    ensures { let i = input.now in AreFound (map (λ c. F.items (setting_at (many_setting i) i.pieces.now c) (text_at (many_setting i) i.pieces.now c)) contents.now) array.old array.new ends.old ends.new outcome.new (λ read. EndsByInput (IsReady (AreKnown i.options) i) (IsInputRefused (AreKnown i.options) i) (All (IsTextAt i.bytes.now i.pieces.now)) (λ before at fault. IsContentAtFault i.bytes.now i.pieces.now at fault) contents.now read result) }
 {
     *outcome = Outcome::nothing();
     let options = known_options(input.options)?;

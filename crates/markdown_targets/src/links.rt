@@ -1,6 +1,7 @@
 //! Where a node of a tree leads.
 ghost use Rattle.std.specs.Prelude.{◌≡◌, IfOk};
 ghost use Rattle.std.specs.Option.{option_map};
+ghost use Rattle.markdown_content.specs.Content.{IsContent};
 ghost use Rattle.markdown_html_model.specs.Resolved.{decoding_of};
 ghost use Rattle.markdown_tree.specs.LabelsView.{given_of};
 ghost use Rattle.markdown_tree.specs.Referred.{second_inside};
@@ -70,6 +71,7 @@ fn written(alloc: Global, bytes: &[u8], before: &[u8], node: Node) -> Result<Tar
 
 // The definition that a node refers to.
 fn referred(labels: &Labels, tree: &Tree, node: Node) -> Result<Option<Target>, AllocError>
+    requires { IsContent labels.now.bytes.now labels.now.pieces.now }
     ensures { IfOk result (λ to. option_map led_of to ≡ referred (given_of labels.now) tree.now node) }
 {
     match labels.met(tree, node.enter)? {
@@ -80,6 +82,7 @@ fn referred(labels: &Labels, tree: &Tree, node: Node) -> Result<Option<Target>, 
 
 // The footnote that a node refers to.
 fn called(labels: &Labels, tree: &Tree, node: Node) -> Result<Option<Target>, AllocError>
+    requires { IsContent labels.now.bytes.now labels.now.pieces.now }
     ensures { IfOk result (λ to. option_map led_of to ≡ called (given_of labels.now) tree.now node) }
 {
     match labels.met(tree, node.enter)? {
@@ -95,6 +98,7 @@ fn link_target(
     tree: &Tree,
     node: Node,
 ) -> Result<Option<Target>, AllocError>
+    requires { IsContent labels.now.bytes.now labels.now.pieces.now }
     ensures { IfOk result (λ to. option_map led_of to ≡ link_target (decoding_of labels.now.options.now) (given_of labels.now) tree.now node (second_inside tree.now node)) }
 {
     let Some(tail) = second_inside(tree, node) else {
@@ -136,6 +140,7 @@ fn node_target(
     tree: &Tree,
     node: Node,
 ) -> Result<Option<Target>, AllocError>
+    requires { IsContent labels.now.bytes.now labels.now.pieces.now }
     ensures { IfOk result (λ to. option_map led_of to ≡ node_target (decoding_of labels.now.options.now) (given_of labels.now) tree.now node.name node) }
 {
     let bytes = labels.bytes;
@@ -154,7 +159,7 @@ fn node_target(
 
 /// Where the node of this number leads: a link, an image, a footnote call, an autolink or a literal.
 ///
-/// The tree is that of a run over the document of the labels, with their options and definitions. None where the node is something else, and where
+/// The tree is that of a run over the content of the labels, with their options and definitions. None where the node is something else, and where
 /// no definition is met. References in a destination or a title are decoded as the options say. Takes time in proportion to what is answered, and to a
 /// label that is looked for, however deep the node stands.
 ///
@@ -165,6 +170,7 @@ pub fn target_of(
     tree: &Tree,
     node: usize,
 ) -> Result<Option<Target>, AllocError>
+    requires { IsContent labels.now.bytes.now labels.now.pieces.now }
     ensures { IfOk result (λ to. option_map led_of to ≡ target_at (decoding_of labels.now.options.now) (given_of labels.now) tree.now node) }
 {
     match tree.node(node) {

@@ -5,6 +5,7 @@
 //!     stretch PIECE.. | DOCUMENT       the index where the content ends, and a line for each stretch without `-`: how many codes are passed,
 //!                                      the column, the code before, and the code that the stretch stops at, which is passed then
 //!     holds SET TIMES PIECE.. | DOCUMENT   whether so many codes of the content are in the set, `]` or else `abc`, asked behind the first code
+//!     between FROM TO PIECE.. | DOCUMENT   the bytes of the content between two indexes, and whether one piece has them
 //!     restart PIECE.. | DOCUMENT       how many codes are passed at the end, how many at the start again, and the code there
 //!
 //! A place is printed as its line, column, index and codes of the tab there.
@@ -18,9 +19,10 @@ use markdown_content::bytes::{ByteSet, ByteTable};
 use markdown_content::content::is_content;
 use markdown_content::cursor::Cursor;
 use markdown_content::parser::Piece;
+use std::alloc::{AllocError, Global};
 
 // Appends what a case answers that has these pieces.
-pub(crate) fn answer(case: &Case, pieces: &[Piece], out: &mut Answers) {
+pub(crate) fn answer(alloc: Global, case: &Case, pieces: &[Piece], out: &mut Answers) {
     if !is_content(&case.text, pieces) {
         return out.say(" no content");
     }
@@ -29,6 +31,7 @@ pub(crate) fn answer(case: &Case, pieces: &[Piece], out: &mut Answers) {
         "read" => read(&mut cursor, out),
         "stretch" => stretch(&mut cursor, out),
         "holds" => holds(&mut cursor, case.word(0), case.number(1), out),
+        "between" => between(alloc, &cursor, case, out),
         "restart" => restart(&mut cursor, out),
         _ => out.say(" no such call"),
     }
@@ -115,6 +118,20 @@ fn holds(cursor: &mut Cursor, set: &str, times: usize, out: &mut Answers) {
         ByteSet::new(&LETTERS)
     };
     out.show(cursor.holds(&set, times));
+}
+
+// Appends the bytes between the first two numbers of a case, and whether one piece has them.
+fn between(alloc: Global, cursor: &Cursor, case: &Case, out: &mut Answers) {
+    let document: &[u8] = &case.text;
+    let (from, to) = (case.number(0), case.number(1).min(document.len()));
+    let mut found = Vec::new(alloc);
+    match cursor.push_between(&mut found, document, from, to) {
+        Ok(()) => {
+            out.show(str::from_utf8(found.as_slice()).unwrap_or("not UTF-8"));
+            out.show(cursor.is_in_one_piece(from, to));
+        }
+        Err(AllocError) => out.end(),
+    }
 }
 
 // Passes all codes, and starts over.

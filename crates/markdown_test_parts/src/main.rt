@@ -39,7 +39,7 @@ fn answer_on_pieces(alloc: Global, part: &str, case: &Case, out: &mut Answers) {
     if part == "content" {
         content::answer(case, pieces.as_slice(), out);
     } else {
-        cursor::answer(case, pieces.as_slice(), out);
+        cursor::answer(alloc, case, pieces.as_slice(), out);
     }
 }
 

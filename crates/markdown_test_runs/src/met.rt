@@ -1,4 +1,6 @@
 //! Which definitions links and images refer to, and which footnotes calls.
+ghost use Rattle.markdown_content.specs.Content.{IsContent};
+
 use crate::answers::Answers;
 use crate::row::Row;
 use markdown_inline::definitions::Definitions;
@@ -31,7 +33,9 @@ fn print_numbers(
     labels: &Labels,
     events: &EventSlice,
     out: &mut Answers,
-) -> Result<(), AllocError> {
+) -> Result<(), AllocError>
+    requires { IsContent labels.now.bytes.now labels.now.pieces.now }
+{
     let tree = Tree::new(alloc, events)?;
     for number in 0..events.len() {
         let event = events.at(number);
@@ -77,9 +81,15 @@ fn print_met_among(
     footnotes: &Definitions,
     out: &mut Answers,
 ) -> Result<(), AllocError> {
+    let (bytes, pieces) = (row.document.as_bytes(), row.pieces.as_slice());
+    if !is_text(bytes, pieces) {
+        out.say(" no text");
+        return Ok(());
+    }
     let events = events_of(alloc, row, definitions, footnotes)?;
     let labels = Labels {
-        bytes: row.document.as_bytes(),
+        bytes,
+        pieces,
         options: &row.options,
         definitions,
         footnotes,
@@ -89,10 +99,6 @@ fn print_met_among(
 
 /// Prints what the links, images and footnote calls of a text refer to, where the row defines these labels.
 pub(crate) fn print_met(alloc: Global, row: &Row, out: &mut Answers) -> Result<(), AllocError> {
-    if !is_text(row.document.as_bytes(), row.pieces.as_slice()) {
-        out.say(" no text");
-        return Ok(());
-    }
     let definitions = defined(alloc, row.definitions.as_slice())?;
     let footnotes = defined(alloc, row.footnotes.as_slice())?;
     print_met_among(alloc, row, &definitions, &footnotes, out)

@@ -188,10 +188,26 @@ fn written(
     }
     let targets = targets(alloc, definitions)?;
     if word == "brought" {
-        let left = left_of_limit(alloc, &parse_state, &events, &targets, html_options, 20)?;
+        let left = left_of_limit(
+            alloc,
+            &parse_state,
+            &pieces,
+            &events,
+            &targets,
+            html_options,
+            20,
+        )?;
         return left_shown(alloc, left);
     }
-    to_html(alloc, &parse_state, &events, &targets, calls, html_options)
+    to_html(
+        alloc,
+        &parse_state,
+        &pieces,
+        &events,
+        &targets,
+        calls,
+        html_options,
+    )
 }
 
 // Whether a row's text has the same nodes and leaves where its events stand as they are.

@@ -1,9 +1,7 @@
 //! Definitions by their labels: the first of those whose labels match counts (CommonMark 4.7).
 ghost use Rattle.std.specs.Prelude.{◌≡◌, ◌==◌, ◌++◌, ◌∷◌, [], IfOk, IsSome, OnOk, OnErr, None, length, map, string_bytes};
-ghost use Rattle.std.specs.Option.{option_map};
 ghost use Rattle.markdown_util.specs.Identifier.{identifier_of};
 ghost use Rattle.markdown_tree.specs.Numbers.{added_to, number_of, with_identifier};
-ghost use Rattle.markdown_tree.specs.Referred.{behind_caret, undefined_footnote};
 
 use markdown_util::util::normalize_identifier::normalize_identifier;
 use std::alloc::{AllocError, Global};
@@ -69,8 +67,13 @@ impl Definitions {
         self.identifiers.is_empty()
     }
 
+    // What takes memory for them.
+    pub(crate) fn alloc(&self) -> Global {
+        self.alloc
+    }
+
     // The number of the definition with this identifier.
-    fn number(&self, identifier: &str) -> Option<usize>
+    pub(crate) fn number(&self, identifier: &str) -> Option<usize>
         ensures { result ≡ number_of identifier.now self.now }
     {
         self.numbers.get(identifier).copied()
@@ -146,13 +149,6 @@ impl Definitions {
         Ok(self.number(normalize_identifier(self.alloc, label)?.as_str()))
     }
 
-    // The number of the definition that a label of a link refers to, where footnotes are looked for.
-    pub(crate) fn find_undefined_footnote(&self, label: &str) -> Result<Option<usize>, AllocError>
-        ensures { IfOk result (λ number. number ≡ number_of (undefined_footnote label.now) self.now) }
-    {
-        Ok(self.number(undefined_footnote(self.alloc, label)?.as_str()))
-    }
-
     /// The identifiers in the order of their numbers, as `ParseState` takes them.
     ///
     /// The only error is that memory was refused.
@@ -165,27 +161,4 @@ impl Definitions {
         }
         Ok(identifiers)
     }
-}
-
-// What follows a caret.
-fn behind_caret(label: &str) -> Option<&str>
-    ensures { option_map (λ t. t.now) result ≡ behind_caret label.now }
-{
-    match label.strip_prefix("^") {
-        Some(text) => Some(text),
-        None => None,
-    }
-}
-
-// The identifier of a label where footnotes are looked for: a caret stands before the identifier of what follows it.
-fn undefined_footnote(alloc: Global, label: &str) -> Result<String, AllocError>
-    ensures { IfOk result (λ identifier. string_bytes identifier ≡ undefined_footnote label.now) }
-{
-    let Some(text) = behind_caret(label) else {
-        return normalize_identifier(alloc, label);
-    };
-    let name = normalize_identifier(alloc, text)?;
-    let mut identifier = String::from_str(alloc, "^")?;
-    identifier.push_str(name.as_str())?;
-    Ok(identifier)
 }

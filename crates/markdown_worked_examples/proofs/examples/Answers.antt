@@ -1,7 +1,7 @@
 -- Worked examples, written by tools/examples.py from tools/rules.
 use Rattle.std.proofs.Common.{refl}
 use Rattle.markdown_worked_examples.proofs.Computed.{computed}
-use Rattle.markdown_worked_examples.specs.Examples.{Escapes, CharacterReferences, Whitespace, RawText, Autolinks, HtmlText, HtmlTags, TaskListItemChecks, Emphasis, Links, Labels, References, Footnotes, GfmAutolinkLiterals, Emails, Resources, Switches, Choices}
+use Rattle.markdown_worked_examples.specs.Examples.{Escapes, CharacterReferences, Whitespace, RawText, Autolinks, HtmlText, HtmlTags, TaskListItemChecks, Emphasis, Links, Labels, References, Footnotes, GfmAutolinkLiterals, Emails, Resources, Switches, Choices, LabelSizes}
 use Rattle.markdown_worked_examples.proofs.examples.Goals as goal
 
 -- Both sides of each example compute to one list.
@@ -47,7 +47,7 @@ links = (refl, refl, refl, refl, refl, refl, refl, refl, refl, refl, refl, refl,
 
 labels : Labels
 unfolding computed
-labels = (refl, refl, refl, refl, refl, refl, refl, refl, refl, refl, refl, refl, refl, refl, refl, refl, refl, refl, refl, refl, refl, refl, refl, refl, refl, refl, refl, refl, refl)
+labels = (refl, refl, refl, refl, refl, refl, refl, refl, refl, refl, refl, refl, refl, refl, refl, refl, refl, refl, refl, refl, refl, refl, refl, refl, refl, refl, refl, refl, refl, refl, refl, refl, refl, refl, refl, refl, refl, refl, refl, refl, refl)
 
 references : References
 unfolding computed
@@ -77,5 +77,9 @@ choices : Choices
 unfolding computed
 choices = (refl, refl, refl, refl, refl, refl, refl, refl, refl, refl, refl, refl, refl, refl, refl, refl, refl, refl, refl, refl, refl, refl, refl, refl, refl, refl)
 
+label_sizes : LabelSizes
+unfolding computed
+label_sizes = (refl, refl, refl, refl, refl, refl, refl, refl, refl, refl)
+
 pub returns : goal.returns
-returns c = (escapes, character_references, whitespace, raw_text, autolinks, html_text, html_tags, task_list_item_checks, emphasis, links, labels, references, footnotes, gfm_autolink_literals, emails, resources, switches, choices)
+returns c = (escapes, character_references, whitespace, raw_text, autolinks, html_text, html_tags, task_list_item_checks, emphasis, links, labels, references, footnotes, gfm_autolink_literals, emails, resources, switches, choices, label_sizes)

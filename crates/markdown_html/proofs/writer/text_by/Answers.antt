@@ -1,8 +1,10 @@
-use Rattle.std.proofs.Common.{◌∙◌}
+use Rattle.std.proofs.Common.{◌∙◌, ap, refl}
+use Rattle.markdown_content.specs.CommonMark.{rules_of}
+use Rattle.markdown_content.specs.declared.configuration.ParseOptions.{ParseOptions}
 use Rattle.markdown_html.proofs.EventLoop.{text-alone}
 use Rattle.markdown_html.proofs.writer.text_by.Goals as goal
 
 pub returns : goal.returns
 returns c = λ n previous t is.
     let w = c.in_ok-written.ensures n previous t is in
-    w.0 ∙ text-alone c.args.how c.args.bytes.now c.new-definitions.result c.safe.result c.new-calls.result t c.new-definitions.ensures c.safe.ensures c.new-calls.ensures
+    w.0 ∙ text-alone c.args.how c.args.bytes.now _ c.rules.result c.new-definitions.result c.safe.result c.new-calls.result t refl (c.rules.ensures ∙ ap (λ (o : ParseOptions). rules_of o) c.default.ensures) c.new-definitions.ensures c.safe.ensures c.new-calls.ensures

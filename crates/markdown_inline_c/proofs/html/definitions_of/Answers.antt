@@ -9,12 +9,12 @@ use Rattle.markdown_inline_c.proofs.html.definitions_of.Goals as goal
 
 pub loop-at-preserved : goal.loop-at-preserved
 loop-at-preserved c =
-    one_more c.args.labels.now c.args.ranges.now c.args.targets.now c.loop-at.found c.push.new.found (defined_of c.in_ok-definition.definition) c.loop-at.at _ _ c.requires.one_each c.loop-at-test.true
+    one_more c.args.replaced c.args.labels.now c.args.ranges.now c.args.targets.now c.loop-at.found c.push.new.found (defined_of c.in_ok-definition.definition) c.loop-at.at _ _ c.requires.one_each c.loop-at-test.true
     c.loop-at.invariant c.in_ok-definition.ensures.target c.in_ok-definition.ensures.ok c.in_ok-push.ensures
 
 pub returns-clause-targets : goal.returns-clause-targets
 returns-clause-targets c =
-    (all_defined c.args.labels.now c.args.ranges.now c.args.targets.now c.loop-at.found c.loop-at.at c.requires.one_each (omega (arith, c.loop-at-test.false)) c.loop-at.invariant).1
+    (all_defined c.args.replaced c.args.labels.now c.args.ranges.now c.args.targets.now c.loop-at.found c.loop-at.at c.requires.one_each (omega (arith, c.loop-at-test.false)) c.loop-at.invariant).1
 
 pub returns-in_err-definition-clause-err : goal.returns-in_err-definition-clause-err
 returns-in_err-definition-clause-err c =

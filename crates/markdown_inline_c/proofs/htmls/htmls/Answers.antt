@@ -69,7 +69,7 @@ returns c =
     let limit = c.args.limit in
     let targets = c.args.targets.now in
     let d = c.in_ok-document.document in
-    let p = page_from d c.in_ok-definitions.definitions c.in_ok-asked.allowed in
+    let p = page_from d [] c.in_ok-definitions.definitions c.in_ok-asked.allowed in
     let same : setting_of d ≡ many_setting i =
     c.in_ok-document.ensures ∙ ap (λ (o : ParseOptions). setting_by i.bytes.now o i.labels.now i.definitions.now i.footnotes.now) c.in_ok-asked.ensures.ok.0
     in

@@ -4,7 +4,7 @@ use Rattle.markdown_content.specs.DefaultOptions.{AreKnown}
 use Rattle.markdown_content.specs.declared.configuration.ParseOptions.{ParseOptions}
 use Rattle.markdown_model.specs.Setting.{Setting}
 use Rattle.markdown_run_text.specs.RunSetting.{setting_of}
-use Rattle.markdown_inline_c.specs.FlatTexts.{IsTextAt, many_setting, setting_by, text_at}
+use Rattle.markdown_inline_c.specs.FlatTexts.{IsTextAt, many_setting, setting_at, setting_by, text_at}
 use Rattle.markdown_inline_c.specs.Many.{AreFound, EndsBy}
 use Rattle.markdown_inline_c.specs.Refusals.{IsInputRefused, IsReady, blames_none}
 use Rattle.markdown_inline_c.specs.Statuses.{IsContentAtFault}
@@ -50,9 +50,9 @@ returns g c =
     c.in_ok-document.ensures ∙ ap (λ (o : ParseOptions). setting_by i.bytes.now o i.labels.now i.definitions.now i.footnotes.now) c.in_ok-options.ensures.ok.1
     in
     behind_input (IsReady (AreKnown i.options) i) (IsInputRefused (AreKnown i.options) i) (All (IsTextAt i.bytes.now pieces)) (refuses i) contents
-    (map (λ x. g.F.Form.items (many_setting i) (text_at (many_setting i) pieces x)) contents) c.args.array.now c.read_all.new.array c.args.ends.now c.read_all.new.ends c.read_all.new.outcome c.read_all.result
+    (map (λ x. g.F.Form.items (setting_at (many_setting i) pieces x) (text_at (many_setting i) pieces x)) contents) c.args.array.now c.read_all.new.array c.args.ends.now c.read_all.new.ends c.read_all.new.outcome c.read_all.result
     (record { options = c.in_ok-options.ensures.ok.0; document = c.in_ok-check_input.ensures.document; labels = c.in_ok-check_input.ensures.labels })
     (subst
-    (λ (x : Setting). AreFound (map (λ y. g.F.Form.items x (text_at x pieces y)) contents) c.args.array.now c.read_all.new.array c.args.ends.now c.read_all.new.ends c.read_all.new.outcome
+    (λ (x : Setting). AreFound (map (λ y. g.F.Form.items (setting_at x pieces y) (text_at x pieces y)) contents) c.args.array.now c.read_all.new.array c.args.ends.now c.read_all.new.ends c.read_all.new.outcome
     (λ read. EndsBy (All (IsTextAt x.bytes pieces)) (λ before at fault. IsContentAtFault x.bytes pieces at fault) contents read c.read_all.result))
     same c.read_all.ensures)
