@@ -142,6 +142,20 @@ class Calls(unittest.TestCase):
         self.assertEqual(met, [(*it, Kind.Enter) for it in begins])
         self.assertEqual([it[:3] for it in found.flat() if it[2] < 2 ** 32 - 1], [(Kind.Enter, name, number) for name, _, number in begins])
 
+    def test_labels_go_by_their_text(self):
+        # By CommonMark what a content leaves out is no part of a label; else the identifier is that of all bytes of the document.
+        document, pieces = '> [a\n> b]', [(2, 5), (7, 9)]
+        for label, options in (('a b', dict(commonmark=True)), ('a > b', {})):
+            self.assertEqual(html(document, pieces, definitions={label: '/c'}, **options), '<a href="/c">a\nb</a>')
+            self.assertEqual(htmls(document, [Content(pieces)], definitions={label: '/c'}, **options), ['<a href="/c">a\nb</a>'])
+            found, = short_texts(document, [Content(pieces)], definitions=['c', label], **options)
+            self.assertEqual([(it.name, it.definition) for it in found if it.definition is not None], [(Name.Link, 1)])
+        for label, options in (('a > b', dict(commonmark=True)), ('a b', {})):
+            self.assertEqual(html(document, pieces, definitions={label: '/c'}, **options), '[a\nb]')
+            self.assertEqual(htmls(document, [Content(pieces)], definitions={label: '/c'}, **options), ['[a\nb]'])
+            found, = short_texts(document, [Content(pieces)], definitions=['c', label], **options)
+            self.assertEqual([it.name for it in found if it.definition is not None], [])
+
     def test_texts_of_strings(self):
         document = '> [a](<b\\*c> (d\n>  &copy; é\\)\n> e))'
         wanted = ['b*c', 'd\n© é)\ne', '', 'd\n']
