@@ -118,7 +118,7 @@ fn references_are_decoded_by_options() {
             "{given}"
         );
     }
-    let found = |options| strings_with(options, "&check;", &[0..7], &[0..1]);
+    let found = |options| strings_with(options, "&check;a", &[0..7, 7..8], &[0..1, 1..2]);
     assert_eq!(found(names).unwrap().get(0), Some("\u{2713}"));
     assert_eq!(found(Options::COMMONMARK).unwrap().get(0), Some("&check;"));
     let error = found(Options::from_bits(1 << 31)).unwrap_err();
