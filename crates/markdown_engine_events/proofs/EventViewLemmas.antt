@@ -1,5 +1,5 @@
 -- What a change of the kept events does to the events that contracts see, and that their links stay filled in.
-use Rattle.markdown_event.proofs.PastedParts.{take-take-le}
+use Rattle.markdown_event.proofs.PastedParts.{take-take-le, part-same}
 use Rattle.std.proofs.Common.{◌≡◌, ℕ, zero, suc, ◌+◌, ◌-◌, ◌<◌, ◌≤◌, Option, Some, None, List, [], ◌∷◌, ◌++◌, length, take, drop, get_or, Bool, true, false, refl, append_assoc, sym, ap, subst, ◌∙◌, arith}
 use Rattle.std.proofs.lemmas.Bool.{both_ways}
 use Rattle.std.proofs.lemmas.List.{take_at, same_from_push, length_push, append-nil, length-take, get_or-take, get_or-drop, get_or_append_left, get_or_push}
@@ -7,8 +7,8 @@ use Rattle.std.proofs.lemmas.List.Elements.{All-append, All-drop, All-push, All-
 use Rattle.std.specs.List.{All}
 use Rattle.markdown_event.specs.declared.event.Link.{Link}
 use Rattle.markdown_event.specs.declared.event.Event.{Event}
-use Rattle.markdown_engine_events.specs.EventChains.{with_next, with_previous, bare, bares, previous_of, chained, changed_at, previous_at, linked_at, EndsChain, IsLinked, IsFresh, IsAlone, IsChainedList, IsNoted, OnlyEnters, MayLink, link_previous, next_link}
-use Rattle.markdown_engine_events.proofs.EventChainLemmas.{length-changed_at, changed_at-append, length-bares, bares-append, bares-next, bares-previous, get-bares, chained-fresh, chained-push, chained-end, chained-link, IsLinked-prefix}
+use Rattle.markdown_engine_events.specs.EventChains.{with_next, with_previous, bare, bares, previous_of, NamesNone, IsUnlinked, chained, changed_at, previous_at, linked_at, EndsChain, IsLinked, IsFresh, IsAlone, IsChainedList, IsNoted, OnlyEnters, MayLink, link_previous, next_link}
+use Rattle.markdown_engine_events.proofs.EventChainLemmas.{unlinked-fresh, length-changed_at, changed_at-append, length-bares, bares-append, bares-next, bares-previous, get-bares, chained-fresh, chained-push, chained-end, chained-link, IsLinked-prefix}
 use Rattle.markdown_engine_events.proofs.EventChainLemmas.{some-none, IsLinked-push, OnlyEnters-part, bare-fresh, fresh-of, chained-ends, fresh-unnamed, ends-before, last-earlier, IsLinked-connect, previous_of-bare, within-linked, changed_at-twice}
 
 -- the kept events at their view
@@ -247,7 +247,7 @@ pub part-alone : (b : Bool) (xs ws : List Event) (n m : ℕ) → ws ≡ xs → I
 part-alone b xs ws n m w h off =
     subst (λ (ys : List Event). All IsAlone (take m (drop n ys))) (sym w) (All-take IsAlone m (drop n xs) (All-drop IsAlone n xs (h.alone off)))
 
-fresh-alone : (e : Event) → IsFresh e → IsAlone e
+pub fresh-alone : (e : Event) → IsFresh e → IsAlone e
 fresh-alone e f = (fresh-unnamed e f, ap (λ (x : Event). x.link) (bare-fresh e f))
 
 alone-one : (b : Bool) (xs ys : List Event) (e : Event) → IsNoted b xs → IsAlone e → ys ≡ xs ++ e ∷ [] → b ≡ false → All IsAlone ys
@@ -282,3 +282,20 @@ noted-dropped b xs ys zs e p n h s g =
     let all : All IsAlone (ys ++ e ∷ []) = subst (All IsAlone) h (n.alone off) in
     let last : IsAlone e = subst IsAlone (get_or_push ys e e (length ys) refl) (all (length ys) e (omega (arith, length_push ys e))) in
     absurd (some-none p (sym last.0 ∙ s)))
+
+-- events that are linked to no other
+
+pub all-fresh-alone : (xs : List Event) → All IsFresh xs → All IsAlone xs
+all-fresh-alone xs u = λ k d l. fresh-alone (get_or xs k d) (u k d l)
+
+pub all-unlinked-alone : (xs : List Event) → All IsUnlinked xs → All IsAlone xs
+all-unlinked-alone xs u = λ k d l. fresh-alone (get_or xs k d) (unlinked-fresh (get_or xs k d) (u k d l))
+
+pub all-alone-unnamed : (xs : List Event) → All IsAlone xs → All NamesNone xs
+all-alone-unnamed xs a = λ k d l. (a k d l).0
+
+pub alone-part : (xs : List Event) (n m : ℕ) → All IsAlone xs → All IsAlone (take n (drop m xs))
+alone-part xs n m a = All-take IsAlone n (drop m xs) (All-drop IsAlone m xs a)
+
+pub alone-front-part : (xs ys : List Event) (n m : ℕ) → n ≤ m → take m xs ≡ take m ys → All IsAlone ys → All IsAlone (take (m - n) (drop n xs))
+alone-front-part xs ys n m l h a = subst (All IsAlone) (sym (part-same xs ys n m l h)) (alone-part ys (m - n) n a)

@@ -1,8 +1,8 @@
-//! Lists of events, each of which mostly takes 24 bytes.
+//! Lists of events, each of which mostly takes 16 bytes.
 ghost use Rattle.std.specs.Iterator.{YieldsFirst, item_count};
 ghost use Rattle.std.specs.Prelude.{◌≡◌, ◌<◌, ◌≤◌, ◌+◌, ◌-◌, ◌++◌, ◌∷◌, ◌==◌, [], length, take, drop, OnOk, OnErr, IfOk, IsTrue, IsFalse, MatchOption, Some, None, slice_index_or};
 ghost use Rattle.std.specs.List.{All};
-ghost use Rattle.markdown_engine_events.specs.EventChains.{changed_at, link_previous, next_link, with_next, with_previous, NamesNone};
+ghost use Rattle.markdown_engine_events.specs.EventChains.{changed_at, link_previous, next_link, previous_of, with_next, with_previous, IsAlone};
 ghost use Rattle.markdown_engine_events.specs.Edits.{edited, edits_of, grown, AreBrought, AreGrowing, StandApart};
 
 use crate::packed::{PackedList, PackedSlice};
@@ -18,17 +18,17 @@ use std::marker::Model;
 // The events of a list, in the form in which they stand.
 #[derive(Drop)]
 enum Stored {
-    // In 24 bytes each.
+    // In 16 bytes each.
     Packed(PackedList),
-    // As they are, since a number of one of them did not fit, or there were too many.
+    // As they are, since one of them did not fit, or there were too many.
     Whole(Seq<Event>),
 }
 
-/// A list of events, which takes 24 bytes for each.
+/// A list of events, which takes 16 bytes for each.
 ///
-/// Contracts see it as the list of the events. A number that does not fit into 24 bytes, as a place past
+/// Contracts see it as the list of the events. An event that does not fit into 16 bytes, as one at a place past
 /// 4,294,967,295, takes the list over to events as they are, 88 bytes each; no caller sees a difference,
-/// and the list stays so.
+/// and the list stays so. Links fit that lead two places back and two places on, as all links of a run do.
 #[derive(Drop)]
 pub struct EventList {
     stored: Stored,
@@ -197,11 +197,51 @@ impl EventList {
         }
     }
 
-    // Writes the event after into an event.
+    // Adds an event at the end that does not fit, or one to events that stand as they are, and writes its number into the one before it on its chain.
+    #[cold]
+    #[inline(never)]
+    fn push_whole_behind(&mut self, event: Event, previous: usize) -> Result<(), AllocError>
+        requires { previous < length self.old }
+        ensures ok { OnOk result (self.new ≡ changed_at (with_next (Some (length self.old))) previous (self.old ++ event ∷ [])) }
+        ensures err { OnErr result (self.new ≡ self.old) }
+    {
+        let number = self.len();
+        if let Stored::Whole(list) = &mut self.stored {
+            list.push(event)?;
+            whole::set_next(list, previous, Some(number));
+            return Ok(());
+        }
+        let mut list = self.whole()?;
+        list.push(event)?;
+        whole::set_next(&mut list, previous, Some(number));
+        self.stored = Stored::Whole(list);
+        Ok(())
+    }
+
+    // Adds an event at the end, and writes its number into the one before it on its chain, which it names. `Err` only if memory is refused; the events
+    // are then as they were.
+    pub(crate) fn push_behind(&mut self, event: Event, previous: usize) -> Result<(), AllocError>
+        requires index { previous < length self.old }
+        requires names { previous_of event ≡ Some previous }
+        ensures ok { OnOk result (self.new ≡ changed_at (with_next (Some (length self.old))) previous (self.old ++ event ∷ [])) }
+        ensures err { OnErr result (self.new ≡ self.old) }
+    {
+        let number = self.len();
+        if let Stored::Packed(list) = &mut self.stored {
+            let fits = list.push(event)?;
+            if fits {
+                list.set_next(previous, Some(number));
+                return Ok(());
+            }
+        }
+        self.push_whole_behind(event, previous)
+    }
+
+    // Writes into an event which event comes after it on its chain: the one two places behind it, or none.
     #[inline]
     pub(crate) fn set_next(&mut self, index: usize, next: Option<usize>)
         requires index { index < length self.old }
-        requires next { MatchOption next (Unit {0}) (λ n. n < length self.old) }
+        requires near { MatchOption next (Unit {0}) (λ n. n ≡ index + 2) }
         ensures { self.new ≡ changed_at (with_next next) index self.old }
     {
         match &mut self.stored {
@@ -210,11 +250,11 @@ impl EventList {
         }
     }
 
-    // Writes the event before into an event.
+    // Writes into an event that the one two places before it comes before it on its chain.
     #[inline]
     pub(crate) fn set_previous(&mut self, index: usize, previous: usize)
         requires index { index < length self.old }
-        requires previous { previous < length self.old }
+        requires near { previous + 2 ≡ index }
         ensures { self.new ≡ changed_at (with_previous (Some previous)) index self.old }
     {
         match &mut self.stored {
@@ -266,8 +306,9 @@ impl EventList {
         Ok(())
     }
 
-    // Adds these events at the end. `Err` only if memory is refused; the events are then as they were.
+    // Adds these events at the end, which are linked to no other. `Err` only if memory is refused; the events are then as they were.
     pub(crate) fn extend_from_slice(&mut self, events: &EventSlice) -> Result<(), AllocError>
+        requires { All IsAlone events.now }
         ensures ok { OnOk result (self.new ≡ self.old ++ events.now) }
         ensures err { OnErr result (self.new ≡ self.old) }
     {
@@ -302,7 +343,7 @@ impl EventList {
         requires more { fit.more ≡ grown (edits_of edits.now) }
         requires room { fit.more ≤ length edits.now.comes.now }
         requires growing { IsTrue fit.growing → AreGrowing (edits_of edits.now) }
-        requires plain { All NamesNone self.old }
+        requires alone { All IsAlone self.old }
         ensures done { IfOk result (λ done. IsTrue done → self.new ≡ edited (edits_of edits.now) self.old) }
         ensures stays { IfOk result (λ done. IsFalse done → self.new ≡ self.old) }
         ensures err { OnErr result (self.new ≡ self.old) }
@@ -348,7 +389,7 @@ impl fmt::Debug for EventList {
 // Events of a list, lent in the form in which they stand.
 #[derive(Drop)]
 enum Lent<'a> {
-    // In 24 bytes each.
+    // In 16 bytes each.
     Packed(PackedSlice<'a>),
     // As they are.
     Whole(&'a [Event]),

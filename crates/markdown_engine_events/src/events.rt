@@ -264,19 +264,19 @@ impl Events {
         ensures ok { OnOk result (self.new ≡ self.old ++ linked ∷ []) }
         ensures err { OnErr result (self.new ≡ self.old) }
     {
-        let number = self.len();
-        self.items.push(linked)?;
-        if let Some(previous) = previous_of(&linked) {
-            self.items.set_next(previous, Some(number));
-            self.chains = true;
-        }
+        let Some(previous) = previous_of(&linked) else {
+            self.items.push(linked)?;
+            return Ok(());
+        };
+        self.items.push_behind(linked, previous)?;
+        self.chains = true;
         Ok(())
     }
 
-    /// Links the event at `index` back to the event at `previous`, an earlier one: both carry a link,
-    /// the one has no event before yet, and the other no event after.
-    pub fn connect(&mut self, previous: usize, index: usize)
-        requires order { previous < index }
+    // Links the event at `index` back to the event at `previous`, two places before it: both carry a link, the one has no event before yet, and the
+    // other no event after.
+    pub(crate) fn connect(&mut self, previous: usize, index: usize)
+        requires near { previous + 2 ≡ index }
         requires from { linked_at self.old previous ≡ true }
         requires to { linked_at self.old index ≡ true }
         requires first { previous_at self.old index ≡ None }

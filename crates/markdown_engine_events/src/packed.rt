@@ -1,109 +1,127 @@
-//! Lists of events in 24 bytes each.
+//! Lists of events in 16 bytes each.
 //!
-//! A packed event has all that an event has, in smaller numbers. An event with a number that does not fit is refused, and the caller keeps the list in
-//! another form.
+//! A packed event has all that an event has, in smaller numbers. Of its links it says only whether they lead to the event two places before it, and to the
+//! one two places behind it, as those of a run do: between two linked `Enter` events stands the `Exit` of the first. So what a packed event stands for
+//! depends on its number in the list. An event that does not fit is refused, and the caller keeps the list in another form.
+#![tactic(auto, using(crate::proofs::PackedLemmas::length_unpacked))]
+
 ghost use lib.Seq.{paste};
-ghost use Rattle.std.specs.Prelude.{◌≡◌, ◌<◌, ◌≤◌, ◌+◌, ◌-◌, ◌^◌, ◌++◌, ◌∷◌, ◌==◌, ℕ, [], length, take, drop, OnErr, IfOk, IsTrue, IsFalse, MatchOption, Some, None, slice_index_or};
-ghost use Rattle.markdown_engine_events.specs.EventChains.{changed_at, link_previous, next_link, with_next, with_previous};
-ghost use Rattle.markdown_engine_events.specs.Packed.{number_kept, link_kept, unpacked};
+ghost use Rattle.std.specs.Prelude.{◌≡◌, ◌<◌, ◌≤◌, ◌+◌, ◌-◌, ◌^◌, ◌++◌, ◌∷◌, ◌==◌, ℕ, [], length, take, drop, OnErr, IfOk, IsTrue, IsFalse, MatchOption, Some, None, slice_index_or, true};
+ghost use Rattle.std.specs.List.{All};
+ghost use Rattle.markdown_engine_events.specs.EventChains.{changed_at, link_previous, next_link, previous_of, with_next, with_previous, IsAlone};
+ghost use Rattle.markdown_engine_events.specs.Packed.{content_in, content_of, kind_of, link_kept, link_next, next_if, next_kept, previous_if, previous_kept, unpacked};
 
 use markdown_event::event::{Content, Event, Kind, Link, Name, Point};
 use markdown_event::seq::Seq;
 use std::alloc::{AllocError, Global};
 use std::marker::Model;
 
-// Whether an event carries a link, and how its content is to be read.
+// The kind of an event; of an Enter also whether it carries a link, and how its content is to be read.
 #[derive(Clone, Copy)]
-enum Linked {
-    Unlinked,
-    AsString,
-    AsText,
+enum Shape {
+    Exit,
+    Enter,
+    EnterString,
+    EnterText,
 }
 
-// An event in 24 bytes.
+// Which events an event is linked to: the one two places before it, the one two places behind it, both or none.
+#[derive(Clone, Copy)]
+enum Chain {
+    Alone,
+    First,
+    Inner,
+    Last,
+}
+
+// An event in 16 bytes.
 #[derive(Clone, Copy)]
 pub(crate) struct Packed {
     line: u32,
     column: u32,
     index: u32,
-    // One more than the number of the event before on the chain; 0 where there is none.
-    previous: u32,
-    // One more than the number of the event after.
-    next: u32,
     vs: u8,
-    kind: Kind,
     name: Name,
-    linked: Linked,
+    shape: Shape,
+    chain: Chain,
 }
 
-// The largest number that is kept: a place, one more than the number of an event, or how many events a list has.
+// The largest number that is kept: a place, or how many events a list has.
 const LARGEST: usize = 4_294_967_295;
 
 // The largest number of codes of a tab that is kept.
 const MOST_OF_TAB: usize = 255;
 
-// One more than the number of an event in a list.
+// How many places an event stands behind the one before it on its chain.
+const STEP: usize = 2;
+
+// The kind of an event of this shape.
 #[inline(always)]
-fn kept_here(number: Option<usize>) -> u32
-    requires { MatchOption number (Unit {0}) (λ n. n + 1 < 2 ^ 32) }
-    ensures { number_kept result ≡ number }
+fn kind_of(shape: Shape) -> Kind
+    ensures { result ≡ kind_of shape }
 {
-    match number {
-        None => 0,
-        Some(number) => (number + 1) as u32,
+    match shape {
+        Shape::Exit => Kind::Exit,
+        Shape::Enter | Shape::EnterString | Shape::EnterText => Kind::Enter,
     }
 }
 
-// One more than a number, where that can be kept.
+// How the content of an event of this shape is to be read, if it carries a link.
 #[inline(always)]
-fn kept_number(number: Option<usize>) -> Option<u32>
-    ensures { MatchOption result (Unit {0}) (λ kept. number_kept kept ≡ number) }
+fn content_of(shape: Shape) -> Option<Content>
+    ensures { result ≡ content_of shape }
 {
-    match number {
-        None => Some(0),
-        Some(number) => {
-            if number < LARGEST {
-                Some((number + 1) as u32)
-            } else {
-                None
-            }
-        }
+    match shape {
+        Shape::Exit | Shape::Enter => None,
+        Shape::EnterString => Some(Content::String),
+        Shape::EnterText => Some(Content::Text),
     }
 }
 
-// The number of which one more is kept.
+// The number of the event before, on the chain of the event of this number.
 #[inline(always)]
-fn number_of(kept: u32) -> Option<usize>
-    ensures { result ≡ number_kept kept }
+fn previous_of(chain: Chain, number: usize) -> Option<usize>
+    ensures { result ≡ previous_kept chain number }
 {
-    if kept == 0 {
-        None
-    } else {
-        Some((kept - 1) as usize)
+    match chain {
+        Chain::Alone | Chain::First => None,
+        Chain::Inner | Chain::Last => Some(number.saturating_sub(STEP)),
     }
 }
 
-// The link of an event that stands packed.
+// The number of the event behind, on the chain of the event of this number.
 #[inline(always)]
-fn link_of(linked: Linked, previous: u32, next: u32) -> Option<Link>
-    ensures { result ≡ link_kept linked previous next }
+fn next_of(chain: Chain, number: usize) -> Option<usize>
+    requires { number < 2 ^ 32 }
+    ensures { result ≡ next_kept chain number }
 {
-    let content = match linked {
-        Linked::Unlinked => return None,
-        Linked::AsString => Content::String,
-        Linked::AsText => Content::Text,
-    };
-    Some(Link {
-        previous: number_of(previous),
-        next: number_of(next),
-        content,
-    })
+    match chain {
+        Chain::Alone | Chain::Last => None,
+        Chain::First | Chain::Inner => Some(number + STEP),
+    }
 }
 
-// The event that stands packed.
+// The link of the event of this number, which stands packed.
 #[inline(always)]
-fn unpack(packed: Packed) -> Event
-    ensures { result ≡ unpacked packed }
+fn link_of(packed: Packed, number: usize) -> Option<Link>
+    requires { number < 2 ^ 32 }
+    ensures { result ≡ link_kept (content_of packed.shape) (previous_kept packed.chain number) (next_kept packed.chain number) }
+{
+    match content_of(packed.shape) {
+        None => None,
+        Some(content) => Some(Link {
+            previous: previous_of(packed.chain, number),
+            next: next_of(packed.chain, number),
+            content,
+        }),
+    }
+}
+
+// The event of this number, which stands packed.
+#[inline(always)]
+fn unpack(packed: Packed, number: usize) -> Event
+    requires { number < 2 ^ 32 }
+    ensures { result ≡ unpacked number packed }
 {
     Event {
         point: Point {
@@ -112,50 +130,101 @@ fn unpack(packed: Packed) -> Event
             index: packed.index as usize,
             vs: packed.vs as usize,
         },
-        kind: packed.kind,
+        kind: kind_of(packed.shape),
         name: packed.name,
-        link: link_of(packed.linked, packed.previous, packed.next),
+        link: link_of(packed, number),
     }
 }
 
-// How a link is to be kept.
+// The shape of an event of this kind, with this link. None for an Exit with a link.
 #[inline(always)]
-fn linked_as(content: Content) -> Linked
-    ensures { (previous next : ℕ)
-        → link_kept result previous next ≡ Some (record { previous = number_kept previous; next = number_kept next; content = content }) }
+fn shape_of(kind: Kind, link: Option<Link>) -> Option<Shape>
+    ensures kind { MatchOption result (Unit {0}) (λ shape. kind_of shape ≡ kind) }
+    ensures content { MatchOption result (Unit {0}) (λ shape. content_of shape ≡ content_in link) }
 {
-    match content {
-        Content::String => Linked::AsString,
-        Content::Text => Linked::AsText,
+    match (kind, link) {
+        (Kind::Exit, None) => Some(Shape::Exit),
+        (Kind::Exit, Some(_)) => None,
+        (Kind::Enter, None) => Some(Shape::Enter),
+        (Kind::Enter, Some(link)) => match link.content {
+            Content::String => Some(Shape::EnterString),
+            Content::Text => Some(Shape::EnterText),
+        },
     }
 }
 
-// An event that stands packed, with this link.
+// Whether there is an event before the event of this number. None where it is not the one two places before.
 #[inline(always)]
-fn packed_link(plain: Packed, link: Option<Link>) -> Option<Packed>
-    ensures { MatchOption result (Unit {0}) (λ packed. unpacked packed
-        ≡ record { point = (unpacked plain).point; kind = plain.kind; name = plain.name; link = link }) }
+fn has_previous(number: usize, previous: Option<usize>) -> Option<bool>
+    ensures is { MatchOption result (Unit {0}) (λ has. previous_if has number ≡ previous) }
+    ensures near { MatchOption result (Unit {0}) (λ has. MatchOption previous (Unit {0}) (λ p. p + 2 ≡ number)) }
+{
+    match previous {
+        None => Some(false),
+        Some(previous) => {
+            if number >= STEP && previous == number - STEP {
+                Some(true)
+            } else {
+                None
+            }
+        }
+    }
+}
+
+// Whether there is an event behind the event of this number. None where it is not the one two places behind.
+#[inline(always)]
+fn has_next(number: usize, next: Option<usize>) -> Option<bool>
+    requires { number < 2 ^ 32 }
+    ensures { MatchOption result (Unit {0}) (λ has. next_if has number ≡ next) }
+{
+    match next {
+        None => Some(false),
+        Some(next) => {
+            if next == number + STEP {
+                Some(true)
+            } else {
+                None
+            }
+        }
+    }
+}
+
+// Where an event stands on its chain that has an event before it there, or behind it.
+#[inline(always)]
+fn chain_with(previous: bool, next: bool) -> Chain
+    ensures previous { (n : ℕ) → previous_kept result n ≡ previous_if previous n }
+    ensures next { (n : ℕ) → next_kept result n ≡ next_if next n }
+{
+    match (previous, next) {
+        (false, false) => Chain::Alone,
+        (false, true) => Chain::First,
+        (true, true) => Chain::Inner,
+        (true, false) => Chain::Last,
+    }
+}
+
+// Where the event of this number stands on its chain, by its link. None where that leads to other events than those two places before and behind.
+#[inline(always)]
+fn chain_of(number: usize, link: Option<Link>) -> Option<Chain>
+    requires { number < 2 ^ 32 }
+    ensures previous { MatchOption result (Unit {0}) (λ chain. previous_kept chain number ≡ link_previous link) }
+    ensures next { MatchOption result (Unit {0}) (λ chain. next_kept chain number ≡ link_next link) }
+    ensures near { MatchOption result (Unit {0}) (λ chain. MatchOption (link_previous link) (Unit {0}) (λ p. p + 2 ≡ number)) }
 {
     let Some(link) = link else {
-        return Some(Packed {
-            linked: Linked::Unlinked,
-            ..plain
-        });
+        return Some(Chain::Alone);
     };
-    let previous = kept_number(link.previous)?;
-    let next = kept_number(link.next)?;
-    Some(Packed {
-        previous,
-        next,
-        linked: linked_as(link.content),
-        ..plain
-    })
+    let previous = has_previous(number, link.previous)?;
+    let next = has_next(number, link.next)?;
+    Some(chain_with(previous, next))
 }
 
-// The event, packed. None where one of its numbers is too large.
+// The event of this number, packed. None where it does not fit.
 #[inline(always)]
-fn pack(event: Event) -> Option<Packed>
-    ensures { MatchOption result (Unit {0}) (λ packed. unpacked packed ≡ event) }
+fn pack(event: Event, number: usize) -> Option<Packed>
+    requires { number < 2 ^ 32 }
+    ensures is { MatchOption result (Unit {0}) (λ packed. unpacked number packed ≡ event) }
+    ensures near { MatchOption result (Unit {0}) (λ packed. MatchOption (previous_of event) (Unit {0}) (λ p. p + 2 ≡ number)) }
 {
     let Point {
         line,
@@ -166,21 +235,44 @@ fn pack(event: Event) -> Option<Packed>
     if line > LARGEST || column > LARGEST || index > LARGEST || vs > MOST_OF_TAB {
         return None;
     }
-    let plain = Packed {
+    let shape = shape_of(event.kind, event.link)?;
+    let chain = chain_of(number, event.link)?;
+    Some(Packed {
         line: line as u32,
         column: column as u32,
         index: index as u32,
-        previous: 0,
-        next: 0,
         vs: vs as u8,
-        kind: event.kind,
         name: event.name,
-        linked: Linked::Unlinked,
-    };
-    packed_link(plain, event.link)
+        shape,
+        chain,
+    })
 }
 
-// Events in 24 bytes each, fewer than 2 ^ 32 of them: the number of each can be kept in another. Contracts see it as the list of the events.
+// The same place on the chain, with an event behind it there, or without one.
+#[inline]
+fn chain_with_next(chain: Chain, next: bool) -> Chain
+    ensures previous { (n : ℕ) → previous_kept result n ≡ previous_kept chain n }
+    ensures next { (n : ℕ) → next_kept result n ≡ next_if next n }
+{
+    match chain {
+        Chain::Alone | Chain::First => chain_with(false, next),
+        Chain::Inner | Chain::Last => chain_with(true, next),
+    }
+}
+
+// The same place on the chain, with an event before it there.
+#[inline]
+fn chain_with_previous(chain: Chain) -> Chain
+    ensures previous { (n : ℕ) → previous_kept result n ≡ previous_if true n }
+    ensures next { (n : ℕ) → next_kept result n ≡ next_kept chain n }
+{
+    match chain {
+        Chain::Alone | Chain::Last => Chain::Last,
+        Chain::First | Chain::Inner => Chain::Inner,
+    }
+}
+
+// Events in 16 bytes each, fewer than 2 ^ 32 of them. Contracts see it as the list of the events.
 #[derive(Drop)]
 pub(crate) struct PackedList {
     items: Seq<Packed>,
@@ -188,12 +280,12 @@ pub(crate) struct PackedList {
 
 impl Model for PackedList {
     ghost use Rattle.std.specs.Prelude.{List, ◌<◌, ◌^◌, length};
-    ghost use Rattle.markdown_engine_events.specs.Packed.{all_unpacked};
+    ghost use Rattle.markdown_engine_events.specs.Packed.{unpacked_from};
     ghost use Rattle.markdown_event.specs.declared.event.Event.{Event};
 
     ghost Value = { List Event };
 
-    ghost view = { λ s. all_unpacked s.items };
+    ghost view = { λ s. unpacked_from 0 s.items };
 
     ghost invariant = { λ s. length s.items < 2 ^ 32 };
 }
@@ -231,7 +323,7 @@ impl PackedList {
         requires { index < length self.now }
         ensures { result ≡ slice_index_or self.now index result }
     {
-        unpack(*self.items.at(index))
+        unpack(*self.items.at(index), index)
     }
 
     // Makes room for so many more events. `Err` only if memory is refused; the events are as they were in either case.
@@ -241,17 +333,19 @@ impl PackedList {
         self.items.reserve(more)
     }
 
-    // Adds an event at the end, where its numbers fit. The answer is whether they do.
+    // Adds an event at the end, where it fits. The answer is whether it does.
     #[inline(always)]
     pub(crate) fn push(&mut self, event: Event) -> Result<bool, AllocError>
         ensures added { IfOk result (λ fits. IsTrue fits → self.new ≡ self.old ++ event ∷ []) }
+        ensures near { IfOk result (λ fits. IsTrue fits → MatchOption (previous_of event) (Unit {0}) (λ p. p + 2 ≡ length self.old)) }
         ensures stays { IfOk result (λ fits. IsFalse fits → self.new ≡ self.old) }
         ensures err { OnErr result (self.new ≡ self.old) }
     {
-        if self.items.len() >= LARGEST {
+        let number = self.items.len();
+        if number >= LARGEST {
             return Ok(false);
         }
-        let Some(item) = pack(event) else {
+        let Some(item) = pack(event, number) else {
             return Ok(false);
         };
         self.items.push(item)?;
@@ -272,37 +366,31 @@ impl PackedList {
         ensures rest { self.new ≡ take (length self.old - 1) self.old }
     {
         let item = self.items.pop()?;
-        Some(unpack(item))
+        Some(unpack(item, self.items.len()))
     }
 
-    // Writes the event after into an event.
+    // Writes the event after into an event: the one two places behind it, or none.
     #[inline]
     pub(crate) fn set_next(&mut self, index: usize, next: Option<usize>)
         requires index { index < length self.old }
-        requires next { MatchOption next (Unit {0}) (λ n. n < length self.old) }
+        requires near { MatchOption next (Unit {0}) (λ n. n ≡ index + 2) }
         ensures { self.new ≡ changed_at (with_next next) index self.old }
     {
         let item = *self.items.at(index);
-        let changed = Packed {
-            next: kept_here(next),
-            ..item
-        };
-        self.items.put(index, changed);
+        let chain = chain_with_next(item.chain, next.is_some());
+        self.items.put(index, Packed { chain, ..item });
     }
 
-    // Writes the event before into an event.
+    // Writes the event two places before it into an event.
     #[inline]
     pub(crate) fn set_previous(&mut self, index: usize, previous: usize)
         requires index { index < length self.old }
-        requires previous { previous < length self.old }
+        requires near { previous + 2 ≡ index }
         ensures { self.new ≡ changed_at (with_previous (Some previous)) index self.old }
     {
         let item = *self.items.at(index);
-        let changed = Packed {
-            previous: kept_here(Some(previous)),
-            ..item
-        };
-        self.items.put(index, changed);
+        let chain = chain_with_previous(item.chain);
+        self.items.put(index, Packed { chain, ..item });
     }
 
     // The events, lent.
@@ -312,6 +400,7 @@ impl PackedList {
     {
         PackedSlice {
             items: self.items.as_slice(),
+            from: 0,
         }
     }
 
@@ -324,11 +413,13 @@ impl PackedList {
     {
         PackedSlice {
             items: &self.items.as_slice()[from..to],
+            from,
         }
     }
 
-    // Adds these events at the end, where the list does not grow too long. The answer is whether they are added.
+    // Adds these events at the end, which are linked to no other, where the list does not grow too long. The answer is whether they are added.
     pub(crate) fn extend_from_slice(&mut self, events: &PackedSlice) -> Result<bool, AllocError>
+        requires { All IsAlone events.now }
         ensures added { IfOk result (λ fits. IsTrue fits → self.new ≡ self.old ++ events.now) }
         ensures stays { IfOk result (λ fits. IsFalse fits → self.new ≡ self.old) }
         ensures err { OnErr result (self.new ≡ self.old) }
@@ -340,21 +431,23 @@ impl PackedList {
         Ok(true)
     }
 
-    // Writes the events from `from` to `to` once more, at another place, over what stands there.
+    // Writes the events from `from` to `to`, which are linked to no other, once more, at another place, over what stands there.
     #[inline(always)]
     pub(crate) fn move_within(&mut self, from: usize, to: usize, place: usize)
         requires order { from ≤ to }
         requires within { to ≤ length self.old }
         requires room { place + (to - from) ≤ length self.old }
+        requires alone { All IsAlone (take (to - from) (drop from self.old)) }
         ensures { self.new ≡ paste self.old place (drop from self.old) (to - from) }
     {
         self.items.move_within(from, to, place);
     }
 
-    // Writes these events at a place, over what stands there.
+    // Writes these events, which are linked to no other, at a place, over what stands there.
     #[inline]
     pub(crate) fn write(&mut self, place: usize, events: &PackedSlice)
-        requires { place + length events.now ≤ length self.old }
+        requires room { place + length events.now ≤ length self.old }
+        requires alone { All IsAlone events.now }
         ensures { self.new ≡ paste self.old place events.now (length events.now) }
     {
         self.items.write(place, events.items);
@@ -365,16 +458,20 @@ impl PackedList {
 #[derive(Drop)]
 pub(crate) struct PackedSlice<'a> {
     items: &'a [Packed],
+    // The number of the first of them.
+    from: usize,
 }
 
 impl<'a> Model for PackedSlice<'a> {
-    ghost use Rattle.std.specs.Prelude.{List};
-    ghost use Rattle.markdown_engine_events.specs.Packed.{all_unpacked};
+    ghost use Rattle.std.specs.Prelude.{List, ◌<◌, ◌^◌, ◌+◌, length};
+    ghost use Rattle.markdown_engine_events.specs.Packed.{unpacked_from};
     ghost use Rattle.markdown_event.specs.declared.event.Event.{Event};
 
     ghost Value = { List Event };
 
-    ghost view = { λ s. all_unpacked s.items.now };
+    ghost view = { λ s. unpacked_from s.from s.items.now };
+
+    ghost invariant = { λ s. s.from + length s.items.now < 2 ^ 32 };
 }
 
 impl<'a> PackedSlice<'a> {
@@ -393,7 +490,7 @@ impl<'a> PackedSlice<'a> {
         ensures { result ≡ slice_index_or self.now index result }
     {
         let items = self.items;
-        unpack(items[index])
+        unpack(items[index], self.from + index)
     }
 
     // The first event and those behind it, if there is one.
@@ -402,7 +499,13 @@ impl<'a> PackedSlice<'a> {
         ensures { MatchOption result (self.now ≡ []) (λ parts. self.now ≡ parts.0 ∷ parts.1) }
     {
         let (first, others) = self.items.split_first()?;
-        Some((unpack(*first), PackedSlice { items: others }))
+        Some((
+            unpack(*first, self.from),
+            PackedSlice {
+                items: others,
+                from: self.from + 1,
+            },
+        ))
     }
 
     // The events from `from` to `to`, lent.
@@ -414,6 +517,7 @@ impl<'a> PackedSlice<'a> {
     {
         PackedSlice {
             items: &self.items[from..to],
+            from: self.from + from,
         }
     }
 
@@ -438,6 +542,6 @@ impl<'a> PackedSlice<'a> {
     {
         let items = self.items;
         let item = items[index];
-        item.previous == 0 && item.next == 0
+        matches!(item.chain, Chain::Alone)
     }
 }

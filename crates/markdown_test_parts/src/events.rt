@@ -243,9 +243,8 @@ fn edit_one_place(
     events.push(plain(Kind::Exit, Name::Data))?;
     events.push(plain(Kind::Enter, Name::SpaceOrTab))?;
     events.push(plain(Kind::Exit, Name::SpaceOrTab))?;
-    events.push(linked(Name::LineEnding, None, Content::String, index))?;
+    events.push_linked(linked(Name::LineEnding, Some(0), Content::String, index))?;
     events.push(plain(Kind::Exit, Name::LineEnding))?;
-    events.connect(0, 4);
     map.add(2, 1, vec![in alloc; plain(Kind::Enter, Name::Emphasis)]?)?;
     map.add(2, 1, vec![in alloc; plain(Kind::Exit, Name::Emphasis)]?)?;
     map.add_before(2, 0, vec![in alloc; plain(Kind::Exit, Name::Strong)]?)?;

@@ -1,4 +1,4 @@
-// Whether nodes, leaves and pieces are the same where the events of a text stand as they are, and not in 24 bytes each.
+// Whether nodes, leaves and pieces are the same where the events of a text stand as they are, and not in 16 bytes each.
 ghost use Rattle.std.specs.Prelude.{◌≡◌, ◌≤◌, length, OnOk};
 ghost use Rattle.std.specs.List.{All};
 ghost use Rattle.markdown_content.specs.Content.{IsTextContent};
@@ -11,7 +11,7 @@ use markdown_inline::run::{Leaf, Leaves, leaves, text_list};
 use markdown_inline::tree::Tree;
 use std::alloc::{AllocError, Global};
 
-// An event that does not fit into 24 bytes.
+// An event that does not fit into 16 bytes.
 const LARGE: Event = Event {
     kind: Kind::Exit,
     name: Name::Data,

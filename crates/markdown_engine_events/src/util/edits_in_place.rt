@@ -1,7 +1,7 @@
 //! Edits of a list of events, applied in the list itself.
 ghost use Rattle.std.specs.Prelude.{◌≡◌, ◌≤◌, ◌+◌, ◌-◌, ◌++◌, length, take, drop, MatchOption, IfOk, OnErr, IsTrue, IsFalse};
 ghost use Rattle.std.specs.List.{All};
-ghost use Rattle.markdown_engine_events.specs.EventChains.{NamesNone};
+ghost use Rattle.markdown_engine_events.specs.EventChains.{IsAlone};
 ghost use Rattle.markdown_engine_events.specs.Edits.{edited, edits_of, grown, kept, AreBrought, AreGrowing, StandApart};
 
 use crate::packed::PackedList;
@@ -56,7 +56,7 @@ fn spread(items: &mut PackedList, comes: &PackedList, entries: &[Entry], count: 
     requires apart { StandApart 0 count (kept comes.now entries.now) }
     requires growing { AreGrowing (kept comes.now entries.now) }
     requires room { length items.old ≡ count + grown (kept comes.now entries.now) }
-    requires plain { All NamesNone (take count items.old) }
+    requires alone { All IsAlone (take count items.old) }
     ensures { items.new ≡ edited (kept comes.now entries.now) (take count items.old) }
 {
     let mut read = count;
@@ -73,9 +73,10 @@ fn spread(items: &mut PackedList, comes: &PackedList, entries: &[Entry], count: 
     }
 }
 
-// Moves so many events from the front of a list to its end.
+// Moves so many events from the front of a list to its end, which are linked to no other.
 fn move_to_end(items: &mut PackedList, count: usize)
-    requires { count ≤ length items.old }
+    requires within { count ≤ length items.old }
+    requires alone { All IsAlone (take count items.old) }
     ensures size { length items.new ≡ length items.old }
     ensures moved { drop (length items.old - count) items.new ≡ take count items.old }
 {
@@ -92,7 +93,7 @@ fn fill(items: &mut PackedList, comes: &PackedList, entries: &[Entry], count: us
     requires brought { AreBrought comes.now entries.now }
     requires apart { StandApart 0 count (kept comes.now entries.now) }
     requires room { length items.old ≡ count + grown (kept comes.now entries.now) }
-    requires plain { All NamesNone (drop (length items.old - count) items.old) }
+    requires alone { All IsAlone (drop (length items.old - count) items.old) }
     ensures { items.new ≡ edited (kept comes.now entries.now) (drop (length items.old - count) items.old) }
 {
     let len = items.len();
@@ -118,7 +119,7 @@ fn apply(items: &mut PackedList, comes: &PackedList, entries: &[Entry], count: u
     requires apart { StandApart 0 count (kept comes.now entries.now) }
     requires growing { IsTrue growing → AreGrowing (kept comes.now entries.now) }
     requires room { length items.old ≡ count + grown (kept comes.now entries.now) }
-    requires plain { All NamesNone (take count items.old) }
+    requires alone { All IsAlone (take count items.old) }
     ensures { items.new ≡ edited (kept comes.now entries.now) (take count items.old) }
 {
     if growing {
@@ -131,12 +132,13 @@ fn apply(items: &mut PackedList, comes: &PackedList, entries: &[Entry], count: u
 
 // How many events are added at once, at the most: what is copied is then in the nearest cache. So many packed events take just less than 4,096 bytes, from
 // which on the C library copies in another way.
-const AT_ONCE: usize = 170;
+const AT_ONCE: usize = 255;
 
 // Adds so many events at the end, whichever they are: some of the first of those that are given, again and again. The answer is whether the list does not
 // grow too long; where it does, it is as it was.
 fn add_room(items: &mut PackedList, given: &PackedList, more: usize) -> Result<bool, AllocError>
-    requires { more ≤ length given.now }
+    requires within { more ≤ length given.now }
+    requires alone { All IsAlone given.now }
     ensures stays { IfOk result (λ fits. IsTrue fits → take (length items.old) items.new ≡ items.old) }
     ensures room { IfOk result (λ fits. IsTrue fits → length items.new ≡ length items.old + more) }
     ensures full { IfOk result (λ fits. IsFalse fits → items.new ≡ items.old) }
@@ -171,7 +173,7 @@ pub(crate) fn apply_fit(
     requires more { fit.more ≡ grown (kept comes.now entries.now) }
     requires room { fit.more ≤ length comes.now }
     requires growing { IsTrue fit.growing → AreGrowing (kept comes.now entries.now) }
-    requires plain { All NamesNone items.old }
+    requires alone { All IsAlone items.old }
     ensures done { IfOk result (λ done. IsTrue done → items.new ≡ edited (kept comes.now entries.now) items.old) }
     ensures stays { IfOk result (λ done. IsFalse done → items.new ≡ items.old) }
     ensures err { OnErr result (items.new ≡ items.old) }

@@ -1,12 +1,11 @@
-use Rattle.std.proofs.Common.{◌≡◌, Some, refl, ap, ◌∙◌}
-use Rattle.markdown_engine_events.specs.EventChains.{with_previous, changed_at}
+use Rattle.std.proofs.Common.{refl}
 use Rattle.markdown_test_parts.proofs.EditedLists.{more, tested}
 use Rattle.markdown_test_parts.proofs.events.edit_one_place.Goals as goal
 
 pub consume-requires : goal.consume-requires
 consume-requires c =
     let events =
-    more _ _ _ _ _ (more _ _ _ _ _ (more _ _ _ _ _ (more _ _ _ _ _ (more _ _ _ _ _ (more _ _ _ _ _ c.requires.events c.linked.ensures c.in_ok-push.ensures.ok) c.plain.ensures c.in_ok-push-2.ensures.ok) c.plain-2.ensures c.in_ok-push-3.ensures.ok) c.plain-3.ensures c.in_ok-push-4.ensures.ok) c.linked-2.ensures c.in_ok-push-5.ensures.ok) c.plain-4.ensures c.in_ok-push-6.ensures.ok in
+    more _ _ _ _ _ (more _ _ _ _ _ (more _ _ _ _ _ (more _ _ _ _ _ (more _ _ _ _ _ (more _ _ _ _ _ c.requires.events c.linked.ensures c.in_ok-push.ensures.ok) c.plain.ensures c.in_ok-push-2.ensures.ok) c.plain-2.ensures c.in_ok-push-3.ensures.ok) c.plain-3.ensures c.in_ok-push-4.ensures.ok) c.linked-2.ensures c.in_ok-push_linked.ensures.ok) c.plain-4.ensures c.in_ok-push-5.ensures.ok in
     let log =
     more _ _ _ _ _ (more _ _ _ _ _ (more _ _ _ _ _ (more _ _ _ _ _ (more _ _ _ _ _ c.requires.map refl c.in_ok-add.ensures.ok) refl c.in_ok-add-2.ensures.ok) refl c.in_ok-add_before.ensures.ok) refl c.in_ok-add_before-2.ensures.ok) refl c.in_ok-add_slice.ensures.ok in
-    tested _ _ _ _ log (c.connect.ensures ∙ ap (changed_at (with_previous (Some 0)) 4) events) refl
+    tested _ _ _ _ log events refl

@@ -1,7 +1,7 @@
 use Rattle.std.proofs.Common.{◌≡◌, ◌≤◌, ◌<◌, ◌+◌, ◌-◌, ℕ, List, None, length, take, drop, ap, sym, refl, subst, ◌∙◌, arith}
 use Rattle.std.specs.List.{All}
 use Rattle.markdown_event.specs.declared.event.Event.{Event}
-use Rattle.markdown_engine_events.specs.EventChains.{bares, link_previous, next_link, EndsChain, IsAlone, IsChainedList, IsFresh}
+use Rattle.markdown_engine_events.specs.EventChains.{bares, link_previous, EndsChain, IsAlone, IsChainedList, IsFresh}
 use Rattle.markdown_engine_events.proofs.EventViewLemmas.{filled-of, part-alone, part-seen, part-fresh, part-ends, view-length, AreBare}
 use Rattle.markdown_engine_events.proofs.events.Events.alone.Goals as goal
 

@@ -1,4 +1,4 @@
-use Rattle.std.proofs.Common.{rules, arith, refl}
+use Rattle.std.proofs.Common.{rules}
 use Rattle.markdown_engine_events.specs.Edits.{edits_of}
 use Rattle.markdown_engine_events.proofs.EditOrder.{adds-unlinked}
 use Rattle.markdown_engine_events.proofs.EditsInPlace.{noted-edited, view-edited}

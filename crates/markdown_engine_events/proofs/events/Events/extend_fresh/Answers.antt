@@ -1,5 +1,8 @@
-use Rattle.markdown_engine_events.proofs.EventViewLemmas.{view-extended, noted-extended}
+use Rattle.markdown_engine_events.proofs.EventViewLemmas.{all-fresh-alone, view-extended, noted-extended}
 use Rattle.markdown_engine_events.proofs.events.Events.extend_fresh.Goals as goal
+
+pub extend_from_slice-requires : goal.extend_from_slice-requires
+extend_from_slice-requires c = all-fresh-alone _ c.requires
 
 pub invariant_of-self-2 : goal.invariant_of-self-2
 invariant_of-self-2 c =

@@ -1,8 +1,10 @@
-use Rattle.std.proofs.Common.{◌≡◌, ◌+◌, ◌-◌, ◌++◌, ℕ, length, take, drop, sym, ap, subst, ◌∙◌, arith, refl}
+use Rattle.std.proofs.Common.{◌≡◌, ◌+◌, ◌-◌, ◌++◌, ℕ, List, length, take, drop, sym, ap, subst, ◌∙◌, arith, refl}
 use Rattle.std.specs.List.{All}
 use Rattle.std.proofs.lemmas.List.{length-drop, length-map}
 use Rattle.std.proofs.lemmas.List.Edits.{length-paste}
-use Rattle.markdown_engine_events.specs.EventChains.{NamesNone}
+use Rattle.markdown_engine_events.specs.EventChains.{IsAlone, NamesNone}
+use Rattle.markdown_engine_events.proofs.EventViewLemmas.{all-alone-unnamed, all-unlinked-alone, alone-part}
+use Rattle.markdown_event.specs.declared.event.Event.{Event}
 use Rattle.markdown_engine_events.specs.Edits.{edit_of, kept, edited, edited_from}
 use Rattle.markdown_engine_events.proofs.EditOrder.{entry}
 use Rattle.markdown_engine_events.proofs.EditsInPlace.{fits-here, next-above, next-grown, next-ahead, fill-front, fill-back, fill-all}
@@ -52,8 +54,20 @@ overflow_add-end c =
     let above = next-above c.args.comes.now c.args.entries.now c.loop-edit.edit-index c.args.count c.loop-edit-test.true c.requires.apart c.loop-edit.read l.ahead in
     omega (arith, l.order, c.len-len.ensures, c.requires.room)
 
-pub write-requires : goal.write-requires
-write-requires c =
+pub move_within-requires-clause-alone : goal.move_within-requires-clause-alone
+move_within-requires-clause-alone c =
+    let room = c.len-len.result - c.args.count in
+    let read = c.loop-edit.read in
+    let n = room + (edit_of c.args.comes.now (entry c.args.entries.now c.loop-edit.edit-index)).at - (room + read) in
+    subst (λ (xs : List Event). All IsAlone (take n xs)) (sym c.loop-edit.invariant.back)
+    (alone-part (drop room c.args.items.now) n read (subst (λ k. All IsAlone (drop (k - c.args.count) c.args.items.now)) (sym c.len-len.ensures) c.requires.alone))
+
+pub write-requires-clause-alone : goal.write-requires-clause-alone
+write-requires-clause-alone c =
+    subst (All IsAlone) (sym c.slice-given.ensures) (alone-part c.args.comes.now _ _ (all-unlinked-alone _ c.requires.brought.unlinked))
+
+pub write-requires-clause-room : goal.write-requires-clause-room
+write-requires-clause-room c =
     let l = c.loop-edit.invariant in
     let cs = c.args.comes.now in
     let es = c.args.entries.now in
@@ -102,7 +116,7 @@ loop-edit-preserved c =
     let above = next-above cs es i count c.loop-edit-test.true c.requires.apart read l.ahead in
     let more = next-grown cs es i count c.loop-edit-test.true c.requires.apart in
     let brings = ap length c.slice-given.ensures in
-    let plain = subst (λ k. All NamesNone (drop (k - count) c.args.items.now)) (sym c.len-len.ensures) c.requires.plain in
+    let plain = subst (λ k. All NamesNone (drop (k - count) c.args.items.now)) (sym c.len-len.ensures) (all-alone-unnamed _ c.requires.alone) in
     let whole : length last ≡ count = omega (arith, length-drop room c.args.items.now, c.len-len.ensures, c.requires.room) in
     let long : length c.move_within.new.self ≡ length items =
     ap length c.move_within.ensures ∙ length-paste items end (drop (room + read) items) n (omega (arith, l.size, l.order)) (omega (arith, l.size, length-drop (room + read) items)) in

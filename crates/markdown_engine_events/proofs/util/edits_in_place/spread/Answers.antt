@@ -3,7 +3,9 @@ use Rattle.std.specs.List.{All}
 use Rattle.std.proofs.lemmas.List.{length-take, length-drop}
 use Rattle.std.proofs.lemmas.List.Edits.{length-paste}
 use Rattle.std.proofs.Math.Seq.{paste}
+use Rattle.markdown_engine_events.specs.EventChains.{IsAlone}
 use Rattle.markdown_engine_events.specs.Edits.{edit_of, kept, edited_from, grown}
+use Rattle.markdown_engine_events.proofs.EventViewLemmas.{all-alone-unnamed, all-unlinked-alone, alone-front-part, alone-part}
 use Rattle.markdown_engine_events.proofs.EditOrder.{entry}
 use Rattle.markdown_engine_events.proofs.EditsInPlace.{fits-here, ahead-here, edit-below, edit-first, edit-grows, edit-grown, grown-part, spread-back, spread-front, spread-all}
 use Rattle.markdown_engine_events.proofs.util.edits_in_place.spread.Goals as goal
@@ -34,8 +36,18 @@ overflow_sub-end-in-loop-index-2 c =
     let sum = edit-grown cs es i c.args.count c.loop-index.read c.loop-index-test.true (omega arith) c.requires.apart in
     omega (arith, l.gap, ap length c.slice-given.ensures)
 
-pub write-requires : goal.write-requires
-write-requires c =
+pub move_within-requires-clause-alone : goal.move_within-requires-clause-alone
+move_within-requires-clause-alone c =
+    let l = c.loop-index.invariant in
+    let below = edit-below c.args.comes.now c.args.entries.now c.loop-index.index c.args.count c.loop-index.read c.loop-index-test.true (omega arith) c.requires.apart l.next in
+    alone-front-part _ _ _ _ below l.front c.requires.alone
+
+pub write-requires-clause-alone : goal.write-requires-clause-alone
+write-requires-clause-alone c =
+    subst (All IsAlone) (sym c.slice-given.ensures) (alone-part c.args.comes.now _ _ (all-unlinked-alone _ c.requires.brought.unlinked))
+
+pub write-requires-clause-room : goal.write-requires-clause-room
+write-requires-clause-room c =
     let l = c.loop-index.invariant in
     let cs = c.args.comes.now in
     let es = c.args.entries.now in
@@ -91,7 +103,7 @@ loop-index-preserved c =
     record {
       size = omega (arith, ap length c.write.ensures, write_size, ap length c.move_within.ensures, moved_size, l.size);
       front = spread-front cs es k count here c.requires.apart old items c.move_within.new.self c.write.new.self xs read between to n (omega arith) (omega (arith, low)) (omega arith) (omega arith) (omega arith) c.move_within.ensures c.write.ensures l.front;
-      back = spread-back cs es k count here c.requires.apart old items c.move_within.new.self c.write.new.self xs read end between to size c.requires.plain below l.within start room (omega arith) (omega arith) c.move_within.ensures c.write.ensures brings l.front
+      back = spread-back cs es k count here c.requires.apart old items c.move_within.new.self c.write.new.self xs read end between to size (all-alone-unnamed _ c.requires.alone) below l.within start room (omega arith) (omega arith) c.move_within.ensures c.write.ensures brings l.front
           (subst (λ j. All (λ x. read ≤ x.at) (drop j log)) (sym last) l.ahead) (l.back ∙ ap (λ j. edited_from (drop j log) read (drop read old)) (sym last));
       gap = low;
       within = omega (arith, l.within);
@@ -107,5 +119,5 @@ returns c =
     let old = take c.args.count c.args.items.now in
     let all = ap (λ j. grown (take j log)) none in
     let size : length old ≡ c.args.count = omega (arith, length-take c.args.count c.args.items.now, c.requires.room) in
-    spread-all log old c.loop-index.items c.loop-index.read c.loop-index.end (omega (arith, l.gap, all)) (omega (arith, l.within)) c.requires.plain l.front
+    spread-all log old c.loop-index.items c.loop-index.read c.loop-index.end (omega (arith, l.gap, all)) (omega (arith, l.within)) (all-alone-unnamed _ c.requires.alone) l.front
     (subst (λ j. All (λ x. c.loop-index.read ≤ x.at) (drop j log)) none l.ahead) (l.back ∙ ap (λ j. edited_from (drop j log) c.loop-index.read (drop c.loop-index.read old)) none)
