@@ -1,5 +1,5 @@
 -- The runs of events are the same whatever the codes of the content, unless the rules take what stands beside a run from the content.
-use Rattle.std.proofs.Common.{◌≡◌, ◌∙◌, sym, ap, refl, inl, inr, ℕ, suc, ◌+◌, ◌-◌, Bool, true, false, ◌&&◌, not, if◌then◌else◌, List, [], ◌∷◌, ◌++◌, length, slice_index_or, Option, None}
+use Rattle.std.proofs.Common.{◌≡◌, ◌∙◌, sym, ap, refl, inl, inr, ℕ, suc, ◌+◌, ◌-◌, true, false, ◌&&◌, not, if◌then◌else◌, List, [], ◌∷◌, ◌++◌, length, slice_index_or, None}
 use Rattle.std.proofs.lemmas.Bool.{cases_Bool}
 use Rattle.markdown_content.specs.Beside.{has_code_before, has_code_behind}
 use Rattle.markdown_content.specs.Codes.{Code}

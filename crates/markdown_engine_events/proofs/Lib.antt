@@ -7,4 +7,5 @@ pub mod WalkedEdits
 pub mod EditOrder
 pub mod EditStretches
 pub mod EditsInPlace
+pub mod MarkLemmas
 pub mod PackedLemmas

@@ -14,7 +14,7 @@ use Rattle.markdown_engine_events.specs.EventChains.{changed_at, link_previous, 
 use Rattle.markdown_engine_events.specs.declared.packed.Packed.{Packed}
 use Rattle.markdown_engine_events.specs.declared.packed.Chain.{Chain}
 use Rattle.markdown_engine_events.specs.declared.packed.Chain.TheVariants.{Alone, First, Inner, Last}
-use Rattle.markdown_engine_events.specs.Packed.{content_in, content_of, link_kept, link_next, next_if, next_kept, previous_if, previous_kept, unpacked, unpacked_from}
+use Rattle.markdown_engine_events.specs.Packed.{all_unpacked, content_in, content_of, link_kept, link_next, next_if, next_kept, previous_if, previous_kept, unpacked, unpacked_from}
 
 -- a link by its parts
 pub link-parts : (l : Option Link) → link_kept (content_in l) (link_previous l) (link_next l) ≡ l
@@ -116,6 +116,16 @@ all-anywhere n m [] h = refl
 all-anywhere n m (p ∷ ps) h =
     ap (λ e. e ∷ unpacked_from (suc m) ps) (alone-anywhere p n m (h 0 (unpacked n p) (omega arith)))
     ∙ ap (λ es. unpacked n p ∷ es) (all-anywhere (suc n) (suc m) ps (λ k d l. h (suc k) d (omega arith)))
+
+-- and where they stand packed
+pub plain-anywhere : (ps : List Packed) (es : List Event) (n : ℕ) → all_unpacked ps ≡ es → All IsAlone es → unpacked_from n ps ≡ es
+plain-anywhere ps es n h a = from-plain ps n (subst (All IsAlone) (sym h) a) ∙ h
+  where
+    from-plain : (ps : List Packed) (n : ℕ) → All IsAlone (all_unpacked ps) → unpacked_from n ps ≡ all_unpacked ps
+    from-plain [] n a = refl
+    from-plain (p ∷ ps) n a =
+        ap (λ e. e ∷ unpacked_from (suc n) ps) (alone-anywhere p 0 n (a 0 (unpacked 0 p) (omega arith)))
+        ∙ ap (λ es. unpacked 0 p ∷ es) (from-plain ps (suc n) (λ k d l. a (suc k) d (omega arith)))
 
 -- the list with some of its events written over: by others that stand for the same everywhere
 unpacked-paste : (ps qs : List Packed) (es : List Event) (at k m : ℕ) → unpacked_from m (take k qs) ≡ es → All IsAlone es → at ≤ length ps →

@@ -2,5 +2,6 @@
 -- What has to be believed: what public contracts and the theorem cite.
 pub mod EventChains
 pub mod Edits
+pub mod Marks
 pub mod Packed
 pub mod Stored

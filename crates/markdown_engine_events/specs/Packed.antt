@@ -1,5 +1,5 @@
 -- Events in fewer bytes, and the events that they stand for.
-use Rattle.std.specs.Prelude.{ℕ, suc, ◌+◌, ◌-◌, Bool, true, false, List, [], ◌∷◌, Option, Some, None}
+use Rattle.std.specs.Prelude.{ℕ, suc, map, ◌+◌, ◌-◌, Bool, true, false, List, [], ◌∷◌, Option, Some, None}
 use Rattle.markdown_event.specs.declared.event.Event.{Event}
 use Rattle.markdown_event.specs.declared.event.Kind.{Kind}
 use Rattle.markdown_event.specs.declared.event.Kind.TheVariants.{Enter, Exit}
@@ -74,3 +74,7 @@ unpacked n p = record {
 abbrev pub unpacked_from : ℕ → List Packed → List Event
 unpacked_from n [] = []
 unpacked_from n (p ∷ ps) = unpacked n p ∷ unpacked_from (suc n) ps
+
+-- the events that stand packed where none of them is linked to another: each stands for the same whatever its number is
+abbrev pub all_unpacked : List Packed → List Event
+all_unpacked ps = map (unpacked 0) ps

@@ -3,10 +3,11 @@ ghost use Rattle.std.specs.Iterator.{YieldsFirst, item_count};
 ghost use Rattle.std.specs.Prelude.{◌≡◌, ◌<◌, ◌≤◌, ◌+◌, ◌-◌, ◌++◌, ◌∷◌, ◌==◌, [], length, take, drop, OnOk, OnErr, IfOk, IsTrue, IsFalse, MatchOption, Some, None, slice_index_or};
 ghost use Rattle.std.specs.List.{All};
 ghost use Rattle.markdown_engine_events.specs.EventChains.{changed_at, link_previous, next_link, previous_of, with_next, with_previous, IsAlone};
+ghost use Rattle.markdown_engine_events.specs.Marks.{marked};
 ghost use Rattle.markdown_engine_events.specs.Edits.{edited, edits_of, grown, AreBrought, AreGrowing, StandApart};
 
 use crate::packed::{PackedList, PackedSlice};
-use crate::util::edit_map::Kept;
+use crate::util::edit_map::{Kept, Mark};
 use crate::util::edits_in_place::{Fit, apply_fit};
 use crate::whole;
 use markdown_event::event::{Event, Point};
@@ -45,28 +46,61 @@ impl Model for EventList {
     ghost view = { λ s. stored_events s.stored };
 }
 
-// The same event, put together anew: so what hands it on to a call that is rare has it in memory of its own, and the other does without.
+// The same place, put together anew: so what hands it on to a call that is rare has it in memory of its own, and the other does without.
 #[inline(always)]
-fn apart(event: Event) -> Event
-    ensures { result ≡ event }
+fn point_apart(point: Point) -> Point
+    ensures { result ≡ point }
 {
     let Point {
         line,
         column,
         index,
         vs,
-    } = event.point;
+    } = point;
+    Point {
+        line,
+        column,
+        index,
+        vs,
+    }
+}
+
+// The same event, put together anew.
+#[inline(always)]
+fn apart(event: Event) -> Event
+    ensures { result ≡ event }
+{
     Event {
         kind: event.kind,
         name: event.name,
-        point: Point {
-            line,
-            column,
-            index,
-            vs,
-        },
+        point: point_apart(event.point),
         link: event.link,
     }
+}
+
+// The same marks, put together anew.
+#[inline(always)]
+fn marks_apart<const N: usize>(marks: &[Mark; N]) -> [Mark; N]
+    ensures { result ≡ marks.now }
+{
+    let mut anew = *marks;
+    for index in 0..N {
+        let Mark { kind, name, place } = marks[index];
+        anew[index] = Mark { kind, name, place };
+    }
+    anew
+}
+
+// The same places, put together anew.
+#[inline(always)]
+fn points_apart<const K: usize>(points: &[Point; K]) -> [Point; K]
+    ensures { result ≡ points.now }
+{
+    let mut anew = *points;
+    for index in 0..K {
+        anew[index] = point_apart(points[index]);
+    }
+    anew
 }
 
 impl EventList {
@@ -333,6 +367,50 @@ impl EventList {
             }
         }
         Ok(())
+    }
+
+    // Adds the events of marks at the end, one by one. `Err` only if memory is refused; the events are then as they were.
+    #[cold]
+    #[inline(never)]
+    fn push_each_mark(&mut self, marks: &[Mark], points: &[Point]) -> Result<(), AllocError>
+        requires { All (λ m. m.place < length points.now) marks.now }
+        ensures ok { OnOk result (self.new ≡ self.old ++ marked points.now marks.now) }
+        ensures err { OnErr result (self.new ≡ self.old) }
+    {
+        let count = self.len();
+        for index in 0..marks.len() {
+            let mark = marks[index];
+            let event = Event {
+                kind: mark.kind,
+                name: mark.name,
+                point: points[mark.place],
+                link: None,
+            };
+            if self.push(event).is_err() {
+                self.truncate(count);
+                return Err(AllocError);
+            }
+        }
+        Ok(())
+    }
+
+    // Adds the events of marks at the end. `Err` only if memory is refused; the events are then as they were.
+    #[inline(always)]
+    pub(crate) fn push_marked<const N: usize, const K: usize>(
+        &mut self,
+        marks: &[Mark; N],
+        points: &[Point; K],
+    ) -> Result<(), AllocError>
+        requires { All (λ m. m.place < K) marks.now }
+        ensures ok { OnOk result (self.new ≡ self.old ++ marked points.now marks.now) }
+        ensures err { OnErr result (self.new ≡ self.old) }
+    {
+        if let Stored::Packed(list) = &mut self.stored {
+            if list.push_marked(marks, points)? {
+                return Ok(());
+            }
+        }
+        self.push_each_mark(&marks_apart(marks), &points_apart(points))
     }
 
     // Applies edits that stand apart in the list itself, where the list and what the edits bring stand packed. The answer is whether they are applied.

@@ -6,11 +6,13 @@
 #![tactic(auto, using(crate::proofs::PackedLemmas::length_unpacked))]
 
 ghost use lib.Seq.{paste};
-ghost use Rattle.std.specs.Prelude.{◌≡◌, ◌<◌, ◌≤◌, ◌+◌, ◌-◌, ◌^◌, ◌++◌, ◌∷◌, ◌==◌, ℕ, [], length, take, drop, OnErr, IfOk, IsTrue, IsFalse, MatchOption, Some, None, slice_index_or, true};
+ghost use Rattle.std.specs.Prelude.{◌≡◌, ◌<◌, ◌≤◌, ◌+◌, ◌-◌, ◌^◌, ◌++◌, ◌∷◌, ◌==◌, ℕ, List, [], map, length, take, drop, OnErr, IfOk, IsTrue, IsFalse, MatchOption, Some, None, slice_index_or, true};
 ghost use Rattle.std.specs.List.{All};
 ghost use Rattle.markdown_engine_events.specs.EventChains.{changed_at, link_previous, next_link, previous_of, with_next, with_previous, IsAlone};
-ghost use Rattle.markdown_engine_events.specs.Packed.{content_in, content_of, kind_of, link_kept, link_next, next_if, next_kept, previous_if, previous_kept, unpacked};
+ghost use Rattle.markdown_engine_events.specs.Marks.{bare_at, marked};
+ghost use Rattle.markdown_engine_events.specs.Packed.{all_unpacked, content_in, content_of, kind_of, link_kept, link_next, next_if, next_kept, previous_if, previous_kept, unpacked};
 
+use crate::util::edit_map::Mark;
 use markdown_event::event::{Content, Event, Kind, Link, Name, Point};
 use markdown_event::seq::Seq;
 use std::alloc::{AllocError, Global};
@@ -219,6 +221,85 @@ fn chain_of(number: usize, link: Option<Link>) -> Option<Chain>
     Some(chain_with(previous, next))
 }
 
+// What stands where a packed event is to be written.
+const NOWHERE: Packed = Packed {
+    line: 0,
+    column: 0,
+    index: 0,
+    vs: 0,
+    name: Name::Data,
+    shape: Shape::Enter,
+    chain: Chain::Alone,
+};
+
+// A place, as an event of data that begins there. None where one of its numbers is too large.
+#[inline(always)]
+fn pack_place(point: Point) -> Option<Packed>
+    ensures { MatchOption result (Unit {0}) (λ packed. unpacked 0 packed ≡ bare_at point) }
+{
+    let Point {
+        line,
+        column,
+        index,
+        vs,
+    } = point;
+    if line > LARGEST || column > LARGEST || index > LARGEST || vs > MOST_OF_TAB {
+        return None;
+    }
+    Some(Packed {
+        line: line as u32,
+        column: column as u32,
+        index: index as u32,
+        vs: vs as u8,
+        ..NOWHERE
+    })
+}
+
+// Places, each as an event of data that begins there. None where a number is too large.
+#[inline(always)]
+fn pack_places<const K: usize>(points: &[Point; K]) -> Option<[Packed; K]>
+    ensures { MatchOption result (Unit {0}) (λ places. all_unpacked places ≡ map bare_at points.now) }
+{
+    let mut places = [NOWHERE; K];
+    for index in 0..K {
+        places[index] = pack_place(points[index])?;
+    }
+    Some(places)
+}
+
+// The shape of an event of this kind without a link.
+#[inline(always)]
+fn plain_shape(kind: Kind) -> Shape
+    ensures kind { kind_of result ≡ kind }
+    ensures plain { content_of result ≡ None }
+{
+    match kind {
+        Kind::Enter => Shape::Enter,
+        Kind::Exit => Shape::Exit,
+    }
+}
+
+// The events of marks, packed.
+#[inline(always)]
+fn pack_marks<const N: usize, const K: usize>(
+    marks: &[Mark; N],
+    places: &[Packed; K],
+) -> [Packed; N]
+    requires { All (λ m. m.place < K) marks.now }
+    ensures { (points : List Point) → all_unpacked places.now ≡ map bare_at points → all_unpacked result ≡ marked points marks.now }
+{
+    let mut events = [NOWHERE; N];
+    for index in 0..N {
+        let mark = marks[index];
+        events[index] = Packed {
+            name: mark.name,
+            shape: plain_shape(mark.kind),
+            ..places[mark.place]
+        };
+    }
+    events
+}
+
 // The event of this number, packed. None where it does not fit.
 #[inline(always)]
 fn pack(event: Event, number: usize) -> Option<Packed>
@@ -226,25 +307,14 @@ fn pack(event: Event, number: usize) -> Option<Packed>
     ensures is { MatchOption result (Unit {0}) (λ packed. unpacked number packed ≡ event) }
     ensures near { MatchOption result (Unit {0}) (λ packed. MatchOption (previous_of event) (Unit {0}) (λ p. p + 2 ≡ number)) }
 {
-    let Point {
-        line,
-        column,
-        index,
-        vs,
-    } = event.point;
-    if line > LARGEST || column > LARGEST || index > LARGEST || vs > MOST_OF_TAB {
-        return None;
-    }
+    let place = pack_place(event.point)?;
     let shape = shape_of(event.kind, event.link)?;
     let chain = chain_of(number, event.link)?;
     Some(Packed {
-        line: line as u32,
-        column: column as u32,
-        index: index as u32,
-        vs: vs as u8,
         name: event.name,
         shape,
         chain,
+        ..place
     })
 }
 
@@ -349,6 +419,28 @@ impl PackedList {
             return Ok(false);
         };
         self.items.push(item)?;
+        Ok(true)
+    }
+
+    // Adds the events of marks at the end, where their numbers fit. The answer is whether they do.
+    #[inline(always)]
+    pub(crate) fn push_marked<const N: usize, const K: usize>(
+        &mut self,
+        marks: &[Mark; N],
+        points: &[Point; K],
+    ) -> Result<bool, AllocError>
+        requires { All (λ m. m.place < K) marks.now }
+        ensures added { IfOk result (λ fits. IsTrue fits → self.new ≡ self.old ++ marked points.now marks.now) }
+        ensures stays { IfOk result (λ fits. IsFalse fits → self.new ≡ self.old) }
+        ensures err { OnErr result (self.new ≡ self.old) }
+    {
+        if N > LARGEST - self.items.len() {
+            return Ok(false);
+        }
+        let Some(places) = pack_places(points) else {
+            return Ok(false);
+        };
+        self.items.extend_from_slice(&pack_marks(marks, &places))?;
         Ok(true)
     }
 

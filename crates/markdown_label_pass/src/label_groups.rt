@@ -26,18 +26,19 @@
 ghost use Rattle.std.specs.Prelude.{◌≡◌, ◌+◌, ◌-◌, ◌<◌, ◌++◌, ◌∷◌, [], length, IfOk, OnOk, OnErr, IsTrue, None};
 ghost use Rattle.std.specs.List.{All};
 ghost use Rattle.markdown_engine.specs.PastTree.{appended_from};
-ghost use Rattle.markdown_content.specs.Tree.{event};
+ghost use Rattle.markdown_engine_events.specs.Marks.{marked};
 ghost use Rattle.markdown_event.specs.declared.event.Kind.{Kind};
+ghost use Rattle.markdown_event.specs.declared.event.Point.{Point};
 ghost use Rattle.markdown_content.specs.declared.label_kind.LabelKind.{LabelKind};
 ghost use Rattle.markdown_model.specs.Passes.{label_name};
-ghost use Rattle.markdown_label.specs.Brackets.{Brackets, grouped, place_at, opened, ended, closed, label_edits, labels_edits, loose_edits, loose_edit, replacing, IsLabelWithin, IsStartWithin};
+ghost use Rattle.markdown_label.specs.Brackets.{Brackets, grouped, place_at, opened, ended, closed, as_data, label_edits, labels_edits, loose_edits, loose_edit, replacing, IsLabelWithin, IsStartWithin};
 ghost use Rattle.markdown_label.specs.LabelsHandedOver.{HasBrackets, MayGroup, starts_of, unlabelled};
 
 use markdown_engine::tokenizer::{Label, LabelKind, LabelStart, TokenizeState, Tokenizer};
 use markdown_engine_events::events::Events;
 use markdown_engine_events::subtokenize::Subresult;
-use markdown_engine_events::util::edit_map::EditMap;
-use markdown_event::event::{Event, Kind, Name, Point};
+use markdown_engine_events::util::edit_map::{EditMap, Mark};
+use markdown_event::event::{Kind, Name, Point};
 use markdown_event::seq::Stack;
 use std::alloc::AllocError;
 
@@ -58,25 +59,23 @@ fn behind(events: &Events, index: usize) -> usize
     if index < count { index + 1 } else { count }
 }
 
-fn enter(name: Name, point: Point) -> Event
-    ensures { result ≡ event Kind.Enter name point }
+fn enter(name: Name, place: usize) -> Mark
+    ensures { result ≡ record { kind = Kind.Enter; name = name; place = place } }
 {
-    Event {
+    Mark {
         kind: Kind::Enter,
         name,
-        point,
-        link: None,
+        place,
     }
 }
 
-fn exit(name: Name, point: Point) -> Event
-    ensures { result ≡ event Kind.Exit name point }
+fn exit(name: Name, place: usize) -> Mark
+    ensures { result ≡ record { kind = Kind.Exit; name = name; place = place } }
 {
-    Event {
+    Mark {
         kind: Kind::Exit,
         name,
-        point,
-        link: None,
+        place,
     }
 }
 
@@ -91,84 +90,99 @@ fn group_name(kind: LabelKind) -> Name
     }
 }
 
-// What comes in place of the events of a link's start: the link's groups, the start, and the text's group.
-fn link_opened(start: Point, marker_end: Point) -> [Event; 7]
-    ensures { result ≡ opened LabelKind.Link start marker_end marker_end marker_end }
+// What comes in place of the events of a link's start: the link's groups, the start, and the text's group. The places are that of the first event and
+// that of the third.
+fn link_opened() -> [Mark; 7]
+    ensures events { (a b : Point) → marked (a ∷ b ∷ []) result ≡ opened LabelKind.Link a b b b }
+    ensures within { All (λ m. m.place < 2) result }
 {
     [
-        enter(Name::Link, start),
-        enter(Name::Label, start),
-        enter(Name::LabelLink, start),
-        enter(Name::LabelMarker, start),
-        exit(Name::LabelMarker, marker_end),
-        exit(Name::LabelLink, marker_end),
-        enter(Name::LabelText, marker_end),
+        enter(Name::Link, 0),
+        enter(Name::Label, 0),
+        enter(Name::LabelLink, 0),
+        enter(Name::LabelMarker, 0),
+        exit(Name::LabelMarker, 1),
+        exit(Name::LabelLink, 1),
+        enter(Name::LabelText, 1),
     ]
 }
 
-// The same for a link whose text begins with the caret of a footnote start: the caret is data, the first in the text.
-fn caret_opened(start: Point, marker_end: Point, caret: Point, end: Point) -> [Event; 9]
-    ensures { result ≡ opened LabelKind.GfmUndefinedFootnote start marker_end caret end }
+// The same for a link whose text begins with the caret of a footnote start: the caret is data, the first in the text. Here and below the places are those
+// of the first event, the third, the fourth and the last.
+fn caret_opened() -> [Mark; 9]
+    ensures events { (a b c d : Point) → marked (a ∷ b ∷ c ∷ d ∷ []) result ≡ opened LabelKind.GfmUndefinedFootnote a b c d }
+    ensures within { All (λ m. m.place < 4) result }
 {
     [
-        enter(Name::Link, start),
-        enter(Name::Label, start),
-        enter(Name::LabelLink, start),
-        enter(Name::LabelMarker, start),
-        exit(Name::LabelMarker, marker_end),
-        exit(Name::LabelLink, marker_end),
-        enter(Name::LabelText, marker_end),
-        enter(Name::Data, caret),
-        exit(Name::Data, end),
+        enter(Name::Link, 0),
+        enter(Name::Label, 0),
+        enter(Name::LabelLink, 0),
+        enter(Name::LabelMarker, 0),
+        exit(Name::LabelMarker, 1),
+        exit(Name::LabelLink, 1),
+        enter(Name::LabelText, 1),
+        enter(Name::Data, 2),
+        exit(Name::Data, 3),
     ]
 }
 
 // The same for an image.
-fn image_opened(start: Point, marker_end: Point, bracket: Point, end: Point) -> [Event; 9]
-    ensures { result ≡ opened LabelKind.Image start marker_end bracket end }
+fn image_opened() -> [Mark; 9]
+    ensures events { (a b c d : Point) → marked (a ∷ b ∷ c ∷ d ∷ []) result ≡ opened LabelKind.Image a b c d }
+    ensures within { All (λ m. m.place < 4) result }
 {
     [
-        enter(Name::Image, start),
-        enter(Name::Label, start),
-        enter(Name::LabelImage, start),
-        enter(Name::LabelImageMarker, start),
-        exit(Name::LabelImageMarker, marker_end),
-        enter(Name::LabelMarker, bracket),
-        exit(Name::LabelMarker, end),
-        exit(Name::LabelImage, end),
-        enter(Name::LabelText, end),
+        enter(Name::Image, 0),
+        enter(Name::Label, 0),
+        enter(Name::LabelImage, 0),
+        enter(Name::LabelImageMarker, 0),
+        exit(Name::LabelImageMarker, 1),
+        enter(Name::LabelMarker, 2),
+        exit(Name::LabelMarker, 3),
+        exit(Name::LabelImage, 3),
+        enter(Name::LabelText, 3),
     ]
 }
 
 // The same for a footnote call.
-fn call_opened(start: Point, marker_end: Point, caret: Point, end: Point) -> [Event; 9]
-    ensures { result ≡ opened LabelKind.GfmFootnote start marker_end caret end }
+fn call_opened() -> [Mark; 9]
+    ensures events { (a b c d : Point) → marked (a ∷ b ∷ c ∷ d ∷ []) result ≡ opened LabelKind.GfmFootnote a b c d }
+    ensures within { All (λ m. m.place < 4) result }
 {
     [
-        enter(Name::GfmFootnoteCall, start),
-        enter(Name::Label, start),
-        enter(Name::GfmFootnoteCallLabel, start),
-        enter(Name::LabelMarker, start),
-        exit(Name::LabelMarker, marker_end),
-        enter(Name::GfmFootnoteCallMarker, caret),
-        exit(Name::GfmFootnoteCallMarker, end),
-        exit(Name::GfmFootnoteCallLabel, end),
-        enter(Name::LabelText, end),
+        enter(Name::GfmFootnoteCall, 0),
+        enter(Name::Label, 0),
+        enter(Name::GfmFootnoteCallLabel, 0),
+        enter(Name::LabelMarker, 0),
+        exit(Name::LabelMarker, 1),
+        enter(Name::GfmFootnoteCallMarker, 2),
+        exit(Name::GfmFootnoteCallMarker, 3),
+        exit(Name::GfmFootnoteCallLabel, 3),
+        enter(Name::LabelText, 3),
     ]
 }
 
-// What comes in place of an end's events: the text's group ends, and behind the end the label's.
-fn ended(start: Point, end: Point) -> [Event; 6]
-    ensures { result ≡ ended start end }
+// What comes in place of an end's events: the text's group ends, and behind the end the label's. The places are those of the first event and the last.
+fn ended() -> [Mark; 6]
+    ensures events { (a b : Point) → marked (a ∷ b ∷ []) result ≡ ended a b }
+    ensures within { All (λ m. m.place < 2) result }
 {
     [
-        exit(Name::LabelText, start),
-        enter(Name::LabelEnd, start),
-        enter(Name::LabelMarker, start),
-        exit(Name::LabelMarker, end),
-        exit(Name::LabelEnd, end),
-        exit(Name::Label, end),
+        exit(Name::LabelText, 0),
+        enter(Name::LabelEnd, 0),
+        enter(Name::LabelMarker, 0),
+        exit(Name::LabelMarker, 1),
+        exit(Name::LabelEnd, 1),
+        exit(Name::Label, 1),
     ]
+}
+
+// What comes in place of a start that becomes data. The places are those of the first event and the last.
+fn as_data() -> [Mark; 2]
+    ensures events { (a b : Point) → marked (a ∷ b ∷ []) result ≡ as_data a b }
+    ensures within { All (λ m. m.place < 2) result }
+{
+    [enter(Name::Data, 0), exit(Name::Data, 1)]
 }
 
 // Marks the start of a link. Each kind has a function of its own, so that none makes room for another kind's events.
@@ -181,8 +195,8 @@ fn mark_link(label: &Label, events: &Events, map: &mut EditMap) -> Result<(), Al
     let (first, last) = label.start;
     let start = place(events, first);
     let marker_end = place(events, first + 2);
-    let comes = link_opened(start, marker_end);
-    map.add_array(first, behind(events, last) - first, comes)
+    let count = behind(events, last) - first;
+    map.add_marked(first, count, &link_opened(), [start, marker_end])
 }
 
 // The same for a link whose text begins with the caret of a footnote start.
@@ -196,8 +210,8 @@ fn mark_caret(label: &Label, events: &Events, map: &mut EditMap) -> Result<(), A
     let start = place(events, first);
     let marker_end = place(events, first + 2);
     let second = place(events, first + 3);
-    let comes = caret_opened(start, marker_end, second, place(events, last));
-    map.add_array(first, behind(events, last) - first, comes)
+    let places = [start, marker_end, second, place(events, last)];
+    map.add_marked(first, behind(events, last) - first, &caret_opened(), places)
 }
 
 // The same for an image.
@@ -211,8 +225,8 @@ fn mark_image(label: &Label, events: &Events, map: &mut EditMap) -> Result<(), A
     let start = place(events, first);
     let marker_end = place(events, first + 2);
     let second = place(events, first + 3);
-    let comes = image_opened(start, marker_end, second, place(events, last));
-    map.add_array(first, behind(events, last) - first, comes)
+    let places = [start, marker_end, second, place(events, last)];
+    map.add_marked(first, behind(events, last) - first, &image_opened(), places)
 }
 
 // The same for a footnote call.
@@ -226,8 +240,8 @@ fn mark_call(label: &Label, events: &Events, map: &mut EditMap) -> Result<(), Al
     let start = place(events, first);
     let marker_end = place(events, first + 2);
     let second = place(events, first + 3);
-    let comes = call_opened(start, marker_end, second, place(events, last));
-    map.add_array(first, behind(events, last) - first, comes)
+    let places = [start, marker_end, second, place(events, last)];
+    map.add_marked(first, behind(events, last) - first, &call_opened(), places)
 }
 
 // Marks the start of a label.
@@ -251,8 +265,8 @@ fn mark_end(label: &Label, events: &Events, map: &mut EditMap) -> Result<(), All
         ≡ map.old ++ replacing l.end.0 4 (ended (place_at events.now l.end.0) (place_at events.now (l.end.0 + 3))) ∷ []) }
 {
     let (first, _last) = label.end;
-    let comes = ended(place(events, first), place(events, first + 3));
-    map.add_array(first, 4, comes)
+    let places = [place(events, first), place(events, first + 3)];
+    map.add_marked(first, 4, &ended(), places)
 }
 
 // Marks where a label's group ends.
@@ -261,8 +275,8 @@ fn mark_close(label: &Label, events: &Events, map: &mut EditMap) -> Result<(), A
     ensures { let l = label.now in OnOk result (map.new ≡ map.old ++ replacing (l.end.1 + 1) 0 (closed l.kind (place_at events.now l.end.1)) ∷ []) }
 {
     let last = label.end.1;
-    let comes = [exit(group_name(label.kind), place(events, last))];
-    map.add_array(behind(events, last), 0, comes)
+    let comes = [exit(group_name(label.kind), 0)];
+    map.add_marked(behind(events, last), 0, &comes, [place(events, last)])
 }
 
 // Marks what a label changes.
@@ -292,11 +306,8 @@ fn mark_loose(start: (usize, usize), events: &Events, map: &mut EditMap) -> Resu
     ensures { OnOk result (map.new ≡ map.old ++ loose_edit events.now start ∷ []) }
 {
     let (first, last) = start;
-    let comes = [
-        enter(Name::Data, place(events, first)),
-        exit(Name::Data, place(events, last)),
-    ];
-    map.add_array(first, behind(events, last) - first, comes)
+    let places = [place(events, first), place(events, last)];
+    map.add_marked(first, behind(events, last) - first, &as_data(), places)
 }
 
 // Marks the starts whose ends failed.

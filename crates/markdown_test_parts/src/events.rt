@@ -23,7 +23,7 @@ use markdown_content::util::slice::Position;
 use markdown_engine_events::event_list::EventSlice;
 use markdown_engine_events::events::Events;
 use markdown_engine_events::subtokenize::link;
-use markdown_engine_events::util::edit_map::EditMap;
+use markdown_engine_events::util::edit_map::{EditMap, Mark};
 use markdown_event::event::{Content, Event, Kind, Link, Name, Point};
 use std::alloc::{AllocError, Global};
 
@@ -277,7 +277,18 @@ fn edit_two_places(
     events.push(data(Kind::Enter, 0))?;
     events.push(data(Kind::Exit, last))?;
     map.add_array(1, 1, [data(Kind::Exit, 1), data(Kind::Enter, brought)])?;
-    map.add_array(4, 0, [data(Kind::Enter, 2)])?;
+    let mark = Mark {
+        kind: Kind::Enter,
+        name: Name::Data,
+        place: 0,
+    };
+    let place = Point {
+        line: 1,
+        column: 1,
+        index: 2,
+        vs: 0,
+    };
+    map.add_marked(4, 0, &[mark], [place])?;
     map.consume(events)
 }
 

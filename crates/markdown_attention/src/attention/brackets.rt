@@ -2,10 +2,14 @@
 #![tactic(auto)]
 
 ghost use Rattle.std.specs.Prelude.{◌≡◌, ◌+◌, ◌<◌, ◌^◌, ◌++◌, ◌∷◌, [], IfOk, OnOk, reverse};
+ghost use Rattle.std.specs.List.{All};
 ghost use Rattle.markdown_content.specs.Tree.{event};
+ghost use Rattle.markdown_engine_events.specs.Marks.{marked};
+ghost use Rattle.markdown_event.specs.declared.event.Point.{Point};
 ghost use Rattle.markdown_model.specs.BracketGroups.{pair_names};
 ghost use Rattle.markdown_attention.specs.RunEvents.{shifted, total, closing_at, opening_at, closings_from, openings_from, data_at, marker_events};
 
+use markdown_engine_events::util::edit_map::Mark;
 use markdown_event::event::{Event, Kind, Name, Point};
 use std::alloc::AllocError;
 
@@ -44,8 +48,9 @@ fn pair_names(marker: u8, size: usize) -> PairNames
     }
 }
 
-// The place so many codes further on, on the same line.
-fn shifted(point: Point, by: usize) -> Point
+/// The place so many codes further on, on the same line.
+#[inline(always)]
+pub(crate) fn shifted(point: Point, by: usize) -> Point
     requires column { point.column + by < 2 ^ 64 }
     requires index { point.index + by < 2 ^ 64 }
     ensures { result ≡ shifted point by }
@@ -71,38 +76,57 @@ fn event(kind: Kind, name: Name, point: Point) -> Event
     }
 }
 
-/// The events of a closing bracket.
+// A mark at a place of this number.
 #[inline(always)]
-pub(crate) fn closing(marker: u8, from: Point, size: usize) -> [Event; 4]
-    requires column { from.column + size < 2 ^ 64 }
-    requires index { from.index + size < 2 ^ 64 }
-    ensures { result ≡ closing_at marker from size }
+fn mark(kind: Kind, name: Name, place: usize) -> Mark
+    ensures { result ≡ record { kind = kind; name = name; place = place } }
+{
+    Mark { kind, name, place }
+}
+
+/// The marks of a closing bracket. Their places are those where it begins and where it ends.
+#[inline(always)]
+pub(crate) fn closing(marker: u8, size: usize) -> [Mark; 4]
+    ensures events { (p : Point) → marked (p ∷ shifted p size ∷ []) result ≡ closing_at marker p size }
+    ensures within { All (λ m. m.place < 2) result }
 {
     let names = pair_names(marker, size);
-    let to = shifted(from, size);
     [
-        event(Kind::Exit, names.text, from),
-        event(Kind::Enter, names.sequence, from),
-        event(Kind::Exit, names.sequence, to),
-        event(Kind::Exit, names.group, to),
+        mark(Kind::Exit, names.text, 0),
+        mark(Kind::Enter, names.sequence, 0),
+        mark(Kind::Exit, names.sequence, 1),
+        mark(Kind::Exit, names.group, 1),
     ]
 }
 
-/// The events of an opening bracket.
+/// The marks of an opening bracket. Their places are those where it begins and where it ends.
 #[inline(always)]
-pub(crate) fn opening(marker: u8, from: Point, size: usize) -> [Event; 4]
-    requires column { from.column + size < 2 ^ 64 }
-    requires index { from.index + size < 2 ^ 64 }
-    ensures { result ≡ opening_at marker from size }
+pub(crate) fn opening(marker: u8, size: usize) -> [Mark; 4]
+    ensures events { (p : Point) → marked (p ∷ shifted p size ∷ []) result ≡ opening_at marker p size }
+    ensures within { All (λ m. m.place < 2) result }
 {
     let names = pair_names(marker, size);
-    let to = shifted(from, size);
     [
-        event(Kind::Enter, names.group, from),
-        event(Kind::Enter, names.sequence, from),
-        event(Kind::Exit, names.sequence, to),
-        event(Kind::Enter, names.text, to),
+        mark(Kind::Enter, names.group, 0),
+        mark(Kind::Enter, names.sequence, 0),
+        mark(Kind::Exit, names.sequence, 1),
+        mark(Kind::Enter, names.text, 1),
     ]
+}
+
+// Appends the events of marks at these places.
+fn push_marks(
+    events: &mut Vec<Event>,
+    marks: &[Mark; 4],
+    places: &[Point; 2],
+) -> Result<(), AllocError>
+    requires { All (λ m. m.place < 2) marks.now }
+    ensures { OnOk result (events.new.items ≡ events.old.items ++ marked places.now marks.now) }
+{
+    for mark in marks {
+        events.push(event(mark.kind, mark.name, places[mark.place]))?;
+    }
+    Ok(())
 }
 
 // Appends the events of a closing bracket, and answers where it ends.
@@ -117,8 +141,9 @@ fn push_closing(
     ensures end { IfOk result (λ p. p ≡ shifted from size) }
     ensures events { OnOk result (events.new.items ≡ events.old.items ++ closing_at marker from size) }
 {
-    events.extend_from_slice(&closing(marker, from, size))?;
-    Ok(shifted(from, size))
+    let to = shifted(from, size);
+    push_marks(events, &closing(marker, size), &[from, to])?;
+    Ok(to)
 }
 
 // Appends the events of an opening bracket, and answers where it ends.
@@ -133,8 +158,9 @@ fn push_opening(
     ensures end { IfOk result (λ p. p ≡ shifted from size) }
     ensures events { OnOk result (events.new.items ≡ events.old.items ++ opening_at marker from size) }
 {
-    events.extend_from_slice(&opening(marker, from, size))?;
-    Ok(shifted(from, size))
+    let to = shifted(from, size);
+    push_marks(events, &opening(marker, size), &[from, to])?;
+    Ok(to)
 }
 
 // Appends the events of markers that no pair takes, and answers where they end.

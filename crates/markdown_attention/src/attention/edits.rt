@@ -9,7 +9,7 @@ ghost use Rattle.markdown_attention.specs.RunEdits.{edits_by, run_edits, point_i
 ghost use Rattle.markdown_attention.specs.PairSizes.{side_of, HasRoom, HasRoomFor, added_for};
 ghost use Rattle.markdown_attention.specs.SolePairs.{IsSole, HasRoomFrom, edit_from};
 
-use crate::attention::brackets::{closing, opening, run_events};
+use crate::attention::brackets::{closing, opening, run_events, shifted};
 use crate::attention::pairing::Pair;
 use crate::attention::runs::Sequence;
 use crate::attention::sizes::Sizes;
@@ -97,8 +97,14 @@ fn edit_run(
     ensures { OnOk result (map.new ≡ map.old ++ edit_from from fronts.now backs.now run.now ∷ []) }
 {
     match sole_pair(run, fronts, backs) {
-        Sole::Closing(size) => map.add_array(run.event, 2, closing(run.marker, from, size)),
-        Sole::Opening(size) => map.add_array(run.event, 2, opening(run.marker, from, size)),
+        Sole::Closing(size) => {
+            let places = [from, shifted(from, size)];
+            map.add_marked(run.event, 2, &closing(run.marker, size), places)
+        }
+        Sole::Opening(size) => {
+            let places = [from, shifted(from, size)];
+            map.add_marked(run.event, 2, &opening(run.marker, size), places)
+        }
         Sole::Neither => edit_any(map, lists, run, from, fronts, backs),
     }
 }

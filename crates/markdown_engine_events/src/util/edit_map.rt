@@ -3,11 +3,12 @@ ghost use Rattle.std.specs.Prelude.{◌≡◌, ◌≢◌, ℕ, ◌<◌, ◌≤�
 ghost use Rattle.std.specs.List.{All};
 ghost use Rattle.std.specs.List.Sorted.{IsNonDecreasingBy};
 ghost use Rattle.markdown_engine_events.specs.EventChains.{bare, EndsChain, IsFresh, IsLinked, IsUnlinked};
+ghost use Rattle.markdown_engine_events.specs.Marks.{marked};
 ghost use Rattle.markdown_engine_events.specs.Edits.{removed_at, front_at, back_at, added_at, edit_of, kept, edits_of, number_of, renumbered, noted, edited, AreBrought, AreKept, IsRest, CanEdit};
 
 use crate::event_list::{EventList, EventSlice};
 use crate::events::Events;
-use markdown_event::event::{Event, Link};
+use markdown_event::event::{Event, Kind, Link, Name, Point};
 use markdown_event::seq::{Seq, Stack};
 use std::alloc::{AllocError, Global};
 use std::marker::Model;
@@ -23,6 +24,17 @@ pub struct Edit {
     pub events: Seq<Event>,
     /// Whether they come before those that earlier edits put there, and not behind.
     pub before: bool,
+}
+
+/// An event without a link, whose place is one of those that are given to `EditMap::add_marked`: so what a construct brings is a table.
+#[derive(Clone, Copy)]
+pub struct Mark {
+    /// Whether a group begins or ends.
+    pub kind: Kind,
+    /// The name of the group.
+    pub name: Name,
+    /// The number of the place among those that are given, the first at 0.
+    pub place: usize,
 }
 
 // One edit, as a map keeps it.
@@ -396,6 +408,21 @@ fn push_each<const N: usize>(comes: &mut EventList, events: [Event; N]) -> Resul
     Ok(())
 }
 
+// Adds the events of marks at these places.
+#[inline(always)]
+fn push_marks<const N: usize, const K: usize>(
+    comes: &mut EventList,
+    marks: &[Mark; N],
+    points: &[Point; K],
+) -> Result<(), AllocError>
+    requires { All (λ m. m.place < K) marks.now }
+    ensures ok { OnOk result (comes.new ≡ comes.old ++ marked points.now marks.now) }
+    ensures err { OnErr result (comes.new ≡ comes.old) }
+{
+    make_room(comes)?;
+    comes.push_marked(marks, points)
+}
+
 impl EditMap {
     /// No edit. Takes no memory.
     pub fn new(alloc: Global) -> EditMap
@@ -520,6 +547,40 @@ impl EditMap {
     {
         let from = self.comes.len();
         push_each(&mut self.comes, events)?;
+        let entry = Entry {
+            at,
+            remove,
+            from,
+            to: self.comes.len(),
+            before: false,
+        };
+        match self.log.push(entry) {
+            Ok(()) => Ok(()),
+            Err(_) => {
+                self.comes.truncate(from);
+                Err(AllocError)
+            }
+        }
+    }
+
+    /// As `add`, with the events of marks at these places: the numbers of each place are looked at once.
+    ///
+    /// `Err` only if memory is refused; the edits are then as they were.
+    #[inline(always)]
+    pub fn add_marked<const N: usize, const K: usize>(
+        &mut self,
+        at: usize,
+        remove: usize,
+        marks: &[Mark; N],
+        points: [Point; K],
+    ) -> Result<(), AllocError>
+        requires { All (λ m. m.place < K) marks.now }
+        ensures ok { OnOk result (self.new
+            ≡ self.old ++ (record { at = at; remove = remove; events = marked points.entry marks.now; before = false }) ∷ []) }
+        ensures err { OnErr result (self.new ≡ self.old) }
+    {
+        let from = self.comes.len();
+        push_marks(&mut self.comes, marks, &points)?;
         let entry = Entry {
             at,
             remove,
