@@ -13,6 +13,7 @@ pub mod ClearBytes
 pub mod StillEvents
 pub mod StillTrees
 pub mod DataSearch
+pub mod LentEvents
 pub mod MergeEdits
 pub mod MergePassLaw
 pub mod TrimWalks

@@ -9,12 +9,14 @@
 
 ghost use Rattle.std.specs.Prelude.{◌≡◌, ◌+◌, ◌-◌, ◌^◌, ◌<◌, ◌≤◌, ◌++◌, ℕ, IfOk, OnOk, OnErr, IsTrue, None, [], length, slice_index_or, true, false};
 ghost use Rattle.markdown_event.specs.declared.event.Name.TheVariants.{Data};
+ghost use Rattle.markdown_engine_events.specs.EventChains.{chained};
 ghost use Rattle.markdown_engine.specs.PastTree.{appended_from};
 ghost use Rattle.markdown_content.specs.Tree.{Forest};
 ghost use Rattle.markdown_model.specs.Passes.{merged};
 ghost use Rattle.markdown_passes.specs.MergedEvents.{opens_data, closes_data, ends_joint, marked, joints, HasData};
 
 use markdown_engine::tokenizer::Tokenizer;
+use markdown_engine_events::event_list::EventSlice;
 use markdown_engine_events::events::Events;
 use markdown_engine_events::subtokenize::Subresult;
 use markdown_engine_events::util::edit_map::EditMap;
@@ -29,12 +31,22 @@ pub fn opens_data(event: &Event) -> bool
     matches!(event.name, Name::Data) && matches!(event.kind, Kind::Enter) && event.link.is_none()
 }
 
+// How many events there are, by the list in which they are lent.
+#[inline(always)]
+pub(crate) fn lent_len(events: &Events, items: &EventSlice) -> usize
+    requires lent { items.now ≡ chained events.now }
+    ensures { result ≡ length events.now }
+{
+    items.len()
+}
+
 // How many events are looked at with no other look between.
 const EIGHT: usize = 8;
 
 // How many of the eight events from this index on come before the first Enter of data without a link.
 #[inline(always)]
-fn others_among_eight(events: &Events, at: usize) -> usize
+fn others_among_eight(events: &Events, items: &EventSlice, at: usize) -> usize
+    requires lent { items.now ≡ chained events.now }
     requires within { at + EIGHT ≤ length events.now }
     requires counted { length events.now < 2 ^ 64 }
     ensures within { result ≤ EIGHT }
@@ -42,28 +54,51 @@ fn others_among_eight(events: &Events, at: usize) -> usize
     ensures here { (e : Event) → result < EIGHT → opens_data (slice_index_or events.now (at + result) e) ≡ true }
 {
     for count in 0..EIGHT {
-        if opens_data(&events.bare_at(at + count)) {
+        if opens_data(&items.at(at + count)) {
             return count;
         }
     }
     EIGHT
 }
 
-// As `next_data`, where few events are left.
+// As `next_lent`, where few events are left.
 #[inline(always)]
-fn next_of_few(events: &Events, from: usize) -> usize
-    requires { from ≤ length events.now }
+fn next_of_few(events: &Events, items: &EventSlice, from: usize) -> usize
+    requires lent { items.now ≡ chained events.now }
+    requires order { from ≤ length events.now }
     ensures from { from ≤ result }
     ensures within { result ≤ length events.now }
     ensures none { (i : ℕ) (e : Event) → from ≤ i → i < result → opens_data (slice_index_or events.now i e) ≡ false }
     ensures here { (e : Event) → result < length events.now → opens_data (slice_index_or events.now result e) ≡ true }
 {
-    let count = events.len();
+    let count = lent_len(events, items);
     let mut at = from;
-    while at < count && !opens_data(&events.bare_at(at)) {
+    while at < count && !opens_data(&items.at(at)) {
         at += 1;
     }
     at
+}
+
+// As `next_data`, where the events are lent already: in which form the list stands is then looked up once for many calls.
+#[inline(always)]
+pub(crate) fn next_lent(events: &Events, items: &EventSlice, from: usize) -> usize
+    requires lent { items.now ≡ chained events.now }
+    requires order { from ≤ length events.now }
+    ensures from { from ≤ result }
+    ensures within { result ≤ length events.now }
+    ensures none { (i : ℕ) (e : Event) → from ≤ i → i < result → opens_data (slice_index_or events.now i e) ≡ false }
+    ensures here { (e : Event) → result < length events.now → opens_data (slice_index_or events.now result e) ≡ true }
+{
+    let count = lent_len(events, items);
+    let mut at = from;
+    while count - at >= EIGHT {
+        let others = others_among_eight(events, items, at);
+        at += others;
+        if others < EIGHT {
+            return at;
+        }
+    }
+    next_of_few(events, items, at)
 }
 
 /// The number of the first Enter of data without a link from an event on, or how many events there are.
@@ -77,16 +112,8 @@ pub fn next_data(events: &Events, from: usize) -> usize
     ensures none { (i : ℕ) (e : Event) → from ≤ i → i < result → opens_data (slice_index_or events.now i e) ≡ false }
     ensures here { (e : Event) → result < length events.now → opens_data (slice_index_or events.now result e) ≡ true }
 {
-    let count = events.len();
-    let mut at = from;
-    while count - at >= EIGHT {
-        let others = others_among_eight(events, at);
-        at += others;
-        if others < EIGHT {
-            return at;
-        }
-    }
-    next_of_few(events, at)
+    let items = events.as_slice();
+    next_lent(events, &items, from)
 }
 
 // Whether this is the Exit of data. The name is looked at first, since most events have another.
@@ -98,7 +125,9 @@ fn closes_data(event: &Event) -> bool
 
 // Whether data without a link stands right before this event, where such data begins. Its Exit is looked for first, since most of these events
 // have another before them.
-fn is_joint(events: &Events, index: usize) -> bool
+#[inline(always)]
+fn is_joint(events: &Events, items: &EventSlice, index: usize) -> bool
+    requires lent { items.now ≡ chained events.now }
     requires within { index < length events.now }
     requires opens { (e : Event) → opens_data (slice_index_or events.now index e) ≡ true }
     ensures { result ≡ ends_joint index events.now }
@@ -106,10 +135,30 @@ fn is_joint(events: &Events, index: usize) -> bool
     if index < 2 {
         return false;
     }
-    if !closes_data(&events.bare_at(index - 1)) {
+    if !closes_data(&items.at(index - 1)) {
         return false;
     }
-    opens_data(&events.bare_at(index - 2))
+    opens_data(&items.at(index - 2))
+}
+
+// As `mark`, where the events are lent already.
+#[inline(always)]
+pub(crate) fn mark_lent(
+    events: &Events,
+    items: &EventSlice,
+    map: &mut EditMap,
+    index: usize,
+) -> Result<(), AllocError>
+    requires lent { items.now ≡ chained events.now }
+    requires within { index < length events.now }
+    requires opens { (e : Event) → opens_data (slice_index_or events.now index e) ≡ true }
+    ensures ok { OnOk result (map.new ≡ map.old ++ marked (ends_joint index events.now) (index - 1)) }
+    ensures err { OnErr result (map.new ≡ map.old) }
+{
+    if is_joint(events, items, index) {
+        map.add_slice(index - 1, 2, &[])?;
+    }
+    Ok(())
 }
 
 /// Where data without a link stands right before this event, at which such data begins: marks the Exit of the one and the Enter of the other to go.
@@ -122,10 +171,8 @@ pub fn mark(events: &Events, map: &mut EditMap, index: usize) -> Result<(), Allo
     ensures ok { OnOk result (map.new ≡ map.old ++ marked (ends_joint index events.now) (index - 1)) }
     ensures err { OnErr result (map.new ≡ map.old) }
 {
-    if is_joint(events, index) {
-        map.add_slice(index - 1, 2, &[])?;
-    }
-    Ok(())
+    let items = events.as_slice();
+    mark_lent(events, &items, map, index)
 }
 
 // Marks what is to go where data stands behind data.

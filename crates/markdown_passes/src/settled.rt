@@ -12,13 +12,15 @@ ghost use Rattle.markdown_content.specs.Tree.{Forest};
 ghost use Rattle.markdown_model.specs.Passes.{HardBreaks, merged, trimmed, with_emails_apart};
 ghost use Rattle.markdown_passes.specs.MergedEvents.{joints, opens_data, HasData};
 ghost use Rattle.markdown_passes.specs.TrimmedData.{IsStretch};
-ghost use Rattle.markdown_passes.specs.TrimmedEvents.{FirstDataHasPlaces, HasPlaces, HasParts};
+ghost use Rattle.markdown_passes.specs.TrimmedEvents.{flag, goes_before, loses_first, FirstDataHasPlaces, HasPlaces, HasParts};
+ghost use Rattle.markdown_engine_events.specs.EventChains.{chained};
 ghost use Rattle.markdown_passes.specs.EmailScan.{has_sign};
 ghost use Rattle.markdown_passes.specs.OpenData.{is_open_at, HasOpenData, IsClear, IsStill};
 
 use crate::email::begins_signed;
-use crate::partial_data::{mark, next_data};
-use crate::partial_whitespace::data_loses;
+use crate::partial_data::{lent_len, mark_lent, next_data, next_lent};
+use crate::partial_whitespace::{closes_ending, data_loses, loses_blank, opens_ending};
+use markdown_engine_events::event_list::EventSlice;
 use markdown_engine_events::events::Events;
 use markdown_engine_events::util::edit_map::EditMap;
 use markdown_event::event::{Event, Point};
@@ -92,16 +94,65 @@ pub(crate) fn has_sign(bytes: &[u8], clear: &mut Clear, from: Point, to: Point) 
     clear.to < to.index
 }
 
+// Whether blank codes behind what stands before this event go, where the whole is trimmed too: after a line ending, and at the start.
+#[inline(always)]
+fn front_goes(events: &Events, items: &EventSlice, index: usize) -> bool
+    requires lent { items.now ≡ chained events.now }
+    requires within { index ≤ length events.now }
+    ensures { result ≡ flag index true events.now }
+{
+    if index == 0 {
+        return true;
+    }
+    closes_ending(&items.at(index - 1))
+}
+
+// Whether blank codes before this event go, where the whole is trimmed too: before a line ending, and at the end.
+#[inline(always)]
+fn back_goes(events: &Events, items: &EventSlice, index: usize) -> bool
+    requires lent { items.now ≡ chained events.now }
+    requires within { index ≤ length events.now }
+    ensures { result ≡ goes_before true (drop index events.now) }
+{
+    if index == items.len() {
+        return true;
+    }
+    opens_ending(&items.at(index))
+}
+
+// Whether data that carries no link, and is known to begin at this event, loses blank codes, at the ends of the whole too.
+#[inline(always)]
+fn loses_lent(bytes: &[u8], events: &Events, items: &EventSlice, index: usize) -> bool
+    requires fits { length bytes.now ≤ document_limit }
+    requires lent { items.now ≡ chained events.now }
+    requires within { index < length events.now }
+    requires counted { length events.now < 2 ^ 64 }
+    requires places { FirstDataHasPlaces bytes.now (drop index events.now) }
+    requires opens { (e : Event) → opens_data (slice_index_or events.now index e) ≡ true }
+    ensures { result ≡ loses_first bytes.now true (flag index true events.now) (drop index events.now) }
+{
+    let enter = items.at(index);
+    let front = front_goes(events, items, index);
+    let back = back_goes(events, items, index + 2);
+    if !front && !back {
+        return false;
+    }
+    let exit = items.at(index + 1);
+    loses_blank(bytes, front, back, enter.point, exit.point)
+}
+
 // Whether all data so far is settled, and this data too: it loses no blank codes, at the ends of the whole neither, and has no `@`.
 #[inline(always)]
 fn stays_settled(
     bytes: &[u8],
     events: &Events,
+    items: &EventSlice,
     clear: &mut Clear,
     index: usize,
     settled: bool,
 ) -> bool
     requires fits { length bytes.now ≤ document_limit }
+    requires lent { items.now ≡ chained events.now }
     requires clear { IsClear bytes.now clear.old }
     requires within { index < length events.now }
     requires counted { length events.now < 2 ^ 64 }
@@ -110,11 +161,11 @@ fn stays_settled(
     ensures value { result ≡ settled && not (is_open_at bytes.now true events.now index) }
     ensures clear { IsClear bytes.now clear.new }
 {
-    if !settled || data_loses(bytes, events, index, true) {
+    if !settled || loses_lent(bytes, events, items, index) {
         return false;
     }
-    let enter = events.bare_at(index);
-    let exit = events.bare_at(index + 1);
+    let enter = items.at(index);
+    let exit = items.at(index + 1);
     !has_sign(bytes, clear, enter.point, exit.point)
 }
 
@@ -144,14 +195,15 @@ fn mark_each(bytes: &[u8], events: &Events, map: &mut EditMap) -> Result<bool, A
     ensures settled { IfOk result (λ settled. IsTrue settled → IsStill bytes.now true true events.now) }
     ensures open { IfOk result (λ settled. settled ≡ false → HasOpenData bytes.now true events.now) }
 {
+    let items = events.as_slice();
     let mut clear = clear_at_first(bytes, events);
     let mut settled = true;
-    let count = events.len();
-    let mut index = next_data(events, 0);
+    let count = lent_len(events, &items);
+    let mut index = next_lent(events, &items, 0);
     while index < count {
-        mark(events, map, index)?;
-        settled = stays_settled(bytes, events, &mut clear, index, settled);
-        index = next_data(events, index + 1);
+        mark_lent(events, &items, map, index)?;
+        settled = stays_settled(bytes, events, &items, &mut clear, index, settled);
+        index = next_lent(events, &items, index + 1);
     }
     Ok(settled)
 }

@@ -1,6 +1,6 @@
 use Rattle.std.proofs.Common.{◌≤◌, ◌-◌, length}
 use Rattle.markdown_passes.proofs.DataSearch.{BeginsNone}
-use Rattle.markdown_passes.proofs.partial_data.next_data.Given as goal
+use Rattle.markdown_passes.proofs.partial_data.next_lent.Given as goal
 
 -- no data begins before the event at hand
 abbrev pub invariant-loop-at : goal.invariant-loop-at
