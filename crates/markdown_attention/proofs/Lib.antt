@@ -41,3 +41,4 @@ pub mod RunRoom
 pub mod LabelTreeMayPair
 pub mod PairsToEdits
 pub mod RunsInOrderMayPair
+pub mod PrintableClasses

@@ -16,26 +16,55 @@ use markdown_event::seq::Stack;
 use markdown_util::util::char::{self, Kind as CharacterKind};
 use std::alloc::{AllocError, Global};
 
-// What the rules read at a character.
-fn as_read(rules: Rules, beside: Option<char>) -> Option<char>
-    ensures { result ≡ as_read rules beside }
+// What the rules read at a character, where they do or do not read U+FFFD at NUL.
+fn as_read(nul_is_replaced: bool, beside: Option<char>) -> Option<char>
+    ensures { (rules : Rules) → rules.nul_is_replaced ≡ nul_is_replaced → result ≡ as_read rules beside }
 {
     match beside {
-        Some('\0') if rules.nul_is_replaced => Some('\u{FFFD}'),
+        Some('\0') if nul_is_replaced => Some('\u{FFFD}'),
         _ => beside,
     }
 }
 
-// The class of a character beside a run.
+// The class of a character beside a run, by the two rules that say so. It is kept out of line, since most characters are printable ASCII.
+#[inline(never)]
 #[tactic(auto, unfolding(markdown_model::specs::Runs::class_beside))]
-fn class_beside(rules: Rules, beside: Option<char>) -> CharacterKind
-    ensures { result ≡ class_beside rules beside }
+fn class_by_rules(listed_spaces: bool, nul_is_replaced: bool, beside: Option<char>) -> CharacterKind
+    ensures { (rules : Rules) → rules.listed_spaces ≡ listed_spaces → rules.nul_is_replaced ≡ nul_is_replaced → result ≡ class_beside rules beside }
 {
-    let read = as_read(rules, beside);
-    if rules.listed_spaces {
+    let read = as_read(nul_is_replaced, beside);
+    if listed_spaces {
         char::classify_listed(read)
     } else {
         char::classify_opt(read)
+    }
+}
+
+// The class of a printable character of ASCII, whatever the rules are. Letters are looked for first, since most of these characters are letters.
+fn class_of_printable(c: char) -> CharacterKind
+    requires low { 32 ≤ c }
+    requires high { c < 127 }
+    ensures { (rules : Rules) → result ≡ class_beside rules (Some c) }
+{
+    if 'a' <= c && c <= 'z' {
+        CharacterKind::Other
+    } else if c == ' ' {
+        CharacterKind::Whitespace
+    } else if c.is_ascii_punctuation() {
+        CharacterKind::Punctuation
+    } else {
+        CharacterKind::Other
+    }
+}
+
+// The class of a character beside a run.
+#[inline(always)]
+fn class_beside(rules: Rules, beside: Option<char>) -> CharacterKind
+    ensures { result ≡ class_beside rules beside }
+{
+    match beside {
+        Some(c) if ' ' <= c && c <= '~' => class_of_printable(c),
+        _ => class_by_rules(rules.listed_spaces, rules.nul_is_replaced, beside),
     }
 }
 
