@@ -263,32 +263,18 @@ fn trimmed_data(
     Ok(())
 }
 
-// Whether this is the Enter of a line ending.
+// Whether this is the Enter of a line ending. The name is looked at first, since most events have another.
 pub(crate) fn opens_ending(event: &Event) -> bool
     ensures { result ≡ opens_ending event.now }
 {
-    matches!(
-        event,
-        Event {
-            kind: Kind::Enter,
-            name: Name::LineEnding,
-            ..
-        }
-    )
+    matches!(event.name, Name::LineEnding) && matches!(event.kind, Kind::Enter)
 }
 
-// Whether this is the Exit of a line ending.
+// Whether this is the Exit of a line ending. The name is looked at first, since most events have another.
 pub(crate) fn closes_ending(event: &Event) -> bool
     ensures { result ≡ closes_ending event.now }
 {
-    matches!(
-        event,
-        Event {
-            kind: Kind::Exit,
-            name: Name::LineEnding,
-            ..
-        }
-    )
+    matches!(event.name, Name::LineEnding) && matches!(event.kind, Kind::Exit)
 }
 
 // Whether blank codes before the event of this number go.

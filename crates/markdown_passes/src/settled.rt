@@ -4,7 +4,7 @@
 //! change an event, nor do they once neighbouring data is merged. Most texts are so.
 #![tactic(auto)]
 
-ghost use Rattle.std.specs.Prelude.{◌≡◌, ◌≢◌, ◌<◌, ◌≤◌, ◌^◌, ◌&&◌, ◌||◌, not, Bool, ℕ, None, IfOk, OnOk, OnErr, IsTrue, [], true, false, length, drop, slice_index_or};
+ghost use Rattle.std.specs.Prelude.{◌≡◌, ◌≢◌, ◌<◌, ◌≤◌, ◌+◌, ◌^◌, ◌&&◌, ◌||◌, not, Bool, ℕ, None, IfOk, OnOk, OnErr, IsTrue, [], true, false, length, drop, slice_index_or};
 ghost use Rattle.std.specs.Str.{byte};
 ghost use Rattle.markdown_content.specs.Content.{document_limit};
 ghost use Rattle.markdown_engine.specs.PastTree.{appended_from};
@@ -120,24 +120,32 @@ fn back_goes(events: &Events, items: &EventSlice, index: usize) -> bool
     opens_ending(&items.at(index))
 }
 
-// Whether data that carries no link, and is known to begin at this event, loses blank codes, at the ends of the whole too.
+// Whether data that carries no link, and is known to begin at this event, loses blank codes, at the ends of the whole too. Its Enter and its Exit
+// are given, since they are looked at for an `@` too.
 #[inline(always)]
-fn loses_lent(bytes: &[u8], events: &Events, items: &EventSlice, index: usize) -> bool
+fn loses_lent(
+    bytes: &[u8],
+    events: &Events,
+    items: &EventSlice,
+    index: usize,
+    enter: Event,
+    exit: Event,
+) -> bool
     requires fits { length bytes.now ≤ document_limit }
     requires lent { items.now ≡ chained events.now }
     requires within { index < length events.now }
     requires counted { length events.now < 2 ^ 64 }
     requires places { FirstDataHasPlaces bytes.now (drop index events.now) }
     requires opens { (e : Event) → opens_data (slice_index_or events.now index e) ≡ true }
+    requires enter { enter ≡ slice_index_or items.now index enter }
+    requires exit { exit ≡ slice_index_or items.now (index + 1) exit }
     ensures { result ≡ loses_first bytes.now true (flag index true events.now) (drop index events.now) }
 {
-    let enter = items.at(index);
     let front = front_goes(events, items, index);
     let back = back_goes(events, items, index + 2);
     if !front && !back {
         return false;
     }
-    let exit = items.at(index + 1);
     loses_blank(bytes, front, back, enter.point, exit.point)
 }
 
@@ -161,11 +169,14 @@ fn stays_settled(
     ensures value { result ≡ settled && not (is_open_at bytes.now true events.now index) }
     ensures clear { IsClear bytes.now clear.new }
 {
-    if !settled || loses_lent(bytes, events, items, index) {
+    if !settled {
         return false;
     }
     let enter = items.at(index);
     let exit = items.at(index + 1);
+    if loses_lent(bytes, events, items, index, enter, exit) {
+        return false;
+    }
     !has_sign(bytes, clear, enter.point, exit.point)
 }
 
