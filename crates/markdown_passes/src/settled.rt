@@ -143,10 +143,7 @@ fn loses_lent(
 {
     let front = front_goes(events, items, index);
     let back = back_goes(events, items, index + 2);
-    if !front && !back {
-        return false;
-    }
-    loses_blank(bytes, front, back, enter.point, exit.point)
+    (front || back) && loses_blank(bytes, front, back, enter.point, exit.point)
 }
 
 // Whether all data so far is settled, and this data too: it loses no blank codes, at the ends of the whole neither, and has no `@`.

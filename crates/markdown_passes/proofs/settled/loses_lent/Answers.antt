@@ -17,9 +17,10 @@ back_goes-back-requires-clause-within c =
     let s : Seen c.args.events.now c.args.index c.args.enter = seen c.args.events.now c.args.items.now c.args.index c.args.enter c.requires.lent c.requires.within c.requires.enter in
     omega (arith, next-within c.args.bytes.now c.args.index c.args.events.now s.event (data-closes c.args.bytes.now c.args.index c.args.events.now s.event c.requires.within s.at c.requires.opens c.requires.places))
 
-pub returns-then-not-back : goal.returns-then-not-back
-returns-then-not-back c =
-    sym (loses-none c.args.bytes.now true _ c.args.index c.args.events.now (sym c.front_goes-front.ensures ∙ c.if-not-front.true) (sym c.back_goes-back.ensures ∙ c.if-not-back.true))
+pub returns-else-back : goal.returns-else-back
+returns-else-back c =
+    let none = loses-none c.args.bytes.now true _ c.args.index c.args.events.now (sym c.front_goes-front.ensures ∙ c.if-back.false.0) (sym c.back_goes-back.ensures ∙ c.if-back.false.1) in
+    grind (arith, none, c.if-back.false)
 
 pub loses_blank-requires : goal.loses_blank-requires
 loses_blank-requires c =
@@ -32,8 +33,8 @@ loses_blank-requires c =
     let stretch : IsStretch bytes s.event.point t.event.point = stretch-first bytes c.args.index es s.event t.event more t.at closes in
     record { stretch = subst (λ p. IsStretch bytes p c.args.exit.point) (sym s.point) (subst (λ p. IsStretch bytes s.event.point p) (sym t.point) stretch) }
 
-pub returns : goal.returns
-returns c =
+pub returns-then-back : goal.returns-then-back
+returns-then-back c =
     let es : List Event = c.args.events.now in
     let bytes = c.args.bytes.now in
     let s : Seen es c.args.index c.args.enter = seen es c.args.items.now c.args.index c.args.enter c.requires.lent c.requires.within c.requires.enter in
