@@ -1,11 +1,12 @@
 //! Text with references in place of markup, and addresses with what may not stand in one percent-encoded.
 #![tactic(auto)]
 
-ghost use Rattle.std.specs.Prelude.{◌≡◌, ◌++◌, ◌<◌, ◌≤◌, OnOk, length, slice_range};
+ghost use Rattle.std.specs.Prelude.{◌≡◌, ◌++◌, ◌+◌, ◌<◌, ◌≤◌, IfOk, OnOk, ℕ, length, slice_index, slice_range, true};
 ghost use Rattle.std.specs.List.{prefix_len};
-ghost use Rattle.markdown_html_model.specs.Escaped.{escaped_byte, escaped, address_byte, addressed, is_address_byte, begins_encoded, hexadecimal};
+ghost use Rattle.markdown_html_model.specs.Escaped.{escaped_byte, escaped, address_byte, addressed, is_address_byte, is_kept, begins_encoded, hexadecimal};
 
-use crate::kept::kept_until;
+use crate::kept::{kept_among, kept_one_by_one};
+use markdown_content::lanes::LANES;
 use std::alloc::AllocError;
 
 // Appends a byte as HTML.
@@ -21,6 +22,47 @@ fn push_byte(out: &mut Vec<u8>, byte: u8) -> Result<(), AllocError>
         other => out.push(other)?,
     }
     Ok(())
+}
+
+// Appends so many of the sixteen bytes from an index on.
+//
+// All sixteen are copied together, which is faster than a copy of so many, and those too many are taken off.
+#[inline(always)]
+fn push_front(out: &mut Vec<u8>, bytes: &[u8], at: usize, count: usize) -> Result<(), AllocError>
+    requires room { at + LANES ≤ length bytes.now }
+    requires few { count ≤ LANES }
+    ensures { OnOk result (out.new.items ≡ out.old.items ++ slice_range bytes.now at (at + count)) }
+{
+    let len = out.len();
+    out.extend_from_slice(&bytes[at..at + LANES])?;
+    out.truncate(len + count);
+    Ok(())
+}
+
+// Appends bytes from an index on that stand as they are, and answers where they end: at `to`, or at a byte that does not stand as it is.
+//
+// Sixteen bytes are looked at together, those behind `to` with them. Where fewer than sixteen are left of all the bytes, they are looked at one by one.
+#[inline(always)]
+fn push_kept(out: &mut Vec<u8>, bytes: &[u8], from: usize, to: usize) -> Result<usize, AllocError>
+    requires low { from ≤ to }
+    requires high { to ≤ length bytes.now }
+    ensures low { IfOk result (λ end. from ≤ end) }
+    ensures high { IfOk result (λ end. end ≤ to) }
+    ensures kept { IfOk result (λ end. (k : ℕ) → from ≤ k → k < end → is_kept (slice_index bytes.now k) ≡ true) }
+    ensures out { IfOk result (λ end. out.new.items ≡ out.old.items ++ slice_range bytes.now from end) }
+{
+    let mut at = from;
+    while at < to && bytes.len() - at >= LANES {
+        let count = kept_among(bytes, at).min(to - at);
+        push_front(out, bytes, at, count)?;
+        at += count;
+        if count < LANES {
+            return Ok(at);
+        }
+    }
+    let end = kept_one_by_one(bytes, at, to);
+    out.extend_from_slice(&bytes[at..end])?;
+    Ok(end)
 }
 
 /// Appends the bytes from one index to another as `push_escaped` appends a text.
@@ -41,8 +83,7 @@ pub fn push_escaped_between(
 {
     let mut at = from;
     loop {
-        let kept = kept_until(bytes, at, to);
-        out.extend_from_slice(&bytes[at..kept])?;
+        let kept = push_kept(out, bytes, at, to)?;
         if kept == to {
             return Ok(());
         }

@@ -24,7 +24,7 @@ fn first_set(mask: u64) -> usize
 //
 // Without its second bit `>` is `<`, and without its third bit `&` is `"`. No other byte becomes either, so three looks find all five that do not stand as they are.
 #[inline(always)]
-fn kept_among(bytes: &[u8], at: usize) -> usize
+pub(crate) fn kept_among(bytes: &[u8], at: usize) -> usize
     requires { at + LANES ≤ length bytes.now }
     ensures within { result ≤ LANES }
     ensures kept { (k : ℕ) → at ≤ k → k < at + result → is_kept (slice_index bytes.now k) ≡ true }
@@ -44,7 +44,7 @@ fn is_kept(byte: u8) -> bool
 }
 
 // Where the first byte from an index on stands that does not stand as it is, or `to` where each does. The bytes are looked at one by one.
-fn kept_one_by_one(bytes: &[u8], from: usize, to: usize) -> usize
+pub(crate) fn kept_one_by_one(bytes: &[u8], from: usize, to: usize) -> usize
     requires low { from ≤ to }
     requires high { to ≤ length bytes.now }
     ensures low { from ≤ result }
@@ -56,29 +56,4 @@ fn kept_one_by_one(bytes: &[u8], from: usize, to: usize) -> usize
         at += 1;
     }
     at
-}
-
-// An index up to which all bytes from `from` on stand as they are. It is `to`, or a byte stands there that does not stand as it is.
-//
-// Sixteen bytes are looked at together, those behind `to` with them. Where fewer than sixteen are left of all the bytes, they are looked at one by one.
-#[inline(always)]
-pub(crate) fn kept_until(bytes: &[u8], from: usize, to: usize) -> usize
-    requires low { from ≤ to }
-    requires high { to ≤ length bytes.now }
-    ensures low { from ≤ result }
-    ensures high { result ≤ to }
-    ensures kept { (k : ℕ) → from ≤ k → k < result → is_kept (slice_index bytes.now k) ≡ true }
-{
-    let mut at = from;
-    while at < to {
-        if bytes.len() - at < LANES {
-            return kept_one_by_one(bytes, at, to);
-        }
-        let count = kept_among(bytes, at);
-        if count < LANES {
-            return to.min(at + count);
-        }
-        at += LANES;
-    }
-    to
 }

@@ -4,7 +4,8 @@
 ghost use Rattle.std.specs.Prelude.{◌≡◌};
 ghost use Rattle.markdown_html_model.specs.Roles.{role_of};
 
-use markdown_event::event::Name;
+use markdown_event::event::{NAMES, Name};
+use markdown_event::event_names;
 
 /// Where HTML is written.
 #[derive(Clone, Copy, Debug, PartialEq, Eq)]
@@ -20,38 +21,6 @@ pub enum Within {
 /// What stands for something in the HTML.
 #[derive(Clone, Copy, Debug, PartialEq, Eq)]
 pub enum Role {
-    /// Text as it stands.
-    Plain,
-    /// A line ending.
-    LineEnd,
-    /// A hard break.
-    Break,
-    /// A line of raw HTML.
-    Raw,
-    /// A URI, which is its own text: of an autolink.
-    Uri,
-    /// The address of an email: of an autolink.
-    Email,
-    /// A URI that stands by itself.
-    UriLiteral,
-    /// An address without its scheme that stands by itself.
-    WwwLiteral,
-    /// The address of an email that stands by itself.
-    EmailLiteral,
-    /// The check of a task, done where it holds text.
-    Check,
-    /// Emphasis.
-    Emphasis,
-    /// Strong emphasis.
-    Strong,
-    /// Strikethrough.
-    Strikethrough,
-    /// A code span.
-    Code,
-    /// A math span.
-    Math,
-    /// A character reference.
-    Reference,
     /// A link.
     Link,
     /// An image.
@@ -70,50 +39,95 @@ pub enum Role {
     Title,
     /// A resource.
     Resource,
-    /// What follows the label of a full or a collapsed reference.
-    Tail,
+    /// Text as it stands.
+    Plain,
+    /// A line ending.
+    LineEnd,
+    /// A hard break.
+    Break,
+    /// A line of raw HTML.
+    Raw,
+    /// A URI, which is its own text: of an autolink.
+    Uri,
+    /// The address of an email: of an autolink.
+    Email,
+    /// A URI that stands by itself.
+    UriLiteral,
+    /// An address without its scheme that stands by itself.
+    WwwLiteral,
+    /// The address of an email that stands by itself.
+    EmailLiteral,
+    /// Emphasis.
+    Emphasis,
+    /// Strong emphasis.
+    Strong,
+    /// Strikethrough.
+    Strikethrough,
     /// Markers, and what only holds others: nothing by itself.
     Silent,
+    /// A code span.
+    Code,
+    /// A math span.
+    Math,
+    /// A character reference.
+    Reference,
+    /// The check of a task, done where it holds text.
+    Check,
+    /// What follows the label of a full or a collapsed reference.
+    Tail,
 }
+
+// What an event of a name stands for, by the word of the name.
+macro_rules! role_named {
+    (Data) => { Role::Plain };
+    (CharacterEscapeValue) => { Role::Plain };
+    (CodeTextData) => { Role::Plain };
+    (MathTextData) => { Role::Plain };
+    (GfmTaskListItemValueChecked) => { Role::Plain };
+    (LineEnding) => { Role::LineEnd };
+    (HardBreakEscape) => { Role::Break };
+    (HardBreakTrailing) => { Role::Break };
+    (HtmlTextData) => { Role::Raw };
+    (AutolinkProtocol) => { Role::Uri };
+    (AutolinkEmail) => { Role::Email };
+    (GfmAutolinkLiteralProtocol) => { Role::UriLiteral };
+    (GfmAutolinkLiteralMailto) => { Role::UriLiteral };
+    (GfmAutolinkLiteralXmpp) => { Role::UriLiteral };
+    (GfmAutolinkLiteralWww) => { Role::WwwLiteral };
+    (GfmAutolinkLiteralEmail) => { Role::EmailLiteral };
+    (GfmTaskListItemCheck) => { Role::Check };
+    (Emphasis) => { Role::Emphasis };
+    (Strong) => { Role::Strong };
+    (GfmStrikethrough) => { Role::Strikethrough };
+    (CodeText) => { Role::Code };
+    (MathText) => { Role::Math };
+    (CharacterReference) => { Role::Reference };
+    (Link) => { Role::Link };
+    (Image) => { Role::Image };
+    (GfmFootnoteCall) => { Role::Footnote };
+    (LabelText) => { Role::Label };
+    (ReferenceString) => { Role::FullReference };
+    (ResourceDestinationString) => { Role::Destination };
+    (ResourceTitleString) => { Role::TitleText };
+    (ResourceTitle) => { Role::Title };
+    (Resource) => { Role::Resource };
+    (Reference) => { Role::Tail };
+    ($other:ident) => { Role::Silent };
+}
+
+macro_rules! roles {
+    ($($of_all:ident)*) => {
+        [$(role_named!($of_all),)*]
+    };
+}
+
+// What the events stand for, by the numbers of their names.
+static ROLES: [Role; NAMES] = event_names!(roles);
 
 /// What an event of this name stands for.
 #[inline(always)]
 pub fn role_of(name: Name) -> Role
     ensures { result ≡ role_of name }
 {
-    match name {
-        Name::Data
-        | Name::CharacterEscapeValue
-        | Name::CodeTextData
-        | Name::MathTextData
-        | Name::GfmTaskListItemValueChecked => Role::Plain,
-        Name::LineEnding => Role::LineEnd,
-        Name::HardBreakEscape | Name::HardBreakTrailing => Role::Break,
-        Name::HtmlTextData => Role::Raw,
-        Name::AutolinkProtocol => Role::Uri,
-        Name::AutolinkEmail => Role::Email,
-        Name::GfmAutolinkLiteralProtocol
-        | Name::GfmAutolinkLiteralMailto
-        | Name::GfmAutolinkLiteralXmpp => Role::UriLiteral,
-        Name::GfmAutolinkLiteralWww => Role::WwwLiteral,
-        Name::GfmAutolinkLiteralEmail => Role::EmailLiteral,
-        Name::GfmTaskListItemCheck => Role::Check,
-        Name::Emphasis => Role::Emphasis,
-        Name::Strong => Role::Strong,
-        Name::GfmStrikethrough => Role::Strikethrough,
-        Name::CodeText => Role::Code,
-        Name::MathText => Role::Math,
-        Name::CharacterReference => Role::Reference,
-        Name::Link => Role::Link,
-        Name::Image => Role::Image,
-        Name::GfmFootnoteCall => Role::Footnote,
-        Name::LabelText => Role::Label,
-        Name::ReferenceString => Role::FullReference,
-        Name::ResourceDestinationString => Role::Destination,
-        Name::ResourceTitleString => Role::TitleText,
-        Name::ResourceTitle => Role::Title,
-        Name::Resource => Role::Resource,
-        Name::Reference => Role::Tail,
-        _ => Role::Silent,
-    }
+    ROLES[name as usize]
 }
