@@ -1,10 +1,9 @@
 -- Bytes that stand in HTML as they are.
-use Rattle.std.proofs.Common.{◌≡◌, ◌∙◌, sym, ap, refl, subst, ℕ, zero, suc, ◌+◌, ◌-◌, ◌<◌, ◌≤◌, ◌==◌, ◌||◌, not, Bool, true, false, if◌then◌else◌, List, [], ◌∷◌, ◌++◌, append_assoc, get_or, leb, length, take, drop, arith}
+use Rattle.std.proofs.Common.{◌≡◌, ◌∙◌, sym, ap, refl, subst, ℕ, zero, suc, ◌+◌, ◌-◌, ◌<◌, ◌≤◌, ◌==◌, ◌||◌, not, Bool, true, false, if◌then◌else◌, List, [], ◌∷◌, ◌++◌, append_assoc, get_or, length, take, drop, arith}
 use Rattle.std.specs.Prelude.{codes}
 use Rattle.std.specs.List.{flat_map, slice_range}
 use Rattle.std.proofs.lemmas.Grind.{flat_map-append}
 use Rattle.std.proofs.lemmas.List.{take_more, drop_more, drop-drop, get_or-drop, length-drop}
-use Rattle.std.proofs.lemmas.Bool.{leb-true, leb-false}
 use Rattle.std.proofs.Math.Seq.{take-add}
 use Rattle.markdown_html_model.specs.Escaped.{escaped_byte, escaped, is_kept}
 
@@ -45,30 +44,13 @@ kept-range xs i j h l are =
     kept-front (drop i xs) (j - i) (omega (arith, length-drop i xs))
     (λ k low. ap is_kept (get_or-drop i xs k 0) ∙ are (i + k) (omega arith) (omega arith))
 
-pub range-split : (xs : List ℕ) (i j k : ℕ) → i ≤ j → j ≤ k → slice_range xs i k ≡ slice_range xs i j ++ slice_range xs j k
+range-split : (xs : List ℕ) (i j k : ℕ) → i ≤ j → j ≤ k → slice_range xs i k ≡ slice_range xs i j ++ slice_range xs j k
 range-split xs i j k h l =
     let len : k - i ≡ (j - i) + (k - j) = omega arith in
     let at : i + (j - i) ≡ j = omega arith in
     ap (λ n. take n (drop i xs)) len
     ∙ take-add (j - i) (k - j) (drop i xs)
     ∙ ap (λ bs. take (j - i) (drop i xs) ++ take (k - j) bs) (drop-drop (j - i) i xs ∙ ap (λ n. drop n xs) at)
-
--- bytes that stand as they are, up to an index, and from there on
-pub kept_more : (xs : List ℕ) (i j k to : ℕ) → to ≤ k → ((n : ℕ) → i ≤ n → n < j → is_kept (get_or xs n 0) ≡ true) → ((n : ℕ) → j ≤ n → n < k → is_kept (get_or xs n 0) ≡ true)
-    → (n : ℕ) → i ≤ n → n < to → is_kept (get_or xs n 0) ≡ true
-kept_more xs i j k to h first later n low high = kept-by (leb j n) refl
-  where
-    kept-by : (b : Bool) → leb j n ≡ b → is_kept (get_or xs n 0) ≡ true
-    kept-by true e = later n (leb-true j n e) (omega arith)
-    kept-by false e = first n low (leb-false j n e)
-
--- one stretch more
-pub range_and : (initial out out' xs : List ℕ) (i j k : ℕ) → i ≤ j → j ≤ k → out ≡ initial ++ slice_range xs i j → out' ≡ out ++ slice_range xs j k → out' ≡ initial ++ slice_range xs i k
-range_and initial out out' xs i j k h l so_far e =
-    e
-    ∙ ap (λ bs. bs ++ slice_range xs j k) so_far
-    ∙ append_assoc initial (slice_range xs i j) (slice_range xs j k)
-    ∙ ap (λ bs. initial ++ bs) (sym (range-split xs i j k h l))
 
 range-cons : (xs : List ℕ) (j k : ℕ) → j < k → k ≤ length xs → slice_range xs j k ≡ get_or xs j 0 ∷ slice_range xs (j + 1) k
 range-cons xs j k h l =

@@ -5,7 +5,7 @@ ghost use Rattle.std.specs.Prelude.{◌≡◌, ◌++◌, ◌+◌, ◌<◌, ◌�
 ghost use Rattle.std.specs.List.{prefix_len};
 ghost use Rattle.markdown_html_model.specs.Escaped.{escaped_byte, escaped, address_byte, addressed, is_address_byte, is_kept, begins_encoded, hexadecimal};
 
-use crate::kept::{kept_among, kept_one_by_one};
+use crate::kept::{kept_among, kept_until};
 use markdown_content::lanes::LANES;
 use std::alloc::AllocError;
 
@@ -40,8 +40,6 @@ fn push_front(out: &mut Vec<u8>, bytes: &[u8], at: usize, count: usize) -> Resul
 }
 
 // Appends bytes from an index on that stand as they are, and answers where they end: at `to`, or at a byte that does not stand as it is.
-//
-// Sixteen bytes are looked at together, those behind `to` with them. Where fewer than sixteen are left of all the bytes, they are looked at one by one.
 #[inline(always)]
 fn push_kept(out: &mut Vec<u8>, bytes: &[u8], from: usize, to: usize) -> Result<usize, AllocError>
     requires low { from ≤ to }
@@ -51,17 +49,13 @@ fn push_kept(out: &mut Vec<u8>, bytes: &[u8], from: usize, to: usize) -> Result<
     ensures kept { IfOk result (λ end. (k : ℕ) → from ≤ k → k < end → is_kept (slice_index bytes.now k) ≡ true) }
     ensures out { IfOk result (λ end. out.new.items ≡ out.old.items ++ slice_range bytes.now from end) }
 {
-    let mut at = from;
-    while at < to && bytes.len() - at >= LANES {
-        let count = kept_among(bytes, at).min(to - at);
-        push_front(out, bytes, at, count)?;
-        at += count;
-        if count < LANES {
-            return Ok(at);
-        }
+    if to - from <= LANES && bytes.len() - from >= LANES {
+        let count = kept_among(bytes, from).min(to - from);
+        push_front(out, bytes, from, count)?;
+        return Ok(from + count);
     }
-    let end = kept_one_by_one(bytes, at, to);
-    out.extend_from_slice(&bytes[at..end])?;
+    let end = kept_until(bytes, from, to);
+    out.extend_from_slice(&bytes[from..end])?;
     Ok(end)
 }
 

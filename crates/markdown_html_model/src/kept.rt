@@ -44,7 +44,7 @@ fn is_kept(byte: u8) -> bool
 }
 
 // Where the first byte from an index on stands that does not stand as it is, or `to` where each does. The bytes are looked at one by one.
-pub(crate) fn kept_one_by_one(bytes: &[u8], from: usize, to: usize) -> usize
+fn kept_one_by_one(bytes: &[u8], from: usize, to: usize) -> usize
     requires low { from ≤ to }
     requires high { to ≤ length bytes.now }
     ensures low { from ≤ result }
@@ -56,4 +56,29 @@ pub(crate) fn kept_one_by_one(bytes: &[u8], from: usize, to: usize) -> usize
         at += 1;
     }
     at
+}
+
+// An index up to which all bytes from `from` on stand as they are. It is `to`, or a byte stands there that does not stand as it is.
+//
+// Sixteen bytes are looked at together, those behind `to` with them. Where fewer than sixteen are left of all the bytes, they are looked at one by one.
+#[inline(always)]
+pub(crate) fn kept_until(bytes: &[u8], from: usize, to: usize) -> usize
+    requires low { from ≤ to }
+    requires high { to ≤ length bytes.now }
+    ensures low { from ≤ result }
+    ensures high { result ≤ to }
+    ensures kept { (k : ℕ) → from ≤ k → k < result → is_kept (slice_index bytes.now k) ≡ true }
+{
+    let mut at = from;
+    while at < to {
+        if bytes.len() - at < LANES {
+            return kept_one_by_one(bytes, at, to);
+        }
+        let count = kept_among(bytes, at);
+        if count < LANES {
+            return to.min(at + count);
+        }
+        at += LANES;
+    }
+    to
 }
