@@ -12,13 +12,8 @@ use Rattle.markdown_util.specs.declared.decoding.Decoding.{Decoding}
 use Rattle.markdown_html_model.specs.Html.{Defined, Page, plain_text_by, text_page}
 use Rattle.markdown_html_model.specs.declared.options.HtmlOptions.{HtmlOptions}
 use Rattle.markdown_html_model.specs.declared.role.Within.{Within}
-use Rattle.markdown_html.specs.EventWalk.{State, left_behind, stepped, walked, beginning}
+use Rattle.markdown_html.specs.EventWalk.{State, walked, beginning}
 use Rattle.markdown_html.proofs.WalkTree.{IsWrittenAs, html_within, walk-html}
-
--- one event less to go, or two
-pub walked_more : (p : Page) (whole old new : State) (left : List Event) (e : Event) (rest behind : List Event) (skips : Bool) → walked p old left ≡ whole → left ≡ e ∷ rest
-    → walked p new (left_behind rest skips) ≡ walked p (stepped p old e rest) rest → behind ≡ left_behind rest skips → walked p new behind ≡ whole
-walked_more p whole old new left e rest behind skips so_far is step later = ap (walked p new) later ∙ step ∙ ap (walked p old) (sym is) ∙ so_far
 
 pub walked_end : (p : Page) (before : List (List ℕ)) (within : Within) (n : ℕ) (previous : Option ℕ) (t : Forest) (events : List Event) (s : State) (left : List Event)
     → walked p s left ≡ walked p (beginning before within) events → length left ≡ 0 → events ≡ events_from n previous t → IsWrittenAs p before within t s

@@ -1,13 +1,14 @@
 -- Lists that grow by one.
-use Rattle.std.proofs.Common.{◌≡◌, ◌∙◌, ap, sym, refl, subst, ℕ, Bool, true, false, if◌then◌else◌, List, [], ◌∷◌, ◌++◌, All, None, Some, Option, IfSome, map, ◌==◌, ◌||◌}
+use Rattle.std.proofs.Common.{◌≡◌, ◌∙◌, ap, sym, refl, subst, ℕ, zero, suc, ◌+◌, ◌<◌, Bool, true, false, if◌then◌else◌, List, [], ◌∷◌, ◌++◌, All, None, Some, Option, IfSome, map, ◌==◌, ◌||◌, drop, get_or, length}
 use Rattle.std.specs.List.{list_any}
+use Rattle.std.proofs.lemmas.List.{drop_more}
 use Rattle.std.proofs.lemmas.List.Elements.{All-head, All-tail, All-nil}
 use Rattle.markdown_event.specs.declared.event.Event.{Event}
 use Rattle.markdown_event.specs.declared.event.Kind.{Kind}
 use Rattle.markdown_event.specs.declared.event.Kind.TheVariants.{Enter, Exit}
 use Rattle.markdown_event.specs.declared.event.Point.{Point}
 use Rattle.markdown_passes.specs.TrimmedData.{IsStretch}
-use Rattle.markdown_html.specs.EventWalk.{exit_first, left_behind}
+use Rattle.markdown_html.specs.EventWalk.{exit_first}
 use Rattle.markdown_innermost.specs.InnermostEvents.{Span, innermost, has_nothing_inside, span_of, IsSpanInOrder}
 
 -- the places of an Enter and of the Exit right behind it
@@ -46,15 +47,15 @@ first_within bytes e rest h places = first-by (exit_first rest) refl
     first-by None f = tt
     first-by (Some b) f = ahead_in_order bytes e rest b h f places
 
--- the places of what is left
-pub behind_in_order : (bytes : List ℕ) (rest behind : List Event) (skips : Bool) → All (IsSpanInOrder bytes) (innermost rest) → behind ≡ left_behind rest skips → All (IsSpanInOrder bytes) (innermost behind)
-behind_in_order bytes rest behind skips places is = subst (λ es. All (IsSpanInOrder bytes) (innermost es)) (sym is) (left-in-order rest skips places)
-  where
-    left-in-order : (rest : List Event) (skips : Bool) → All (IsSpanInOrder bytes) (innermost rest) →
-        All (IsSpanInOrder bytes) (innermost (left_behind rest skips))
-    left-in-order [] skips h = h
-    left-in-order (x ∷ rest) true h = later_in_order bytes x rest h
-    left-in-order (x ∷ rest) false h = h
+-- the places of the events from an index on
+pub places_from : (bytes : List ℕ) (i : ℕ) (es : List Event) → All (IsSpanInOrder bytes) (innermost es) → All (IsSpanInOrder bytes) (innermost (drop i es))
+places_from bytes zero es places = places
+places_from bytes (suc i) [] places = places
+places_from bytes (suc i) (e ∷ es) places = places_from bytes i es (later_in_order bytes e es places)
+
+-- the element at an index, and those behind it
+pub drop_at : {X : Type 0} (xs : List X) (i : ℕ) (x : X) → i < length xs → x ≡ get_or xs i x → drop i xs ≡ x ∷ drop (i + 1) xs
+drop_at xs i x low is = drop_more xs i x low ∙ ap (λ y. y ∷ drop (i + 1) xs) (sym is)
 
 one-byte : (b : ℕ) (bs spaced : List ℕ) (t : Bool) → (b == 10) ≡ t → (t || list_any (λ b. b == 10) bs) ≡ false → (list_any (λ b. b == 10) bs ≡ false → spaced ≡ bs) → (if b == 10 then 32 else b) ∷ spaced ≡ b ∷ bs
 one-byte b bs spaced true is e more = cc

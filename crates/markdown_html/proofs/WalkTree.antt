@@ -1,6 +1,7 @@
 -- The walk over the events of a tree writes the tree's HTML.
-use Rattle.std.proofs.Common.{◌≡◌, ◌∙◌, sym, ap, refl, ℕ, ◌+◌, Bool, true, false, if◌then◌else◌, ◌&&◌, ◌||◌, List, [], ◌∷◌, ◌++◌, append-nil, append_assoc, length, take, drop, Option, None, Some}
+use Rattle.std.proofs.Common.{◌≡◌, ◌∙◌, sym, ap, refl, ℕ, ◌+◌, Bool, true, false, if◌then◌else◌, ◌&&◌, ◌||◌, List, [], ◌∷◌, ◌++◌, append-nil, append_assoc, length, take, drop, get_or, ◌<◌, Option, None, Some}
 use Rattle.std.specs.Option.{is_some}
+use Rattle.markdown_html.proofs.Lists.{drop_at}
 use Rattle.std.proofs.Math.Seq.{drop-append_seam, take-append_seam}
 use Rattle.markdown_content.specs.Codes.{stop_of, document_start}
 use Rattle.markdown_content.specs.Tree.{Forest, empty, leaf_then, group_then, start_of, event, event_count, events_from, next_linked}
@@ -13,7 +14,7 @@ use Rattle.markdown_html_model.specs.Html.{Page, PartsSoFar, Written, no_parts, 
 use Rattle.markdown_html_model.specs.Roles.{role_of}
 use Rattle.markdown_html_model.specs.declared.role.Role.{Role}
 use Rattle.markdown_html_model.specs.declared.role.Within.{Within}
-use Rattle.markdown_html.specs.EventWalk.{State, OpenPart, open_of, opened_by, has_parts, entered, filled, closed, closed_apart, closed_around, closed_out, exited, stepped, walked, beginning, keeps_inside, is_light, is_apart, is_leaf, is_bare, filled_before, left_behind}
+use Rattle.markdown_html.specs.EventWalk.{State, OpenPart, open_of, opened_by, has_parts, entered, filled, closed, closed_apart, closed_around, closed_out, exited, stepped, walked, beginning, keeps_inside, is_light, is_apart, is_leaf, is_bare, is_silent, filled_before}
 
 -- the state after this is written
 abbrev pub after : State → Written → State
@@ -381,6 +382,10 @@ step-leaf p s e rest role is k leaf =
     ∙ ap (λ x. stepped-by p s e rest Kind.Enter x) (sym is)
     ∙ ap (λ x. filled_before p x role e.point rest) (entered-bare s role e.point (leaf-is-bare role leaf))
 
+silent-role : (role : Role) → is_silent role ≡ true → role ≡ Role.Silent
+silent-role Role.Silent e = refl
+silent-role role e = cc
+
 -- an event of what is not written at all
 pub step-silent : (p : Page) (s : State) (e : Event) (rest : List Event) (role : Role) → role ≡ role_of e.name → role ≡ Role.Silent → stepped p s e rest ≡ s
 step-silent p s e rest role is silent = ap (λ x. stepped-by p s e rest e.kind x) (sym is ∙ silent) ∙ silent-by e.kind
@@ -389,22 +394,44 @@ step-silent p s e rest role is silent = ap (λ x. stepped-by p s e rest e.kind x
     silent-by Kind.Enter = unfilled p (entered s Role.Silent e.point) Role.Silent e.point rest refl ∙ entered-bare s Role.Silent e.point refl
     silent-by Kind.Exit = exited-bare p s Role.Silent e.point refl
 
-exit-done : (p : Page) (s : State) (x : Event) (rest : List Event) (skips : Bool) → x.kind ≡ Kind.Exit → skips ≡ is_bare (role_of x.name) → walked p s (left_behind (x ∷ rest) skips) ≡ walked p s (x ∷ rest)
+exit-done : (p : Page) (s : State) (x : Event) (rest : List Event) (skips : Bool) → x.kind ≡ Kind.Exit → skips ≡ is_bare (role_of x.name) → walked p s (if skips then rest else x ∷ rest) ≡ walked p s (x ∷ rest)
 exit-done p s x rest true k e = ap (λ y. walked p y rest) (sym (exited-bare p s (role_of x.name) x.point (sym e)) ∙ sym (step-exit p s x rest (role_of x.name) refl k))
 exit-done p s x rest false k e = refl
 
 -- a text, and its Exit where that is done too
-pub leaf-written : (p : Page) (s new : State) (role : Role) (a : Point) (x : Event) (rest : List Event) (skips : Bool) → x.kind ≡ Kind.Exit → skips ≡ is_bare (role_of x.name)
-    → new ≡ record s { out = s.out ++ leaf_html p s.within role (text_between p.bytes a x.point) }
-    → walked p new (left_behind (x ∷ rest) skips) ≡ walked p (filled_before p s role a (x ∷ rest)) (x ∷ rest)
+leaf-written : (p : Page) (s new : State) (role : Role) (a : Point) (x : Event) (rest : List Event) → x.kind ≡ Kind.Exit → new ≡ record s { out = s.out ++ leaf_html p s.within role (text_between p.bytes a x.point) }
+    → walked p new (if is_bare (role_of x.name) then rest else x ∷ rest) ≡ walked p (filled_before p s role a (x ∷ rest)) (x ∷ rest)
 unfolding filled
-leaf-written p s new role a x rest skips k e is =
-    exit-done p new x rest skips k e
+leaf-written p s new role a x rest k is =
+    exit-done p new x rest (is_bare (role_of x.name)) k refl
     ∙ ap (λ y. walked p y (x ∷ rest)) (is ∙ ap (λ kind. filled-to p s role a (first-by x.point kind)) (sym k))
 
-pub left-all : (p : Page) (new whole : State) (rest : List Event) → whole ≡ new → walked p new (left_behind rest false) ≡ walked p whole rest
-left-all p new whole [] e = ap (λ y. walked p y []) (sym e)
-left-all p new whole (x ∷ rest) e = ap (λ y. walked p y (x ∷ rest)) (sym e)
+drop-either : (events : List Event) (i : ℕ) (x : Event) (skips : Bool) → drop i events ≡ x ∷ drop (i + 1) events
+    → drop (if skips then i + 1 else i) events ≡ (if skips then drop (i + 1) events else x ∷ drop (i + 1) events)
+drop-either events i x true e = refl
+drop-either events i x false e = e
+
+-- the same, where the Exit stands at an index
+pub leaf-done : (p : Page) (s new : State) (role : Role) (a : Point) (events : List Event) (i next : ℕ) (x : Event) → i < length events → x ≡ get_or events i x → x.kind ≡ Kind.Exit
+    → next ≡ (if is_bare (role_of x.name) then i + 1 else i) → new ≡ record s { out = s.out ++ leaf_html p s.within role (text_between p.bytes a x.point) }
+    → walked p new (drop next events) ≡ walked p (filled_before p s role a (drop i events)) (drop i events)
+leaf-done p s new role a events i next x low at k n is =
+    let whole = drop_at events i x low at in
+    ap (λ m. walked p new (drop m events)) n
+    ∙ ap (walked p new) (drop-either events i x (is_bare (role_of x.name)) whole)
+    ∙ leaf-written p s new role a x (drop (i + 1) events) k is
+    ∙ ap (λ es. walked p (filled_before p s role a es) es) (sym whole)
+
+-- one event, at an index
+pub passed : (p : Page) (s new : State) (events : List Event) (i : ℕ) (e : Event) → i < length events → e ≡ get_or events i e → stepped p s e (drop (i + 1) events) ≡ new
+    → walked p new (drop (i + 1) events) ≡ walked p s (drop i events)
+passed p s new events i e low at is = ap (λ x. walked p x (drop (i + 1) events)) (sym is) ∙ ap (walked p s) (sym (drop_at events i e low at))
+
+-- one event of what is not written at all
+pub silent-passed : (p : Page) (s : State) (events : List Event) (i : ℕ) (e : Event) (role : Role) (b : Bool) → i < length events → e ≡ get_or events i e → role ≡ role_of e.name → b ≡ is_silent role → b ≡ true
+    → walked p s (drop (i + 1) events) ≡ walked p s (drop i events)
+silent-passed p s events i e role b low at is silent so =
+    passed p s s events i e low at (step-silent p s e (drop (i + 1) events) role is (silent-role role (sym silent ∙ so)))
 
 -- Trees.
 

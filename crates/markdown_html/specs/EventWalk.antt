@@ -92,6 +92,11 @@ is_leaf Role.WwwLiteral = true
 is_leaf Role.EmailLiteral = true
 is_leaf role = false
 
+-- nothing is written of it by itself
+abbrev pub is_silent : Role → Bool
+is_silent Role.Silent = true
+is_silent role = false
+
 -- nothing is written at its ends
 abbrev pub is_bare : Role → Bool
 is_bare Role.Silent = true
@@ -180,11 +185,6 @@ stepped p s e rest =
       | Enter ↦ filled_before p (entered s (role_of e.name) e.point) (role_of e.name) e.point rest
       | Exit ↦ exited p s (role_of e.name) e.point
     ]
-
--- what is left behind an event, without the first where that is done too
-abbrev pub left_behind : List Event → Bool → List Event
-left_behind [] skips = []
-left_behind (x ∷ rest) skips = if skips then rest else x ∷ rest
 
 -- all events
 abbrev pub walked : Page → State → List Event → State

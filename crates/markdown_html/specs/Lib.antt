@@ -2,6 +2,7 @@
 -- What has to be believed: what public contracts and the theorem cite.
 pub mod DefinitionView
 pub mod View
+pub mod LabelTexts
 pub mod EventWalk
 pub mod Brought
 -- What serves proofs: what functions and proofs promise each other.

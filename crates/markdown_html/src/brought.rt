@@ -1,11 +1,12 @@
 //! How much definitions bring to a text.
 #![tactic(auto)]
 
-ghost use Rattle.std.specs.Prelude.{◌≡◌, IfOk, OnOk};
-ghost use Rattle.markdown_content.specs.Content.{IsContent};
+ghost use Rattle.std.specs.Prelude.{◌≡◌, ◌≤◌, ◌<◌, ◌+◌, ◌^◌, IfOk, OnOk, drop, length};
 ghost use Rattle.markdown_content.specs.Tree.{Forest, events_of};
+ghost use Rattle.markdown_html_model.specs.Html.{Page};
 ghost use Rattle.markdown_html.specs.Brought.{brought, left_of, target_bytes};
-ghost use Rattle.markdown_html.specs.BroughtWalk.{brought_where, count_of, counted_close, counted_enter, counted_step, joined_seen, nothing_seen, own_seen, seen_brought};
+ghost use Rattle.markdown_html.specs.BroughtWalk.{Counted, brought_where, count_of, counted, counted_close, counted_enter, counted_step, joined_seen, nothing_seen, own_seen, seen_brought};
+ghost use Rattle.markdown_html.specs.LabelTexts.{HasLabelTexts};
 ghost use Rattle.markdown_html.specs.View.{HasContent, page_from, page_of, target_view};
 
 use crate::addresses::Given;
@@ -68,30 +69,29 @@ impl Seen {
         }
     }
 
-    // What something shows to what is around it, where this is seen inside it.
-    fn own(self, role: Role, from: usize, to: usize) -> Seen
-        ensures { result ≡ own_seen role from to self }
+    // What is seen up to the end of something, where this is seen inside it.
+    fn around(self, before: Seen, role: Role, from: usize, to: usize) -> Seen
+        ensures { result ≡ joined_seen before (own_seen role from to self) }
     {
-        let nothing = Seen::nothing();
         match role {
             Role::Destination => Seen {
                 has_destination: true,
-                ..nothing
+                ..before
             },
-            Role::Resource => Seen {
+            Role::Resource => before.joined(Seen {
                 has_destination: true,
                 ..self
-            },
+            }),
             Role::Label => Seen {
                 label: Some((from, to)),
-                ..nothing
+                ..before
             },
             Role::FullReference => Seen {
                 reference: Some((from, to)),
-                ..nothing
+                ..before
             },
-            Role::TitleText | Role::Link | Role::Image | Role::Footnote => nothing,
-            _ => self,
+            Role::TitleText | Role::Link | Role::Image | Role::Footnote => before,
+            _ => before.joined(self),
         }
     }
 }
@@ -169,7 +169,7 @@ impl Count {
             return Ok(());
         };
         self.left = left_by(alloc, given, role, self.seen, self.left)?;
-        self.seen = before.seen.joined(self.seen.own(role, before.from, to));
+        self.seen = self.seen.around(before.seen, role, before.from, to);
         Ok(())
     }
 
@@ -187,6 +187,45 @@ impl Count {
             Kind::Exit => self.exit(alloc, given, role, event.point.index),
         }
     }
+}
+
+// How many events are looked at with no other look between.
+const FOUR: usize = 4;
+
+// How many of the four events from an index on come before the first that has parts of its own. They change nothing.
+#[inline(always)]
+fn others_among_four(events: &EventSlice, at: usize) -> usize
+    requires within { at + FOUR ≤ length events.now }
+    requires small { at + FOUR < 2 ^ 64 }
+    ensures within { result ≤ FOUR }
+    ensures same { (p : Page) (s : Counted) → counted p s (drop (at + result) events.now) ≡ counted p s (drop at events.now) }
+{
+    for count in 0..FOUR {
+        if is_apart(role_of(events.at(at + count).name)) {
+            return count;
+        }
+    }
+    FOUR
+}
+
+// The index of the first event from an index on that has parts of its own, or of one before it, where fewer than four are left. What comes before changes
+// nothing.
+#[inline(always)]
+fn next_apart(events: &EventSlice, from: usize) -> usize
+    requires { from ≤ length events.now }
+    ensures low { from ≤ result }
+    ensures high { result ≤ length events.now }
+    ensures same { (p : Page) (s : Counted) → counted p s (drop result events.now) ≡ counted p s (drop from events.now) }
+{
+    let mut index = from;
+    while events.len() - index >= FOUR {
+        let others = others_among_four(events, index);
+        index += others;
+        if others < FOUR {
+            return index;
+        }
+    }
+    index
 }
 
 /// What is left of a limit on what definitions bring to the tree whose events these are; none where they bring more.
@@ -208,7 +247,7 @@ pub fn left_of_limit(
     options: HtmlOptions,
     limit: usize,
 ) -> Result<Option<usize>, AllocError>
-    requires content { IsContent parse_state.now.bytes.now pieces.now }
+    requires content { HasLabelTexts parse_state.now pieces.now }
     ensures { (t : Forest) → events.now ≡ events_of t → IfOk result (λ left. left ≡ left_of (Some limit) (brought (page_from parse_state.now pieces.now definitions.now options) t)) }
 {
     let given = Given {
@@ -225,8 +264,11 @@ pub fn left_of_limit(
         opened: Vec::new(alloc),
         left: Some(limit),
     };
-    for event in events.iter() {
+    let mut index = next_apart(events, 0);
+    while index < events.len() {
+        let event = events.at(index);
         count.step(alloc, &given, &event)?;
+        index = next_apart(events, index + 1);
     }
     Ok(count.left)
 }

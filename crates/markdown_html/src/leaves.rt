@@ -82,28 +82,42 @@ fn push_raw(given: &Given, out: &mut Vec<u8>, within: Within, text: &[u8]) -> Re
     }
 }
 
-fn push_line_ending(out: &mut Vec<u8>, ends: LineEnds, text: &[u8]) -> Result<(), AllocError>
-    ensures { OnOk result (out.new.items ≡ out.old.items ++ line_ending ends text.now) }
+#[inline(always)]
+fn push_line_ending(
+    out: &mut Vec<u8>,
+    ends: LineEnds,
+    bytes: &[u8],
+    from: usize,
+    to: usize,
+) -> Result<(), AllocError>
+    requires low { from ≤ to }
+    requires high { to ≤ length bytes.now }
+    ensures { OnOk result (out.new.items ≡ out.old.items ++ line_ending ends (slice_range bytes.now from to)) }
 {
     match ends {
-        LineEnds::Kept => push_escaped(out, text),
+        LineEnds::Kept => push_escaped_between(out, bytes, from, to),
         LineEnds::Lf => out.extend_from_slice(b"\n"),
         LineEnds::CrLf => out.extend_from_slice(b"\r\n"),
     }
 }
 
-// A line ending of the text; one line feed where text alone is written.
+// A line ending of the text, which stands from an index of these bytes to an index; one line feed where text alone is written.
+#[inline(always)]
 fn push_line_end(
     given: &Given,
     out: &mut Vec<u8>,
     within: Within,
-    text: &[u8],
+    bytes: &[u8],
+    from: usize,
+    to: usize,
 ) -> Result<(), AllocError>
-    ensures { OnOk result (out.new.items ≡ out.old.items ++ line_end (page_of given.now) within text.now) }
+    requires low { from ≤ to }
+    requires high { to ≤ length bytes.now }
+    ensures { OnOk result (out.new.items ≡ out.old.items ++ line_end (page_of given.now) within (slice_range bytes.now from to)) }
 {
     match within {
         Within::InText => out.extend_from_slice(b"\n"),
-        _ => push_line_ending(out, given.options.line_ends, text),
+        _ => push_line_ending(out, given.options.line_ends, bytes, from, to),
     }
 }
 
@@ -120,7 +134,7 @@ fn push_leaf(
 {
     match role {
         Role::Plain => push_text(out, within, text),
-        Role::LineEnd => push_line_end(given, out, within, text),
+        Role::LineEnd => push_line_end(given, out, within, text, 0, text.len()),
         Role::Break => push_tag(out, within, b"<br />"),
         Role::Raw => push_raw(given, out, within, text),
         Role::Uri => push_own_link(alloc, given, out, within, b"", text),
@@ -168,6 +182,7 @@ fn push_leaf_at(
 {
     match role {
         Role::Plain => push_text_between(out, within, given.bytes, from, to),
+        Role::LineEnd => push_line_end(given, out, within, given.bytes, from, to),
         _ => push_leaf(alloc, given, out, within, role, &given.bytes[from..to]),
     }
 }

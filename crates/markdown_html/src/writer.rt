@@ -1,17 +1,18 @@
 //! The walk over events.
 #![tactic(auto)]
 
-ghost use Rattle.std.specs.Prelude.{◌≡◌, ◌≤◌, ◌++◌, ◌∷◌, ◌&&◌, [], List, if◌then◌else◌, map, reverse, IfOk, IfSome, OnErr, OnOk, Option, drop, false, length, take, true, ℕ};
+ghost use Rattle.std.specs.Prelude.{◌≡◌, ◌≤◌, ◌<◌, ◌+◌, ◌^◌, ◌++◌, ◌∷◌, ◌&&◌, [], List, if◌then◌else◌, map, reverse, IfOk, IfSome, OnErr, OnOk, Option, drop, false, length, take, true, ℕ};
 ghost use Rattle.std.specs.List.{All};
-ghost use Rattle.markdown_content.specs.Content.{IsContent, document_limit};
+ghost use Rattle.markdown_content.specs.Content.{document_limit};
 ghost use Rattle.markdown_content.specs.Tree.{Forest, events_from, events_of};
 ghost use Rattle.markdown_passes.specs.TrimmedData.{IsStretch};
 ghost use Rattle.markdown_innermost.specs.InnermostEvents.{innermost, IsSpanInOrder};
-ghost use Rattle.markdown_html_model.specs.Html.{calls_behind, group_html, html, joined_parts, no_parts, own_calls, plain_text, plain_text_by, within_of, written};
+ghost use Rattle.markdown_html_model.specs.Html.{Page, calls_behind, group_html, html, joined_parts, no_parts, own_calls, plain_text, plain_text_by, within_of, written};
 ghost use Rattle.markdown_html_model.specs.Roles.{role_of};
 ghost use Rattle.markdown_html_model.specs.OwnMarkup.{IsOwnMarkup};
+ghost use Rattle.markdown_html.specs.LabelTexts.{HasLabelTexts};
 ghost use Rattle.markdown_html.specs.View.{HasContent, open_view, page_from, page_of, parts_of, state_of};
-ghost use Rattle.markdown_html.specs.EventWalk.{before_left, before_parts, closed_apart, closed_around, entered, exit_first, exited, filled_before, has_parts, is_apart, is_bare, is_leaf, is_light, is_text_alone, keeps_inside, left_behind, opened_by, rewritten, stepped, walked};
+ghost use Rattle.markdown_html.specs.EventWalk.{State, before_left, before_parts, closed_apart, closed_around, entered, exit_first, exited, filled_before, has_parts, is_apart, is_bare, is_leaf, is_light, is_silent, is_text_alone, keeps_inside, opened_by, rewritten, stepped, walked};
 
 use crate::addresses::Given;
 use crate::calls::push_call;
@@ -28,7 +29,7 @@ use crate::targets::Targets;
 use markdown_content::configuration::ParseOptions;
 use markdown_content::parser::{ParseState, Piece};
 use markdown_engine_events::event_list::EventSlice;
-use markdown_event::event::{Event, Kind, Point};
+use markdown_event::event::{Kind, Name, Point};
 use markdown_html_model::options::HtmlOptions;
 use markdown_html_model::resolve::{bytes_from, decoding_of};
 use markdown_html_model::role::{Role, Within, role_of};
@@ -126,11 +127,30 @@ fn is_leaf(role: Role) -> bool
     }
 }
 
+// Whether nothing is written of something of this role by itself.
+fn is_silent(role: Role) -> bool
+    ensures { result ≡ is_silent role }
+{
+    matches!(role, Role::Silent)
+}
+
 // Whether nothing is written at the ends of something of this role.
 fn is_bare(role: Role) -> bool
     ensures { result ≡ is_bare role }
 {
-    is_leaf(role) || matches!(role, Role::Silent)
+    is_leaf(role) || is_silent(role)
+}
+
+// The index behind an event of this name, if nothing is written at it, and else its own.
+fn behind_bare(name: Name, index: usize) -> usize
+    requires { index + 1 < 2 ^ 64 }
+    ensures { result ≡ (if is_bare (role_of name) then index + 1 else index) }
+{
+    if is_bare(role_of(name)) {
+        index + 1
+    } else {
+        index
+    }
 }
 
 // Whether something is a link or an image of which the inside alone is written, as in the description of an image.
@@ -265,25 +285,32 @@ impl Writer {
         self.open(role, point, kept)
     }
 
-    // Writes a text, if its Exit is the first of the events behind its Enter. Answers whether that Exit is done too, because nothing is written at it.
+    // Writes a text, if its Exit stands at an index, right behind its Enter. Answers the index of the first event that is not done: behind that Exit, if
+    // nothing is written at it.
+    #[inline(always)]
     fn leaf(
         &mut self,
         alloc: Global,
         given: &Given,
         role: Role,
         from: Point,
-        rest: &EventSlice,
-    ) -> Result<bool, AllocError>
+        events: &EventSlice,
+        index: usize,
+    ) -> Result<usize, AllocError>
+        requires index { index ≤ length events.now }
         requires fits { length given.now.bytes.now ≤ document_limit }
-        requires in_order { IfSome (exit_first rest.now) (λ to. IsStretch given.now.bytes.now from to) }
+        requires in_order { IfSome (exit_first (drop index events.now)) (λ to. IsStretch given.now.bytes.now from to) }
         requires leaf { is_leaf role ≡ true }
-        ensures { let p = page_of given.now in IfOk result (λ skips. walked p (state_of self.new) (left_behind rest.now skips) ≡ walked p (filled_before p (state_of self.old) role from rest.now) rest.now) }
+        ensures low { IfOk result (λ next. index ≤ next) }
+        ensures high { IfOk result (λ next. next ≤ length events.now) }
+        ensures walk { let p = page_of given.now in let left = drop index events.now in IfOk result (λ next. walked p (state_of self.new) (drop next events.now) ≡ walked p (filled_before p (state_of self.old) role from left) left) }
     {
-        let Some((exit, _)) = rest.split_first() else {
-            return Ok(false);
-        };
+        if index == events.len() {
+            return Ok(index);
+        }
+        let exit = events.at(index);
         match exit.kind {
-            Kind::Enter => Ok(false),
+            Kind::Enter => Ok(index),
             Kind::Exit => {
                 push_leaf_between(
                     alloc,
@@ -294,7 +321,7 @@ impl Writer {
                     from,
                     exit.point,
                 )?;
-                Ok(is_bare(role_of(exit.name)))
+                Ok(behind_bare(exit.name, index))
             }
         }
     }
@@ -408,42 +435,49 @@ impl Writer {
     }
 }
 
-// What is left behind an event, without the first where that is done too.
-fn left_behind(rest: EventSlice, skips: bool) -> EventSlice
-    ensures { result ≡ left_behind rest.entry skips }
+// The index of the first event from an index on that is not silent. At what comes before it nothing is written.
+#[inline(always)]
+fn behind_silent(events: &EventSlice, from: usize) -> usize
+    requires { from ≤ length events.now }
+    ensures low { from ≤ result }
+    ensures high { result ≤ length events.now }
+    ensures same { (p : Page) (s : State) → walked p s (drop result events.now) ≡ walked p s (drop from events.now) }
 {
-    if !skips {
-        return rest;
+    let mut index = from;
+    while index < events.len() && is_silent(role_of(events.at(index).name)) {
+        index += 1;
     }
-    match rest.split_first() {
-        Some((_, behind)) => behind,
-        None => rest,
-    }
+    index
 }
 
-// Writes the HTML of one event, which these events follow. Answers whether the first of those is done too.
+// Writes the HTML of the event at an index. Answers the index of the first event that is not done.
+#[inline(always)]
 fn step(
     writer: &mut Writer,
     alloc: Global,
     given: &Given,
-    event: &Event,
-    rest: &EventSlice,
-) -> Result<bool, AllocError>
+    events: &EventSlice,
+    index: usize,
+) -> Result<usize, AllocError>
     requires content { HasContent given.now }
     requires fits { length given.now.bytes.now ≤ document_limit }
-    requires places { All (IsSpanInOrder given.now.bytes.now) (innermost (event.now ∷ rest.now)) }
-    ensures { let p = page_of given.now in IfOk result (λ skips. walked p (state_of writer.new) (left_behind rest.now skips) ≡ walked p (stepped p (state_of writer.old) event.now rest.now) rest.now) }
+    requires places { All (IsSpanInOrder given.now.bytes.now) (innermost events.now) }
+    requires index { index < length events.now }
+    requires small { index + 1 < 2 ^ 64 }
+    ensures low { IfOk result (λ next. index < next) }
+    ensures high { IfOk result (λ next. next ≤ length events.now) }
+    ensures walk { let p = page_of given.now in IfOk result (λ next. walked p (state_of writer.new) (drop next events.now) ≡ walked p (state_of writer.old) (drop index events.now)) }
 {
+    let event = events.at(index);
     let role = role_of(event.name);
-    if matches!(role, Role::Silent) {
-        return Ok(false);
-    }
     match event.kind {
         Kind::Exit => writer.exit(alloc, given, role, event.point)?,
-        Kind::Enter if is_leaf(role) => return writer.leaf(alloc, given, role, event.point, rest),
+        Kind::Enter if is_leaf(role) => {
+            return writer.leaf(alloc, given, role, event.point, events, index + 1);
+        }
         Kind::Enter => writer.enter(role, event.point)?,
     }
-    Ok(false)
+    Ok(index + 1)
 }
 
 // Writes trees that stand somewhere, behind the calls before them.
@@ -468,10 +502,10 @@ fn written(
         calls,
         room: Vec::new(alloc),
     };
-    let mut left = events.slice(0, events.len());
-    while let Some((event, rest)) = left.split_first() {
-        let skips = step(&mut writer, alloc, given, &event, &rest)?;
-        left = left_behind(rest, skips);
+    let mut index = behind_silent(events, 0);
+    while index < events.len() {
+        let next = step(&mut writer, alloc, given, events, index)?;
+        index = behind_silent(events, next);
     }
     Ok(writer)
 }
@@ -500,7 +534,8 @@ pub fn to_html(
     calls: &mut FootnoteCalls,
     options: HtmlOptions,
 ) -> Result<Vec<u8>, AllocError>
-    requires content { IsContent parse_state.now.bytes.now pieces.now }
+    requires fits { length parse_state.now.bytes.now ≤ document_limit }
+    requires content { HasLabelTexts parse_state.now pieces.now }
     requires places { All (IsSpanInOrder parse_state.now.bytes.now) (innermost events.now) }
     ensures exact { (t : Forest) → events.now ≡ events_of t → IfOk result (λ written. written.items ≡ html (page_from parse_state.now pieces.now definitions.now options) calls.old t) }
     ensures calls { (t : Forest) → events.now ≡ events_of t → OnOk result (calls.new ≡ calls_behind (page_from parse_state.now pieces.now definitions.now options) calls.old t) }

@@ -1,27 +1,40 @@
-use Rattle.std.proofs.Common.{◌≡◌, ◌∙◌, sym, subst, IfOk}
-use Rattle.markdown_html_model.specs.declared.role.Role.{Role}
+use Rattle.std.proofs.Common.{◌≡◌, ◌∙◌, ◌+◌, sym, ap, subst, drop, All, IfOk}
+use Rattle.markdown_innermost.specs.InnermostEvents.{innermost, IsSpanInOrder}
 use Rattle.markdown_html.specs.View.{page_of, state_of}
-use Rattle.markdown_html.specs.EventWalk.{walked, left_behind}
-use Rattle.markdown_html.proofs.WalkTree.{step-silent, step-leaf, step-enter, left-all}
-use Rattle.markdown_html.proofs.Lists.{first_within}
-use Rattle.markdown_html.proofs.writer.step.Goals.{in-Silent, in_default}
+use Rattle.markdown_html.specs.EventWalk.{State, walked}
+use Rattle.markdown_html.proofs.WalkTree.{passed, step-exit, step-leaf, step-enter}
+use Rattle.markdown_html.proofs.Lists.{drop_at, first_within, places_from}
+use Rattle.markdown_html.proofs.writer.step.Goals.{in-Exit+in_ok-exit-in-Exit, in-Enter-2+in_ok-enter-in-Enter-2}
 use Rattle.markdown_html.proofs.writer.step.Goals as goal
 
-pub returns-then-matches : goal.returns-then-matches
-returns-then-matches c =
-    let silent : c.role_of-role.result ≡ Role.Silent = elim c.match-matches.branch [ in-Silent w ↦ w.in-Silent.is | in_default w ↦ cc ] in
-    left-all (page_of c.args.given.now) _ _ c.args.rest.now (step-silent (page_of c.args.given.now) (state_of c.args.writer.now) c.args.event.now c.args.rest.now c.role_of-role.result c.role_of-role.ensures silent)
-
 pub leaf-requires-clause-in_order : goal.leaf-requires-clause-in_order
-leaf-requires-clause-in_order c = first_within c.args.given.now.bytes.now c.args.event.now c.args.rest.now c.in-Enter.is c.requires.places
+leaf-requires-clause-in_order c =
+    let bytes = c.args.given.now.bytes.now in
+    let events = c.args.events.now in
+    first_within bytes c.at-event.result (drop (c.args.index + 1) events) c.in-Enter.is
+    (subst (λ es. All (IsSpanInOrder bytes) (innermost es)) (drop_at events c.args.index c.at-event.result c.requires.index c.at-event.ensures) (places_from bytes c.args.index events c.requires.places))
 
-pub returns-in-Enter : goal.returns-in-Enter
-returns-in-Enter c =
+pub returns-in-Enter-clause-walk : goal.returns-in-Enter-clause-walk
+returns-in-Enter-clause-walk c =
     let p = page_of c.args.given.now in
-    subst (λ y. IfOk c.leaf.result (λ skips. walked p (state_of c.leaf.new.self) (left_behind c.args.rest.now skips) ≡ walked p y c.args.rest.now))
-    (sym (step-leaf p (state_of c.args.writer.now) c.args.event.now c.args.rest.now c.role_of-role.result c.role_of-role.ensures c.in-Enter.is (sym c.is_leaf.ensures ∙ c.if-is_leaf.true))) c.leaf.ensures
+    let s : State = state_of c.args.writer.now in
+    let events = c.args.events.now in
+    subst (λ y. IfOk c.leaf.result (λ next. walked p (state_of c.leaf.new.self) (drop next events) ≡ y))
+    (passed p s _ events c.args.index c.at-event.result c.requires.index c.at-event.ensures
+    (step-leaf p s c.at-event.result (drop (c.args.index + 1) events) c.role_of-role.result c.role_of-role.ensures c.in-Enter.is (sym c.is_leaf.ensures ∙ c.if-is_leaf.true)))
+    c.leaf.ensures.walk
 
-pub returns-in_ok-enter-in-Enter-2 : goal.returns-in_ok-enter-in-Enter-2
-returns-in_ok-enter-in-Enter-2 c =
-    left-all (page_of c.args.given.now) _ _ c.args.rest.now
-    (step-enter (page_of c.args.given.now) (state_of c.args.writer.now) c.args.event.now c.args.rest.now c.role_of-role.result c.role_of-role.ensures c.in-Enter-2.is (sym c.is_leaf.ensures ∙ c.if-is_leaf.false) ∙ sym c.in_ok-enter-in-Enter-2.ensures)
+pub returns-clause-walk : goal.returns-clause-walk
+returns-clause-walk c =
+    let p = page_of c.args.given.now in
+    let s : State = state_of c.args.writer.now in
+    let events = c.args.events.now in
+    let rest = drop (c.args.index + 1) events in
+    passed p s (state_of c.match-event.writer) events c.args.index c.at-event.result c.requires.index c.at-event.ensures
+    (elim c.match-event.branch [
+      | in-Exit+in_ok-exit-in-Exit w ↦
+          step-exit p s c.at-event.result rest c.role_of-role.result c.role_of-role.ensures w.in-Exit.is ∙ sym w.in_ok-exit-in-Exit.ensures ∙ ap state_of (sym w.writer-is)
+      | in-Enter-2+in_ok-enter-in-Enter-2 w ↦
+          step-enter p s c.at-event.result rest c.role_of-role.result c.role_of-role.ensures w.in-Enter-2.is (sym w.is_leaf.ensures ∙ w.if-is_leaf.false)
+          ∙ sym w.in_ok-enter-in-Enter-2.ensures ∙ ap state_of (sym w.writer-is)
+    ])
