@@ -436,7 +436,6 @@ impl Writer {
 }
 
 // The index of the first event from an index on that is not silent. At what comes before it nothing is written.
-#[inline(always)]
 fn behind_silent(events: &EventSlice, from: usize) -> usize
     requires { from ≤ length events.now }
     ensures low { from ≤ result }
