@@ -83,7 +83,7 @@ pub(crate) fn push_title(out: &mut Vec<u8>, title: Option<&[u8]>) -> Result<(), 
     if let Some(title) = title {
         out.extend_from_slice(b" title=\"")?;
         push_escaped(out, title)?;
-        out.extend_from_slice(b"\"")?;
+        out.push(b'"')?;
     }
     Ok(())
 }

@@ -150,9 +150,9 @@ pub(crate) fn push_link(
     }
     out.extend_from_slice(b"<a href=\"")?;
     push_link_address(given, out, to.destination)?;
-    out.extend_from_slice(b"\"")?;
+    out.push(b'"')?;
     push_title(out, to.title)?;
-    out.extend_from_slice(b">")?;
+    out.push(b'>')?;
     out.extend_from_slice(inside)?;
     out.extend_from_slice(b"</a>")
 }
@@ -173,7 +173,7 @@ pub(crate) fn push_image(
     push_image_address(given, out, to.destination)?;
     out.extend_from_slice(b"\" alt=\"")?;
     push_escaped(out, inside)?;
-    out.extend_from_slice(b"\"")?;
+    out.push(b'"')?;
     push_title(out, to.title)?;
     out.extend_from_slice(b" />")
 }
