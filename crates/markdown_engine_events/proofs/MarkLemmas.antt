@@ -10,7 +10,7 @@ use Rattle.markdown_event.specs.declared.event.Kind.{Kind}
 use Rattle.markdown_event.specs.declared.event.Point.{Point}
 use Rattle.markdown_engine_events.specs.declared.util.edit_map.Mark.{Mark}
 use Rattle.markdown_engine_events.specs.declared.packed.Packed.{Packed}
-use Rattle.markdown_engine_events.specs.Marks.{bare_at, marked, marked_at, nowhere}
+use Rattle.markdown_engine_events.specs.MarkedEvents.{bare_at, marked, marked_at, nowhere}
 use Rattle.markdown_engine_events.specs.EventChains.{IsUnlinked}
 use Rattle.markdown_engine_events.specs.declared.packed.Shape.{Shape}
 use Rattle.markdown_engine_events.specs.Packed.{all_unpacked, content_of, kind_of, link_kept, next_kept, previous_kept, unpacked, unpacked_from}

@@ -14,13 +14,9 @@ use Rattle.markdown_engine_events.specs.EventChains.{changed_at, link_previous, 
 use Rattle.markdown_engine_events.specs.declared.packed.Packed.{Packed}
 use Rattle.markdown_engine_events.specs.declared.packed.Chain.{Chain}
 use Rattle.markdown_engine_events.specs.declared.packed.Chain.TheVariants.{Alone, First, Inner, Last}
-use Rattle.markdown_engine_events.specs.Packed.{all_unpacked, content_in, content_of, link_kept, link_next, next_if, next_kept, previous_if, previous_kept, unpacked, unpacked_from}
+use Rattle.markdown_engine_events.specs.Packed.{all_unpacked, content_of, link_kept, link_next, next_if, next_kept, previous_if, previous_kept, unpacked, unpacked_from}
 
--- a link by its parts
-pub link-parts : (l : Option Link) → link_kept (content_in l) (link_previous l) (link_next l) ≡ l
-link-parts None = refl
-link-parts (Some l) = refl
-
+-- the parts of a link
 link-next : (c : Option Content) (p n k : Option ℕ) → link_kept c p k ≡ next_link k (link_kept c p n)
 link-next None p n k = refl
 link-next (Some c) p n k = refl

@@ -2,6 +2,6 @@
 -- What has to be believed: what public contracts and the theorem cite.
 pub mod EventChains
 pub mod Edits
-pub mod Marks
+pub mod MarkedEvents
 pub mod Packed
 pub mod Stored

@@ -9,7 +9,7 @@ ghost use lib.Seq.{paste};
 ghost use Rattle.std.specs.Prelude.{◌≡◌, ◌<◌, ◌≤◌, ◌+◌, ◌-◌, ◌^◌, ◌++◌, ◌∷◌, ◌==◌, ℕ, List, [], map, length, take, drop, OnErr, IfOk, IsTrue, IsFalse, MatchOption, Some, None, slice_index_or, true};
 ghost use Rattle.std.specs.List.{All};
 ghost use Rattle.markdown_engine_events.specs.EventChains.{changed_at, link_previous, next_link, previous_of, with_next, with_previous, IsAlone};
-ghost use Rattle.markdown_engine_events.specs.Marks.{bare_at, marked};
+ghost use Rattle.markdown_engine_events.specs.MarkedEvents.{bare_at, marked};
 ghost use Rattle.markdown_engine_events.specs.Packed.{all_unpacked, content_in, content_of, kind_of, link_kept, link_next, next_if, next_kept, previous_if, previous_kept, unpacked};
 
 use crate::util::edit_map::Mark;

@@ -26,7 +26,7 @@
 ghost use Rattle.std.specs.Prelude.{◌≡◌, ◌+◌, ◌-◌, ◌<◌, ◌++◌, ◌∷◌, [], length, IfOk, OnOk, OnErr, IsTrue, None};
 ghost use Rattle.std.specs.List.{All};
 ghost use Rattle.markdown_engine.specs.PastTree.{appended_from};
-ghost use Rattle.markdown_engine_events.specs.Marks.{marked};
+ghost use Rattle.markdown_engine_events.specs.MarkedEvents.{marked};
 ghost use Rattle.markdown_event.specs.declared.event.Kind.{Kind};
 ghost use Rattle.markdown_event.specs.declared.event.Point.{Point};
 ghost use Rattle.markdown_content.specs.declared.label_kind.LabelKind.{LabelKind};

@@ -277,7 +277,7 @@ fn edit_two_places(
     events.push(data(Kind::Enter, 0))?;
     events.push(data(Kind::Exit, last))?;
     map.add_array(1, 1, [data(Kind::Exit, 1), data(Kind::Enter, brought)])?;
-    let mark = Mark {
+    let begins = Mark {
         kind: Kind::Enter,
         name: Name::Data,
         place: 0,
@@ -288,7 +288,7 @@ fn edit_two_places(
         index: 2,
         vs: 0,
     };
-    map.add_marked(4, 0, &[mark], [place])?;
+    map.add_marked(4, 0, &[begins], [place])?;
     map.consume(events)
 }
 

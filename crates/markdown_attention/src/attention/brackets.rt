@@ -4,7 +4,7 @@
 ghost use Rattle.std.specs.Prelude.{◌≡◌, ◌+◌, ◌<◌, ◌^◌, ◌++◌, ◌∷◌, [], IfOk, OnOk, reverse};
 ghost use Rattle.std.specs.List.{All};
 ghost use Rattle.markdown_content.specs.Tree.{event};
-ghost use Rattle.markdown_engine_events.specs.Marks.{marked};
+ghost use Rattle.markdown_engine_events.specs.MarkedEvents.{marked};
 ghost use Rattle.markdown_event.specs.declared.event.Point.{Point};
 ghost use Rattle.markdown_model.specs.BracketGroups.{pair_names};
 ghost use Rattle.markdown_attention.specs.RunEvents.{shifted, total, closing_at, opening_at, closings_from, openings_from, data_at, marker_events};

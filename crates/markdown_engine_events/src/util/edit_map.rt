@@ -3,7 +3,7 @@ ghost use Rattle.std.specs.Prelude.{◌≡◌, ◌≢◌, ℕ, ◌<◌, ◌≤�
 ghost use Rattle.std.specs.List.{All};
 ghost use Rattle.std.specs.List.Sorted.{IsNonDecreasingBy};
 ghost use Rattle.markdown_engine_events.specs.EventChains.{bare, EndsChain, IsFresh, IsLinked, IsUnlinked};
-ghost use Rattle.markdown_engine_events.specs.Marks.{marked};
+ghost use Rattle.markdown_engine_events.specs.MarkedEvents.{marked};
 ghost use Rattle.markdown_engine_events.specs.Edits.{removed_at, front_at, back_at, added_at, edit_of, kept, edits_of, number_of, renumbered, noted, edited, AreBrought, AreKept, IsRest, CanEdit};
 
 use crate::event_list::{EventList, EventSlice};

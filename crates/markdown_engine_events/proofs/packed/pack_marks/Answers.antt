@@ -1,6 +1,6 @@
 use Rattle.std.proofs.Common.{◌∙◌, ◌<◌, refl, sym, length, arith}
 use Rattle.std.proofs.lemmas.List.{length-set, length-replicate}
-use Rattle.markdown_engine_events.specs.Marks.{marked_at}
+use Rattle.markdown_engine_events.specs.MarkedEvents.{marked_at}
 use Rattle.markdown_engine_events.proofs.MarkLemmas.{written-all, marks-more}
 use Rattle.markdown_engine_events.proofs.packed.pack_marks.Goals as goal
 

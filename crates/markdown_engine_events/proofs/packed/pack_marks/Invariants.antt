@@ -1,6 +1,6 @@
 use Rattle.std.proofs.Common.{◌≡◌, List, length, map, take}
 use Rattle.markdown_event.specs.declared.event.Point.{Point}
-use Rattle.markdown_engine_events.specs.Marks.{bare_at, marked}
+use Rattle.markdown_engine_events.specs.MarkedEvents.{bare_at, marked}
 use Rattle.markdown_engine_events.specs.Packed.{all_unpacked}
 use Rattle.markdown_engine_events.proofs.packed.pack_marks.Given as goal
 

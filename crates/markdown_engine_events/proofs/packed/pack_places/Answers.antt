@@ -1,6 +1,6 @@
 use Rattle.std.proofs.Common.{◌∙◌, refl, sym, arith}
 use Rattle.std.proofs.lemmas.List.{length-set, length-replicate}
-use Rattle.markdown_engine_events.specs.Marks.{bare_at}
+use Rattle.markdown_engine_events.specs.MarkedEvents.{bare_at}
 use Rattle.markdown_engine_events.proofs.MarkLemmas.{written-more, written-all}
 use Rattle.markdown_engine_events.proofs.packed.pack_places.Goals as goal
 

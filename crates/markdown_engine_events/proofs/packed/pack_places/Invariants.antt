@@ -1,5 +1,5 @@
 use Rattle.std.proofs.Common.{◌≡◌, length, map, take}
-use Rattle.markdown_engine_events.specs.Marks.{bare_at}
+use Rattle.markdown_engine_events.specs.MarkedEvents.{bare_at}
 use Rattle.markdown_engine_events.specs.Packed.{all_unpacked}
 use Rattle.markdown_engine_events.proofs.packed.pack_places.Given as goal
 

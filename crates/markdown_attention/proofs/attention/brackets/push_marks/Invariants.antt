@@ -1,5 +1,5 @@
 use Rattle.std.proofs.Common.{◌≡◌, ◌++◌, take}
-use Rattle.markdown_engine_events.specs.Marks.{marked}
+use Rattle.markdown_engine_events.specs.MarkedEvents.{marked}
 use Rattle.markdown_attention.proofs.attention.brackets.push_marks.Given as goal
 
 abbrev pub invariant-loop-mark : goal.invariant-loop-mark

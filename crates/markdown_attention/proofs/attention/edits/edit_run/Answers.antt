@@ -1,6 +1,6 @@
 use Rattle.std.proofs.Common.{◌≡◌, ◌++◌, ◌∷◌, ◌∙◌, [], List, OnOk, false, ap, get_or, subst}
 use Rattle.markdown_event.specs.declared.event.Event.{Event}
-use Rattle.markdown_engine_events.specs.Marks.{marked}
+use Rattle.markdown_engine_events.specs.MarkedEvents.{marked}
 use Rattle.markdown_attention.specs.declared.attention.runs.Sequence.{Sequence}
 use Rattle.markdown_attention.proofs.SolePairLemmas.{closing-alone, opening-alone}
 use Rattle.markdown_attention.proofs.attention.edits.edit_run.Goals as goal

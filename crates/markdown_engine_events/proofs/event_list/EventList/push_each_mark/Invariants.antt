@@ -1,5 +1,5 @@
 use Rattle.std.proofs.Common.{◌≡◌, ◌++◌, take}
-use Rattle.markdown_engine_events.specs.Marks.{marked}
+use Rattle.markdown_engine_events.specs.MarkedEvents.{marked}
 use Rattle.markdown_engine_events.proofs.event_list.EventList.push_each_mark.Given as goal
 
 abbrev pub invariant-loop-index : goal.invariant-loop-index

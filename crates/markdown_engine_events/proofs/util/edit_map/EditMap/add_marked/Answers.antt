@@ -1,7 +1,7 @@
 use Rattle.std.proofs.Common.{◌∙◌, ◌∷◌, ◌++◌, [], List, ap, refl, false}
 use Rattle.markdown_engine_events.specs.declared.util.edit_map.Edit.{Edit}
 use Rattle.markdown_engine_events.specs.declared.util.edit_map.Entry.{Entry}
-use Rattle.markdown_engine_events.specs.Marks.{marked}
+use Rattle.markdown_engine_events.specs.MarkedEvents.{marked}
 use Rattle.markdown_engine_events.proofs.MarkLemmas.{marked-plain}
 use Rattle.markdown_engine_events.proofs.EditOrder.{kept-seen, pushed-seen, taken-back, view-seen}
 use Rattle.markdown_engine_events.proofs.util.edit_map.EditMap.add_marked.Goals as goal
