@@ -29,7 +29,7 @@ enum Stored {
 ///
 /// Contracts see it as the list of the events. An event that does not fit into 16 bytes, as one at a place past
 /// 4,294,967,295, takes the list over to events as they are, 88 bytes each; no caller sees a difference,
-/// and the list stays so. Links fit that lead two places back and two places on, as all links of a run do.
+/// and the list stays so. Links fit that lead two places back and two places on, as those of states do.
 #[derive(Drop)]
 pub struct EventList {
     stored: Stored,

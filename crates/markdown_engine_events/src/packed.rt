@@ -1,7 +1,7 @@
 //! Lists of events in 16 bytes each.
 //!
 //! A packed event has all that an event has, in smaller numbers. Of its links it says only whether they lead to the event two places before it, and to the
-//! one two places behind it, as those of a run do: between two linked `Enter` events stands the `Exit` of the first. So what a packed event stands for
+//! one two places behind it, as those of states do: between two linked `Enter` events stands the `Exit` of the first. So what a packed event stands for
 //! depends on its number in the list. An event that does not fit is refused, and the caller keeps the list in another form.
 #![tactic(auto, using(crate::proofs::PackedLemmas::length_unpacked))]
 
