@@ -1,6 +1,6 @@
 //! The links, images, autolinks and literals of a text.
 
-ghost use Rattle.markdown_content.specs.Content.{IsContent};
+ghost use Rattle.markdown_content.specs.LabelTexts.{HasLabelTexts};
 
 use crate::definition::Target;
 use crate::strings::one_line;
@@ -125,7 +125,7 @@ fn target(
     node: Node,
     targets: &[Target],
 ) -> Result<Target, AllocError>
-    requires { IsContent labels.now.bytes.now labels.now.pieces.now }
+    requires { HasLabelTexts labels.now.options.now labels.now.bytes.now labels.now.pieces.now }
 {
     match target_of(alloc, labels, tree, node.enter)? {
         Some(Leads::Here(address)) => texts_of(alloc, address),
@@ -158,7 +158,7 @@ fn push_lines(
     events: &EventSlice,
     targets: &[Target],
 ) -> Result<(), AllocError>
-    requires { IsContent labels.now.bytes.now labels.now.pieces.now }
+    requires { HasLabelTexts labels.now.options.now labels.now.bytes.now labels.now.pieces.now }
 {
     let tree = Tree::new(alloc, events)?;
     for number in 0..events.len() {

@@ -5,6 +5,7 @@ pub mod CommonMark
 pub mod Codes
 pub mod Beside
 pub mod Content
+pub mod LabelTexts
 pub mod ContentBytes
 pub mod DocumentWalk
 pub mod KnownPlaces

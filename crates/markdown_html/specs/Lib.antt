@@ -2,7 +2,6 @@
 -- What has to be believed: what public contracts and the theorem cite.
 pub mod DefinitionView
 pub mod View
-pub mod LabelTexts
 pub mod EventWalk
 pub mod Brought
 -- What serves proofs: what functions and proofs promise each other.

@@ -2,11 +2,11 @@
 #![tactic(auto)]
 
 ghost use Rattle.std.specs.Prelude.{◌≡◌, ◌≤◌, ◌<◌, ◌+◌, ◌^◌, IfOk, OnOk, drop, length};
+ghost use Rattle.markdown_content.specs.LabelTexts.{HasLabelTexts};
 ghost use Rattle.markdown_content.specs.Tree.{Forest, events_of};
 ghost use Rattle.markdown_html_model.specs.Html.{Page};
 ghost use Rattle.markdown_html.specs.Brought.{brought, left_of, target_bytes};
 ghost use Rattle.markdown_html.specs.BroughtWalk.{Counted, brought_where, count_of, counted, counted_close, counted_enter, counted_step, joined_seen, nothing_seen, own_seen, seen_brought};
-ghost use Rattle.markdown_html.specs.LabelTexts.{HasLabelTexts};
 ghost use Rattle.markdown_html.specs.View.{HasContent, page_from, page_of, target_view};
 
 use crate::addresses::Given;
@@ -247,7 +247,7 @@ pub fn left_of_limit(
     options: HtmlOptions,
     limit: usize,
 ) -> Result<Option<usize>, AllocError>
-    requires content { HasLabelTexts parse_state.now pieces.now }
+    requires content { HasLabelTexts parse_state.now.options.now parse_state.now.bytes.now pieces.now }
     ensures { (t : Forest) → events.now ≡ events_of t → IfOk result (λ left. left ≡ left_of (Some limit) (brought (page_from parse_state.now pieces.now definitions.now options) t)) }
 {
     let given = Given {

@@ -4,13 +4,13 @@
 ghost use Rattle.std.specs.Prelude.{◌≡◌, ◌≤◌, ◌<◌, ◌+◌, ◌^◌, ◌++◌, ◌∷◌, ◌&&◌, [], List, if◌then◌else◌, map, reverse, IfOk, IfSome, OnErr, OnOk, Option, drop, false, length, take, true, ℕ};
 ghost use Rattle.std.specs.List.{All};
 ghost use Rattle.markdown_content.specs.Content.{document_limit};
+ghost use Rattle.markdown_content.specs.LabelTexts.{HasLabelTexts};
 ghost use Rattle.markdown_content.specs.Tree.{Forest, events_from, events_of};
 ghost use Rattle.markdown_passes.specs.TrimmedData.{IsStretch};
 ghost use Rattle.markdown_innermost.specs.InnermostEvents.{innermost, IsSpanInOrder};
 ghost use Rattle.markdown_html_model.specs.Html.{Page, calls_behind, group_html, html, joined_parts, no_parts, own_calls, plain_text, plain_text_by, within_of, written};
 ghost use Rattle.markdown_html_model.specs.Roles.{role_of};
 ghost use Rattle.markdown_html_model.specs.OwnMarkup.{IsOwnMarkup};
-ghost use Rattle.markdown_html.specs.LabelTexts.{HasLabelTexts};
 ghost use Rattle.markdown_html.specs.View.{HasContent, open_view, page_from, page_of, parts_of, state_of};
 ghost use Rattle.markdown_html.specs.EventWalk.{State, before_left, before_parts, closed_apart, closed_around, entered, exit_first, exited, filled_before, has_parts, is_apart, is_bare, is_leaf, is_light, is_silent, is_text_alone, keeps_inside, opened_by, rewritten, stepped, walked};
 
@@ -534,7 +534,7 @@ pub fn to_html(
     options: HtmlOptions,
 ) -> Result<Vec<u8>, AllocError>
     requires fits { length parse_state.now.bytes.now ≤ document_limit }
-    requires content { HasLabelTexts parse_state.now pieces.now }
+    requires content { HasLabelTexts parse_state.now.options.now parse_state.now.bytes.now pieces.now }
     requires places { All (IsSpanInOrder parse_state.now.bytes.now) (innermost events.now) }
     ensures exact { (t : Forest) → events.now ≡ events_of t → IfOk result (λ written. written.items ≡ html (page_from parse_state.now pieces.now definitions.now options) calls.old t) }
     ensures calls { (t : Forest) → events.now ≡ events_of t → OnOk result (calls.new ≡ calls_behind (page_from parse_state.now pieces.now definitions.now options) calls.old t) }

@@ -1,7 +1,7 @@
 //! Where a node of a tree leads.
 ghost use Rattle.std.specs.Prelude.{◌≡◌, IfOk};
 ghost use Rattle.std.specs.Option.{option_map};
-ghost use Rattle.markdown_content.specs.Content.{IsContent};
+ghost use Rattle.markdown_content.specs.LabelTexts.{HasLabelTexts};
 ghost use Rattle.markdown_html_model.specs.Resolved.{decoding_of};
 ghost use Rattle.markdown_tree.specs.LabelsView.{given_of};
 ghost use Rattle.markdown_tree.specs.Referred.{second_inside};
@@ -71,7 +71,7 @@ fn written(alloc: Global, bytes: &[u8], before: &[u8], node: Node) -> Result<Tar
 
 // The definition that a node refers to.
 fn referred(labels: &Labels, tree: &Tree, node: Node) -> Result<Option<Target>, AllocError>
-    requires { IsContent labels.now.bytes.now labels.now.pieces.now }
+    requires { HasLabelTexts labels.now.options.now labels.now.bytes.now labels.now.pieces.now }
     ensures { IfOk result (λ to. option_map led_of to ≡ referred (given_of labels.now) tree.now node) }
 {
     match labels.met(tree, node.enter)? {
@@ -82,7 +82,7 @@ fn referred(labels: &Labels, tree: &Tree, node: Node) -> Result<Option<Target>, 
 
 // The footnote that a node refers to.
 fn called(labels: &Labels, tree: &Tree, node: Node) -> Result<Option<Target>, AllocError>
-    requires { IsContent labels.now.bytes.now labels.now.pieces.now }
+    requires { HasLabelTexts labels.now.options.now labels.now.bytes.now labels.now.pieces.now }
     ensures { IfOk result (λ to. option_map led_of to ≡ called (given_of labels.now) tree.now node) }
 {
     match labels.met(tree, node.enter)? {
@@ -98,7 +98,7 @@ fn link_target(
     tree: &Tree,
     node: Node,
 ) -> Result<Option<Target>, AllocError>
-    requires { IsContent labels.now.bytes.now labels.now.pieces.now }
+    requires { HasLabelTexts labels.now.options.now labels.now.bytes.now labels.now.pieces.now }
     ensures { IfOk result (λ to. option_map led_of to ≡ link_target (decoding_of labels.now.options.now) (given_of labels.now) tree.now node (second_inside tree.now node)) }
 {
     let Some(tail) = second_inside(tree, node) else {
@@ -140,7 +140,7 @@ fn node_target(
     tree: &Tree,
     node: Node,
 ) -> Result<Option<Target>, AllocError>
-    requires { IsContent labels.now.bytes.now labels.now.pieces.now }
+    requires { HasLabelTexts labels.now.options.now labels.now.bytes.now labels.now.pieces.now }
     ensures { IfOk result (λ to. option_map led_of to ≡ node_target (decoding_of labels.now.options.now) (given_of labels.now) tree.now node.name node) }
 {
     let bytes = labels.bytes;
@@ -170,7 +170,7 @@ pub fn target_of(
     tree: &Tree,
     node: usize,
 ) -> Result<Option<Target>, AllocError>
-    requires { IsContent labels.now.bytes.now labels.now.pieces.now }
+    requires { HasLabelTexts labels.now.options.now labels.now.bytes.now labels.now.pieces.now }
     ensures { IfOk result (λ to. option_map led_of to ≡ target_at (decoding_of labels.now.options.now) (given_of labels.now) tree.now node) }
 {
     match tree.node(node) {

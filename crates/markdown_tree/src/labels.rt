@@ -4,6 +4,7 @@ ghost use Rattle.std.specs.Option.{option_map};
 ghost use Rattle.markdown_content.specs.CommonMark.{rules_of};
 ghost use Rattle.markdown_content.specs.Content.{IsContent, content_of};
 ghost use Rattle.markdown_content.specs.ContentBytes.{bytes_within};
+ghost use Rattle.markdown_content.specs.LabelTexts.{HasLabelTexts};
 ghost use Rattle.markdown_tree.specs.LabelsView.{given_of};
 ghost use Rattle.markdown_tree.specs.Referred.{behind, behind_caret, definition_of, first_inside, footnote_of, if_utf8, label_identifier, met, named_by_label, named_by_reference, named_by_text, node_identifier, second_inside, text_between, undefined_footnote};
 
@@ -143,7 +144,7 @@ impl<'a> Labels<'a> {
         from: usize,
         to: usize,
     ) -> Result<Option<String>, AllocError>
-        requires content { IsContent self.now.bytes.now self.now.pieces.now }
+        requires content { HasLabelTexts self.now.options.now self.now.bytes.now self.now.pieces.now }
         requires in_order { from ≤ to }
         requires within { to ≤ length self.now.bytes.now }
         ensures { IfOk result (λ identifier. option_map string_bytes identifier ≡ option_map (label_identifier has_caret (rules_of self.now.options.now).nul_is_replaced) (if_utf8 (text_between (given_of self.now) from to))) }
@@ -159,7 +160,7 @@ impl<'a> Labels<'a> {
 
     // The identifier of the text of a node.
     fn node_identifier(&self, has_caret: bool, node: Node) -> Result<Option<String>, AllocError>
-        requires content { IsContent self.now.bytes.now self.now.pieces.now }
+        requires content { HasLabelTexts self.now.options.now self.now.bytes.now self.now.pieces.now }
         ensures { IfOk result (λ identifier. option_map string_bytes identifier ≡ node_identifier (given_of self.now) has_caret node) }
     {
         let (from, to) = (node.start.index, node.end.index);
@@ -172,7 +173,7 @@ impl<'a> Labels<'a> {
 
     // The definition that the text of a label names.
     fn named_by_label(&self, tree: &Tree, label: Node) -> Result<Option<usize>, AllocError>
-        requires content { IsContent self.now.bytes.now self.now.pieces.now }
+        requires content { HasLabelTexts self.now.options.now self.now.bytes.now self.now.pieces.now }
         ensures { IfOk result (λ number. number ≡ named_by_label (given_of self.now) tree.now label) }
     {
         let Some(text) = second_inside(tree, label) else {
@@ -187,7 +188,7 @@ impl<'a> Labels<'a> {
 
     // The definition that the text of a reference names.
     fn named_by_text(&self, node: Node) -> Result<Option<usize>, AllocError>
-        requires content { IsContent self.now.bytes.now self.now.pieces.now }
+        requires content { HasLabelTexts self.now.options.now self.now.bytes.now self.now.pieces.now }
         ensures { IfOk result (λ number. number ≡ named_by_text (given_of self.now) node) }
     {
         match self.node_identifier(false, node)? {
@@ -203,7 +204,7 @@ impl<'a> Labels<'a> {
         label: Node,
         reference: Node,
     ) -> Result<Option<usize>, AllocError>
-        requires content { IsContent self.now.bytes.now self.now.pieces.now }
+        requires content { HasLabelTexts self.now.options.now self.now.bytes.now self.now.pieces.now }
         ensures { IfOk result (λ number. number ≡ named_by_reference (given_of self.now) tree.now label (second_inside tree.now reference)) }
     {
         let Some(part) = second_inside(tree, reference) else {
@@ -217,7 +218,7 @@ impl<'a> Labels<'a> {
 
     // The definition that a link or an image with this label refers to.
     fn definition_of(&self, tree: &Tree, label: Node) -> Result<Option<usize>, AllocError>
-        requires content { IsContent self.now.bytes.now self.now.pieces.now }
+        requires content { HasLabelTexts self.now.options.now self.now.bytes.now self.now.pieces.now }
         ensures { IfOk result (λ number. number ≡ definition_of (given_of self.now) tree.now label (behind tree.now label)) }
     {
         let Some(tail) = behind(tree, label) else {
@@ -231,7 +232,7 @@ impl<'a> Labels<'a> {
 
     // The footnote that a call with this label refers to.
     fn footnote_of(&self, tree: &Tree, label: Node) -> Result<Option<usize>, AllocError>
-        requires content { IsContent self.now.bytes.now self.now.pieces.now }
+        requires content { HasLabelTexts self.now.options.now self.now.bytes.now self.now.pieces.now }
         ensures { IfOk result (λ number. number ≡ footnote_of (given_of self.now) tree.now label) }
     {
         let Some(text) = second_inside(tree, label) else {
@@ -251,7 +252,7 @@ impl<'a> Labels<'a> {
     ///
     /// The only error is that memory was refused.
     pub fn met(&self, tree: &Tree, node: usize) -> Result<Option<usize>, AllocError>
-        requires content { IsContent self.now.bytes.now self.now.pieces.now }
+        requires content { HasLabelTexts self.now.options.now self.now.bytes.now self.now.pieces.now }
         ensures { IfOk result (λ number. number ≡ met (given_of self.now) tree.now node) }
     {
         let Some(node) = tree.node(node) else {
