@@ -276,7 +276,7 @@ fn edit_two_places(
     events.push(data(Kind::Exit, 0))?;
     events.push(data(Kind::Enter, 0))?;
     events.push(data(Kind::Exit, last))?;
-    map.add_array(1, 1, [data(Kind::Exit, 1), data(Kind::Enter, brought)])?;
+    map.add_slice(1, 1, &[data(Kind::Exit, 1), data(Kind::Enter, brought)])?;
     let begins = Mark {
         kind: Kind::Enter,
         name: Name::Data,

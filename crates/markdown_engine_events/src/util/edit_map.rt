@@ -391,23 +391,6 @@ fn make_room(comes: &mut EventList) -> Result<(), AllocError>
     Ok(())
 }
 
-// Adds so many events, each of them written straight to its place.
-#[inline(always)]
-fn push_each<const N: usize>(comes: &mut EventList, events: [Event; N]) -> Result<(), AllocError>
-    ensures ok { OnOk result (comes.new ≡ comes.old ++ events.entry) }
-    ensures err { OnErr result (comes.new ≡ comes.old) }
-{
-    make_room(comes)?;
-    let from = comes.len();
-    for index in 0..N {
-        if comes.push(events[index]).is_err() {
-            comes.truncate(from);
-            return Err(AllocError);
-        }
-    }
-    Ok(())
-}
-
 // Adds the events of marks at these places.
 #[inline(always)]
 fn push_marks<const N: usize, const K: usize>(
@@ -528,39 +511,6 @@ impl EditMap {
         ensures err { OnErr result (self.new ≡ self.old) }
     {
         self.push(at, remove, events, false)
-    }
-
-    /// As `add`, with a fixed number of events, by value: each is written straight to its place in the map.
-    ///
-    /// `Err` only if memory is refused; the edits are then as they were.
-    #[inline(always)]
-    pub fn add_array<const N: usize>(
-        &mut self,
-        at: usize,
-        remove: usize,
-        events: [Event; N],
-    ) -> Result<(), AllocError>
-        requires { All IsUnlinked events }
-        ensures ok { OnOk result (self.new
-            ≡ self.old ++ (record { at = at; remove = remove; events = events.entry; before = false }) ∷ []) }
-        ensures err { OnErr result (self.new ≡ self.old) }
-    {
-        let from = self.comes.len();
-        push_each(&mut self.comes, events)?;
-        let entry = Entry {
-            at,
-            remove,
-            from,
-            to: self.comes.len(),
-            before: false,
-        };
-        match self.log.push(entry) {
-            Ok(()) => Ok(()),
-            Err(_) => {
-                self.comes.truncate(from);
-                Err(AllocError)
-            }
-        }
     }
 
     /// As `add`, with the events of marks at these places: the numbers of each place are looked at once.
