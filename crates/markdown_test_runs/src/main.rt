@@ -17,6 +17,7 @@
 //!   at the byte `at=INDEX`, given as in a piece, where the scratch fields that are not at rest are those of `fields=FIELDS`. Indexes, the markers
 //!   of data, and whether a text is the first of an item are left out there.
 //! - `met`: a text, of which each link, image and footnote call is to name the definition that it refers to. Here the row defines labels.
+//! - `named`: labels that the row defines, each of which is to name the definition that it refers to.
 //! - A run of the program: `program`, of which the document is the input; `slow`, with a reader that gives it a byte at a time, and may have a fault
 //!   behind; `broken`, with such a reader and a byte behind the document that is not UTF-8; `narrow`, with a writer that takes so many bytes at
 //!   most; `mute`, with such a writer for what goes wrong, where the input is `a`; `wordless`, where the words cannot be read.

@@ -1,5 +1,5 @@
 //! Which definitions links and images refer to, and which footnotes calls.
-ghost use Rattle.markdown_content.specs.Content.{IsContent};
+ghost use Rattle.markdown_content.specs.LabelTexts.{HasLabelTexts};
 
 use crate::answers::Answers;
 use crate::row::Row;
@@ -12,11 +12,15 @@ use markdown_inline::run::{is_text, text_list};
 use markdown_inline::tree::Tree;
 use std::alloc::{AllocError, Global};
 
-// The definitions of these labels.
-fn defined(alloc: Global, labels: &[String]) -> Result<Definitions, AllocError> {
+// The definitions of these labels, by rules that do or do not read NUL as U+FFFD.
+fn defined(
+    alloc: Global,
+    labels: &[String],
+    nul_is_replaced: bool,
+) -> Result<Definitions, AllocError> {
     let mut definitions = Definitions::new(alloc);
     for label in labels {
-        definitions.add(label.as_str())?;
+        definitions.add_by(label.as_str(), nul_is_replaced)?;
     }
     Ok(definitions)
 }
@@ -34,7 +38,7 @@ fn print_numbers(
     events: &EventSlice,
     out: &mut Answers,
 ) -> Result<(), AllocError>
-    requires { IsContent labels.now.bytes.now labels.now.pieces.now }
+    requires { HasLabelTexts labels.now.options.now labels.now.bytes.now labels.now.pieces.now }
 {
     let tree = Tree::new(alloc, events)?;
     for number in 0..events.len() {
@@ -99,7 +103,42 @@ fn print_met_among(
 
 /// Prints what the links, images and footnote calls of a text refer to, where the row defines these labels.
 pub(crate) fn print_met(alloc: Global, row: &Row, out: &mut Answers) -> Result<(), AllocError> {
-    let definitions = defined(alloc, row.definitions.as_slice())?;
-    let footnotes = defined(alloc, row.footnotes.as_slice())?;
+    let nul_is_replaced = row.options.rules().nul_is_replaced;
+    let definitions = defined(alloc, row.definitions.as_slice(), nul_is_replaced)?;
+    let footnotes = defined(alloc, row.footnotes.as_slice(), nul_is_replaced)?;
     print_met_among(alloc, row, &definitions, &footnotes, out)
+}
+
+// The number of the definition that each of these labels refers to.
+fn numbers_of(
+    alloc: Global,
+    definitions: &Definitions,
+    labels: &[String],
+    nul_is_replaced: bool,
+) -> Result<Vec<Option<usize>>, AllocError> {
+    let mut numbers = Vec::new(alloc);
+    for label in labels {
+        let number = if nul_is_replaced {
+            definitions.find_by(label.as_str(), true)?
+        } else {
+            definitions.find(label.as_str())?
+        };
+        numbers.push(number)?;
+    }
+    Ok(numbers)
+}
+
+/// Prints for each label of the row the number of the definition that it refers to, where the row defines these labels.
+pub(crate) fn print_named(alloc: Global, row: &Row, out: &mut Answers) -> Result<(), AllocError> {
+    let nul_is_replaced = row.options.rules().nul_is_replaced;
+    let labels = row.definitions.as_slice();
+    let definitions = defined(alloc, labels, nul_is_replaced)?;
+    let numbers = numbers_of(alloc, &definitions, labels, nul_is_replaced)?;
+    for number in &numbers {
+        match number {
+            Some(number) => out.count(" ", *number),
+            None => out.say(" -"),
+        }
+    }
+    Ok(())
 }

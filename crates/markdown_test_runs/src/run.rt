@@ -6,7 +6,7 @@ use crate::counted::print_counts;
 use crate::edits::print_edits;
 use crate::lines::{print_events, print_leaf, print_probes};
 use crate::listed::{print_string_list, print_text_list};
-use crate::met::print_met;
+use crate::met::{print_met, print_named};
 use crate::moved::is_found_again;
 use crate::pairs::{print_likeness, print_string_likeness};
 use crate::program::print_program;
@@ -30,6 +30,7 @@ pub(crate) fn print_found(
             print_program(alloc, reading, &row, out)
         }
         "met" => print_met(alloc, &row, out),
+        "named" => print_named(alloc, &row, out),
         _ => print_content(alloc, reading, row, out),
     }
 }

@@ -225,7 +225,7 @@ def own_cases(line):
         yield from pair_cases(words, document, pieces)
     elif kind == 'passes':
         yield passes_case(words, document, pieces, answer)
-    elif kind == 'met':
+    elif kind in ('met', 'named'):
         fields = word_fields(words) + piece_fields(pieces, examples.plain(document).encode()) + list(document_fields(document))
         yield [kind] + fields, answer.replace(',', '')
     elif kind == 'value':

@@ -1,9 +1,9 @@
 //! Definitions by their labels: the first of those whose labels match counts (CommonMark 4.7).
 ghost use Rattle.std.specs.Prelude.{◌≡◌, ◌==◌, ◌++◌, ◌∷◌, [], IfOk, IsSome, OnOk, OnErr, None, length, map, string_bytes};
-ghost use Rattle.markdown_util.specs.Identifier.{identifier_of};
+ghost use Rattle.markdown_util.specs.Identifier.{identifier_by, identifier_of};
 ghost use Rattle.markdown_tree.specs.Numbers.{added_to, number_of, with_identifier};
 
-use markdown_util::util::normalize_identifier::normalize_identifier;
+use markdown_util::util::normalize_identifier::identifier_by;
 use std::alloc::{AllocError, Global};
 use std::collections::BTreeMap;
 use std::marker::Model;
@@ -122,7 +122,7 @@ impl Definitions {
         }
     }
 
-    /// Adds the definition of a label, which is the text between its brackets, or behind the caret of a footnote's.
+    /// Adds the definition of a label, which is the text between its brackets, or behind the caret of a footnote's. NUL in a label stands for itself.
     ///
     /// It is kept where no definition with the same identifier was added before it. Takes time in proportion to the label, and to the
     /// logarithm of how many there are. The only error is that memory was refused; nothing is added then.
@@ -131,7 +131,19 @@ impl Definitions {
         ensures added { IfOk result (λ added. added ≡ added_to (identifier_of label.now) self.old) }
         ensures err { OnErr result (self.new ≡ self.old) }
     {
-        let identifier = normalize_identifier(self.alloc, label)?;
+        self.add_by(label, false)
+    }
+
+    /// As `add`, for documents that are read by rules. NUL in a label stands for U+FFFD or for itself, as the rule `nul_is_replaced` says; the option
+    /// `commonmark` has NUL replaced.
+    ///
+    /// The only error is that memory was refused; nothing is added then.
+    pub fn add_by(&mut self, label: &str, nul_is_replaced: bool) -> Result<Added, AllocError>
+        ensures ok { OnOk result (self.new ≡ with_identifier (identifier_by nul_is_replaced label.now) self.old) }
+        ensures added { IfOk result (λ added. added ≡ added_to (identifier_by nul_is_replaced label.now) self.old) }
+        ensures err { OnErr result (self.new ≡ self.old) }
+    {
+        let identifier = identifier_by(self.alloc, label, nul_is_replaced)?;
         if let Some(number) = self.number(identifier.as_str()) {
             return Ok(Added::Earlier(number));
         }
@@ -140,13 +152,23 @@ impl Definitions {
         Ok(Added::First(number))
     }
 
-    /// The number of the definition that a label refers to.
+    /// The number of the definition that a label refers to. NUL in the label stands for itself.
     ///
     /// The only error is that memory was refused.
     pub fn find(&self, label: &str) -> Result<Option<usize>, AllocError>
         ensures { IfOk result (λ number. number ≡ number_of (identifier_of label.now) self.now) }
     {
-        Ok(self.number(normalize_identifier(self.alloc, label)?.as_str()))
+        self.find_by(label, false)
+    }
+
+    /// As `find`, where NUL in the label stands for U+FFFD or for itself, as for `add_by`.
+    ///
+    /// The only error is that memory was refused.
+    pub fn find_by(&self, label: &str, nul_is_replaced: bool) -> Result<Option<usize>, AllocError>
+        ensures { IfOk result (λ number. number ≡ number_of (identifier_by nul_is_replaced label.now) self.now) }
+    {
+        let identifier = identifier_by(self.alloc, label, nul_is_replaced)?;
+        Ok(self.number(identifier.as_str()))
     }
 
     /// The identifiers in the order of their numbers, as `ParseState` takes them.
