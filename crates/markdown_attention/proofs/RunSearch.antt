@@ -1,17 +1,19 @@
 -- A walk past events that change nothing of what is read of the runs.
-use Rattle.std.proofs.Common.{◌≡◌, ℕ, zero, suc, ◌+◌, ◌-◌, ◌<◌, ◌≤◌, ◌||◌, Bool, true, false, List, [], ◌∷◌, ◌++◌, length, drop, get_or, refl, sym, ap, subst, ◌∙◌, arith, append-nil, inl, inr}
+use Rattle.std.proofs.Common.{◌≡◌, ℕ, zero, suc, ◌+◌, ◌-◌, ◌<◌, ◌≤◌, ◌&&◌, ◌||◌, Bool, true, false, List, [], ◌∷◌, ◌++◌, length, drop, get_or, refl, sym, ap, subst, ◌∙◌, arith, append-nil, inl, inr}
 use Rattle.std.proofs.lemmas.Bool.{cases_lt}
 use Rattle.std.proofs.lemmas.List.{get_or_default}
 use Rattle.markdown_content.specs.declared.configuration.ParseOptions.{ParseOptions}
 use Rattle.markdown_event.specs.declared.event.Event.{Event}
-use Rattle.markdown_attention.specs.RunsRead.{Container, is_text, opens_run, where_after, first_run}
-use Rattle.markdown_attention.specs.RunSteps.{changes_reading}
+use Rattle.markdown_event.specs.declared.event.Name.{Name}
+use Rattle.markdown_event.specs.declared.event.Name.TheVariants as N
+use Rattle.markdown_attention.specs.RunsRead.{Container, is_enter, is_run, is_text, opens_run, where_after, first_run}
+use Rattle.markdown_attention.specs.RunSteps.{changes_reading, is_run_or_text}
 use Rattle.markdown_attention.specs.declared.attention.reading.Where.{Where}
 use Rattle.markdown_attention.specs.declared.attention.runs.Sequence.{Sequence}
 use Rattle.markdown_attention.proofs.RunsReadLemmas.{RunsSoFar, first-event, reading-more}
 use Rattle.markdown_content.specs.Codes.{Code}
 
-event-at : (k : ℕ) (es : List Event) → k < length es → (e : Event) × (e ≡ get_or es k e)
+pub event-at : (k : ℕ) (es : List Event) → k < length es → (e : Event) × (e ≡ get_or es k e)
 event-at k [] l = absurd (omega (arith, l))
 event-at zero (x ∷ es) l = (x, refl)
 event-at (suc k) (x ∷ es) l = event-at k es (omega (arith, l))
@@ -49,12 +51,39 @@ no-text e h = by_test (opens_run e) (is_text e.name) h
     by_test true false h = refl
     by_test false t h = h
 
-first-none : (options : ParseOptions) (bytes : List ℕ) (content : List Code) (n i : ℕ) (k : Container) (e : Event) (es : List Event) → opens_run e ≡ false →
+-- an event of another name changes nothing
+pub other-name : (e : Event) → is_run_or_text e.name ≡ false → changes_reading e ≡ false
+other-name e h = by_test (is_enter e.kind) (is_run e.name) (is_text e.name) h
+  where
+    by_test : (k r t : Bool) → (r || t) ≡ false → (k && r || t) ≡ false
+    by_test true r t h = h
+    by_test false true true h = h
+    by_test false true false h = refl
+    by_test false false t h = h
+
+-- the Enter of a run is no event of a text
+pub run-no-text : (e : Event) → opens_run e ≡ true → is_text e.name ≡ false
+run-no-text e h = by_name e.name (by_test (is_enter e.kind) (is_run e.name) h)
+  where
+    by_test : (k r : Bool) → (k && r) ≡ true → r ≡ true
+    by_test true r h = h
+    by_test false true h = refl
+    by_test false false h = h
+
+    by_name : (name : Name) → is_run name ≡ true → is_text name ≡ false
+    by_name N.LabelText h = cc
+    by_name _ h = refl
+
+-- two events at one place
+pub one-event : (es : List Event) (i : ℕ) (e x : Event) → i < length es → e ≡ get_or es i e → x ≡ get_or es i x → e ≡ x
+one-event es i e x l h k = h ∙ get_or_default es i e x l ∙ sym k
+
+pub first-none : (options : ParseOptions) (bytes : List ℕ) (content : List Code) (n i : ℕ) (k : Container) (e : Event) (es : List Event) → opens_run e ≡ false →
     first_run options bytes content n i k (e ∷ es) ≡ []
 first-none options bytes content n i k e [] h = refl
 first-none options bytes content n i k e (x ∷ es) h = rw h refl
 
-where-same : (i : ℕ) (e : Event) (w : Where) → is_text e.name ≡ false → w ≡ where_after i e w
+pub where-same : (i : ℕ) (e : Event) (w : Where) → is_text e.name ≡ false → w ≡ where_after i e w
 where-same i e w h = rw h refl
 
 -- they change nothing of what is read

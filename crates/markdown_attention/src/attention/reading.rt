@@ -3,7 +3,7 @@
 ghost use Rattle.std.specs.Prelude.{◌≡◌, ℕ, ◌+◌, ◌<◌, ◌≤◌, ◌^◌, ◌++◌, length, drop, slice_index_or, count_by, false, IfOk, OnOk, IsUtf8, IsCharBoundary, Option, None};
 ghost use Rattle.markdown_content.specs.CommonMark.{rules_of};
 ghost use Rattle.markdown_attention.specs.RunsRead.{opens_run, opens_text, sequence_at, where_after, outermost, first_run, runs_from, IsRunPlace, FirstHasPlaces, HaveRunPlaces};
-ghost use Rattle.markdown_attention.specs.RunSteps.{changes_reading};
+ghost use Rattle.markdown_attention.specs.RunSteps.{changes_reading, is_run_or_text};
 ghost use Rattle.markdown_attention.specs.PairScan.{Numbered};
 ghost use Rattle.markdown_model.specs.Runs.{before_run, after_run, as_read, class_beside, is_beside_marker, is_flanking, may_act};
 
@@ -215,22 +215,24 @@ fn opens_run(event: Event) -> bool
     matches!(event.kind, Kind::Enter) && matches!(event.name, Name::AttentionSequence)
 }
 
-// Adds the run that an event begins.
+// Adds the run that an event begins, or passes the event where it begins none.
 fn read_event(
     bytes: &[u8],
     options: ParseOptions,
     cursor: &Cursor,
     events: &Events,
     index: usize,
-    place: &Where,
+    place: &mut Where,
     list: &mut Vec<Sequence>,
 ) -> Result<(), AllocError>
     requires utf8 { IsUtf8 bytes.now }
     requires within { index < length events.now }
     requires counted { length events.now < 2 ^ 64 }
     requires places { FirstHasPlaces bytes.now (drop index events.now) }
-    ensures { OnOk result (list.new.items
-        ≡ list.old.items ++ first_run options bytes.now cursor.now.codes (length list.old.items) index place.now.container (drop index events.now)) }
+    requires few { place.old.texts + 1 < 2 ^ 64 }
+    ensures list { OnOk result (list.new.items
+        ≡ list.old.items ++ first_run options bytes.now cursor.now.codes (length list.old.items) index place.old.container (drop index events.now)) }
+    ensures place { (e : Event) → e ≡ slice_index_or events.now index e → OnOk result (place.new ≡ where_after index e place.old) }
 {
     let enter = events.bare_at(index);
     if opens_run(enter) {
@@ -247,15 +249,24 @@ fn read_event(
             exit.point,
         );
         list.push(run)?;
+        return Ok(());
     }
-    Ok(())
+    place.pass(index, enter)
 }
 
 // The number of the name of a label's text. The name of a run has the number 0, and no other name has a multiple of this one.
 const STEP: u8 = Name::LabelText as u8;
 
-// Whether the event changes what is read: the Enter of a run, or one of the text of a label. Most events have another name, and one test of its
-// number passes them, which is faster than a test for each name.
+// Whether an event has the name of a run or of the text of a label. Most have another name, and one test of its number passes them, which is faster
+// than a test for each name.
+#[inline(always)]
+fn is_run_or_text(name: Name) -> bool
+    ensures { result ≡ is_run_or_text name }
+{
+    name as u8 % STEP == 0
+}
+
+// Whether the event changes what is read: the Enter of a run, or one of the text of a label.
 #[inline(always)]
 fn changes_reading(event: &Event) -> bool
     ensures { result ≡ changes_reading event.now }
@@ -267,7 +278,8 @@ fn changes_reading(event: &Event) -> bool
 // How many events are looked at with no other look between.
 const EIGHT: usize = 8;
 
-// How many of the eight events from this index on come before the first that changes what is read.
+// How many of the eight events from this index on come before the first that has the name of a run or of the text of a label: none of these changes
+// what is read.
 #[inline(always)]
 fn others_among_eight(events: &Events, at: usize) -> usize
     requires within { at + EIGHT ≤ length events.now }
@@ -276,14 +288,30 @@ fn others_among_eight(events: &Events, at: usize) -> usize
     ensures none { (i : ℕ) (e : Event) → at ≤ i → i < at + result → changes_reading (slice_index_or events.now i e) ≡ false }
 {
     for count in 0..EIGHT {
-        if changes_reading(&events.bare_at(at + count)) {
+        if is_run_or_text(events.bare_at(at + count).name) {
             return count;
         }
     }
     EIGHT
 }
 
-// The number of the first event from an event on that changes what is read, or of one before it, where fewer than eight are left.
+// The number of the event behind one that does not change what is read, and of the event itself where it does, or where there is none.
+#[inline(always)]
+fn past_one(events: &Events, at: usize) -> usize
+    requires { at ≤ length events.now }
+    ensures from { at ≤ result }
+    ensures within { result ≤ length events.now }
+    ensures none { (i : ℕ) (e : Event) → at ≤ i → i < result → changes_reading (slice_index_or events.now i e) ≡ false }
+{
+    if at < events.len() && !changes_reading(&events.bare_at(at)) {
+        at + 1
+    } else {
+        at
+    }
+}
+
+// The number of the first event from an event on that changes what is read, or of one before it: where fewer than eight are left, or at the Exit of a
+// run. Behind an Enter of a run that stands at once, so that one look passes it.
 #[inline(always)]
 fn next_change(events: &Events, from: usize) -> usize
     requires { from ≤ length events.now }
@@ -292,7 +320,7 @@ fn next_change(events: &Events, from: usize) -> usize
     ensures none { (i : ℕ) (e : Event) → from ≤ i → i < result → changes_reading (slice_index_or events.now i e) ≡ false }
 {
     let count = events.len();
-    let mut at = from;
+    let mut at = past_one(events, from);
     while count - at >= EIGHT {
         let others = others_among_eight(events, at);
         at += others;
@@ -333,8 +361,7 @@ pub(crate) fn read(
     let count = events.len();
     let mut index = next_change(events, 0);
     while index < count {
-        read_event(bytes, options, cursor, events, index, &place, &mut list)?;
-        place.pass(index, events.bare_at(index))?;
+        read_event(bytes, options, cursor, events, index, &mut place, &mut list)?;
         index = next_change(events, index + 1);
     }
     Ok(Found {
