@@ -84,7 +84,7 @@ edits-same f g (x ∷ xs) (y ∷ ys) l h k =
     λ z. (record { at = h 0 (omega arith) z; remove = 2; events = k 0 (omega arith) z; before = false }) ∷ more z
 
 -- each run has its place as its number
-numbered-is : (options : ParseOptions) (bytes : List ℕ) (content : List Code) (es : List Event) → HaveRunPlaces bytes es → (i : ℕ) →
+pub numbered-is : (options : ParseOptions) (bytes : List ℕ) (content : List Code) (es : List Event) → HaveRunPlaces bytes es → (i : ℕ) →
     i < length (runs_from options bytes content 0 0 outermost es) →
     (run_at (runs_from options bytes content 0 0 outermost es) i).number ≡ i
 numbered-is options bytes content es places i l = numbered (λ r. []) options bytes content es 0 0 outermost i places l ∙ omega arith

@@ -27,6 +27,7 @@ pub mod AttentionEditsLaw
 pub mod RunEditsPossible
 pub mod RunEventEnds
 pub mod BracketAppends
+pub mod ClosedPairs
 pub mod PairSizeSteps
 pub mod SizeNodeLemmas
 pub mod SolePairLemmas

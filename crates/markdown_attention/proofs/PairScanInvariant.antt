@@ -6,7 +6,7 @@ use Rattle.std.specs.Prelude.{All}
 use Rattle.markdown_attention.specs.declared.attention.runs.Sequence.{Sequence}
 use Rattle.markdown_attention.specs.declared.attention.pairing.Pair.{Pair}
 use Rattle.markdown_content.specs.declared.configuration.ParseOptions.{ParseOptions}
-use Rattle.markdown_attention.specs.RunContainers.{ArePairsWithin, AreTakenOnce}
+use Rattle.markdown_attention.specs.RunContainers.{ArePairsWithin, AreTakenOnce, AreByCloser}
 use Rattle.markdown_attention.specs.NumberedPairs.{row_of, Eligible, IsNextNumbered, PairsFrom, NoneEligibleBetween, run_at, pairs_in, taken, takes, left}
 use Rattle.markdown_attention.proofs.RemainingSizes.{taken_push, takes_opener, takes_closer, takes_other, fits_size}
 
@@ -55,6 +55,15 @@ module _ (options : ParseOptions) (runs : List Sequence) (k : ℕ) where
 pub record Scanned (options : ParseOptions) (runs : List Sequence) (turn : ℕ) (pairs : List Pair) : Type 0 where
   pub lists : (k : ℕ) → PairsFrom options runs k turn [] 0 (pairs_in runs k pairs)
   pub closers : All (λ p. p.closer ≤ turn) pairs
+  pub order : AreByCloser pairs
+
+-- one pair more, whose closer is none before the others
+by_closer_push : (ps : List Pair) (q : Pair) → All (λ p. p.closer ≤ q.closer) ps → AreByCloser ps → AreByCloser (ps ++ q ∷ [])
+by_closer_push [] q h s = (All-nil (λ x. q.closer ≤ x.closer), tt)
+by_closer_push (p ∷ ps) q h s = (
+  All-push (λ x. p.closer ≤ x.closer) ps q s.0 (All-head (λ x. x.closer ≤ q.closer) p ps h),
+  by_closer_push ps q (All-tail (λ x. x.closer ≤ q.closer) p ps h) s.1,
+)
 
 module _ (runs : List Sequence) where
   pub in_other : (k : ℕ) (pairs : List Pair) (q : Pair) → ((row_of (run_at runs q.closer).text) ≡ k → ⊥)
@@ -71,7 +80,7 @@ module _ (runs : List Sequence) where
 
 module _ (options : ParseOptions) (runs : List Sequence) where
   pub scanned_none : Scanned options runs 0 []
-  scanned_none = record { lists = λ k o c low high e. absurd (omega arith); closers = All-nil (λ p. p.closer ≤ 0) }
+  scanned_none = record { lists = λ k o c low high e. absurd (omega arith); closers = All-nil (λ p. p.closer ≤ 0); order = tt }
 
   pub scanned_next : (turn : ℕ) (pairs : List Pair) → Scanned options runs turn pairs
       → ((o : ℕ) → Eligible options runs (row_of (run_at runs turn).text) (pairs_in runs (row_of (run_at runs turn).text) pairs) o turn → ⊥)
@@ -83,6 +92,7 @@ module _ (options : ParseOptions) (runs : List Sequence) where
             let own : (row_of (run_at runs turn).text) ≡ k = e.closer_in in
             none o (subst (λ x. Eligible options runs x (pairs_in runs x pairs) o turn) (sym own) e));
         closers = All-weaker (λ p. p.closer ≤ turn) (λ p. p.closer ≤ turn + 1) (λ p b. omega arith) pairs h.closers;
+        order = h.order;
       }
 
   pub scanned_pair : (turn : ℕ) (pairs : List Pair) (q : Pair) → Scanned options runs turn pairs → q.closer ≡ turn
@@ -100,6 +110,7 @@ module _ (options : ParseOptions) (runs : List Sequence) where
           | inr other ↦ subst (λ x. PairsFrom options runs k turn [] 0 x) (sym (in_other runs k pairs q other)) (h.lists k)
         ];
         closers = All-push (λ p. p.closer ≤ turn) pairs q h.closers (omega arith);
+        order = by_closer_push pairs q (All-weaker (λ p. p.closer ≤ turn) (λ p. p.closer ≤ q.closer) (λ p b. omega (arith, b, at)) pairs h.closers) h.order;
       }
 
 -- the pairs are of two runs of one container

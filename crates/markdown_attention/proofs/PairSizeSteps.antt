@@ -16,32 +16,13 @@ use Rattle.markdown_attention.specs.declared.attention.pairing.Pair.{Pair}
 use Rattle.markdown_attention.specs.declared.attention.runs.Sequence.{Sequence}
 use Rattle.markdown_attention.specs.RunEvents.{shifted, total, closing_at, opening_at, closings_from, openings_from, data_at, marker_events}
 use Rattle.markdown_attention.specs.RunEdits.{edits_by, run_edits, grouped_events, point_in, closed_sizes, opened_sizes}
-use Rattle.markdown_attention.specs.PairSizes.{side_of, sizes_at, AreSizes, added_for, HasRoom, HasRoomFor}
-
--- the same as lists of their own
-pub closed-are : (g : ℕ) (ps : List Pair) → sizes_at true g ps ≡ closed_sizes g ps
-closed-are g [] = refl
-closed-are g (p ∷ ps) = by-test (p.closer == g) (closed-are g ps)
-  where
-    by-test : (b : Bool) → sizes_at true g ps ≡ closed_sizes g ps →
-        (if b then p.size ∷ [] else []) ++ sizes_at true g ps ≡ (if b then p.size ∷ closed_sizes g ps else closed_sizes g ps)
-    by-test true e = ap (λ xs. p.size ∷ xs) e
-    by-test false e = e
-
-pub opened-are : (g : ℕ) (ps : List Pair) → sizes_at false g ps ≡ opened_sizes g ps
-opened-are g [] = refl
-opened-are g (p ∷ ps) = by-test (p.opener == g) (opened-are g ps)
-  where
-    by-test : (b : Bool) → sizes_at false g ps ≡ opened_sizes g ps →
-        (if b then p.size ∷ [] else []) ++ sizes_at false g ps ≡ (if b then p.size ∷ opened_sizes g ps else opened_sizes g ps)
-    by-test true e = ap (λ xs. p.size ∷ xs) e
-    by-test false e = e
+use Rattle.markdown_attention.specs.PairSizes.{AreSizes, added_for, HasRoom, HasRoomFor}
 
 -- The sizes of the runs, with those of one pair more before them.
 
-module _ (closers : Bool) (pairs : List Pair) (count i : ℕ) (d : Pair) (sizes new : List (List ℕ)) (run : ℕ) (some : 0 < i) (within : i ≤ length pairs)
-    (side : run ≡ side_of closers (get_or pairs (i - 1) d)) (few : All (λ p. side_of closers p < count) pairs) (long : length sizes ≡ count)
-    (is : new ≡ set sizes run ((get_or pairs (i - 1) d).size ∷ get_or sizes run [])) where
+module _ (pairs : List Pair) (count i : ℕ) (d : Pair) (sizes new : List (List ℕ)) (some : 0 < i) (within : i ≤ length pairs)
+    (few : All (λ p. p.opener < count) pairs) (long : length sizes ≡ count)
+    (is : new ≡ set sizes (get_or pairs (i - 1) d).opener ((get_or pairs (i - 1) d).size ∷ get_or sizes (get_or pairs (i - 1) d).opener [])) where
   abbrev before : Pair
   before = get_or pairs (i - 1) d
 
@@ -51,29 +32,32 @@ module _ (closers : Bool) (pairs : List Pair) (count i : ℕ) (d : Pair) (sizes 
       drop_more pairs (i - 1) d (omega arith) ∙ ap (λ j. before ∷ drop j pairs) same
 
   pub sizes-long : length new ≡ count
-  sizes-long = ap length is ∙ length-set sizes run (before.size ∷ get_or sizes run []) ∙ long
+  sizes-long = ap length is ∙ length-set sizes before.opener (before.size ∷ get_or sizes before.opener []) ∙ long
 
-  run-in : run < length sizes
-  run-in = let f : side_of closers before < count = few (i - 1) d (omega arith) in omega (arith, side, long, f)
+  run-in : before.opener < length sizes
+  run-in = let f : before.opener < count = few (i - 1) d (omega arith) in omega (arith, long, f)
 
-  pub sizes-before : ((g : ℕ) → get_or sizes g [] ≡ sizes_at closers g (drop i pairs)) → (g : ℕ) → get_or new g [] ≡ sizes_at closers g (drop (i - 1) pairs)
+  -- by whether the pair's opener is the run
+  by-test : (g : ℕ) (b : Bool) → (before.opener == g) ≡ b → opened_sizes g (drop (i - 1) pairs) ≡ (if b then before.size ∷ opened_sizes g (drop i pairs) else opened_sizes g (drop i pairs))
+  by-test g b e =
+      ap (opened_sizes g) next ∙ ap (λ (t : Bool). if t then before.size ∷ opened_sizes g (drop i pairs) else opened_sizes g (drop i pairs)) e
+
+  pub sizes-before : ((g : ℕ) → get_or sizes g [] ≡ opened_sizes g (drop i pairs)) → (g : ℕ) → get_or new g [] ≡ opened_sizes g (drop (i - 1) pairs)
   sizes-before h g =
+      let run : ℕ = before.opener in
       let more : List ℕ = before.size ∷ get_or sizes run [] in
       elim (cases_eq g run) [
         | inl own ↦
             ap (λ (xs : List (List ℕ)). get_or xs g []) is
             ∙ ap (λ j. get_or (set sizes run more) j []) own
             ∙ get_or-set_same sizes run more [] run-in
-            ∙ ap (λ xs. before.size ∷ xs) (h run)
-            ∙ ap (λ b. (if b then before.size ∷ [] else []) ++ sizes_at closers run (drop i pairs)) (sym (eq-eqb (side_of closers before) run (sym side)))
-            ∙ ap (sizes_at closers run) (sym next)
-            ∙ ap (λ j. sizes_at closers j (drop (i - 1) pairs)) (sym own)
+            ∙ ap (λ xs. before.size ∷ xs) (h run ∙ ap (λ j. opened_sizes j (drop i pairs)) (sym own))
+            ∙ sym (by-test g true (eq-eqb run g (sym own)))
         | inr other ↦
             ap (λ (xs : List (List ℕ)). get_or xs g []) is
             ∙ get_or-set_other sizes run g more [] other
             ∙ h g
-            ∙ ap (λ b. (if b then before.size ∷ [] else []) ++ sizes_at closers g (drop i pairs)) (sym (ne_eqb (side_of closers before) g (λ e. other (sym e ∙ sym side))))
-            ∙ ap (sizes_at closers g) (sym next)
+            ∙ sym (by-test g false (ne_eqb run g (λ e. other (sym e))))
       ]
 
 -- No event that comes is linked.
@@ -152,19 +136,16 @@ edits-alike f g [] h = refl
 edits-alike f g (r ∷ rs) h =
     λ i. (record { at = r.event; remove = 2; events = h r i; before = false }) ∷ edits-alike f g rs h i
 
-pub edits-are : (es : List Event) (pairs : List Pair) (fronts backs : List (List ℕ)) (rs : List Sequence) →
-    AreSizes true pairs fronts → AreSizes false pairs backs →
-    edits_by (added_for es fronts backs) rs ≡ run_edits (point_in es) pairs rs
-edits-are es pairs fronts backs rs f b =
-    edits-alike (added_for es fronts backs) (grouped_events (point_in es) pairs) rs
-    (λ r. λ i. marker_events r.marker (point_in es r.event) ((f r.number ∙ closed-are r.number pairs) i) r.remaining ((b r.number ∙ opened-are r.number pairs) i))
+pub edits-are : (es : List Event) (pairs : List Pair) (backs : List (List ℕ)) (rs : List Sequence) → AreSizes pairs backs →
+    edits_by (added_for es pairs backs) rs ≡ run_edits (point_in es) pairs rs
+edits-are es pairs backs rs b =
+    edits-alike (added_for es pairs backs) (grouped_events (point_in es) pairs) rs
+    (λ r. λ i. marker_events r.marker (point_in es r.event) (closed_sizes r.number pairs) r.remaining (b r.number i))
 
-pub room-by : (es : List Event) (count : ℕ) (pairs : List Pair) (fronts backs : List (List ℕ)) (r : Sequence) →
-    AreSizes true pairs fronts → AreSizes false pairs backs → length fronts ≡ count → length backs ≡ count →
-    HasRoomFor es count pairs r → HasRoom es fronts backs r
-room-by es count pairs fronts backs r f b l m h =
-    let F : get_or fronts r.number [] ≡ closed_sizes r.number pairs = f r.number ∙ closed-are r.number pairs in
-    let B : get_or backs r.number [] ≡ opened_sizes r.number pairs = b r.number ∙ opened-are r.number pairs in
+pub room-by : (es : List Event) (count : ℕ) (pairs : List Pair) (backs : List (List ℕ)) (r : Sequence) → AreSizes pairs backs → length backs ≡ count →
+    HasRoomFor es count pairs r → HasRoom es pairs backs r
+room-by es count pairs backs r b m h =
+    let F : List ℕ = closed_sizes r.number pairs in
     let n = h.number in
-    let room = room-read (point_in es r.event) (point_in es r.event) (get_or fronts r.number []) (closed_sizes r.number pairs) (get_or backs r.number []) (opened_sizes r.number pairs) r.remaining refl F B (h.column, h.index) in
-    record { event = h.event; front = omega (arith, n, l); back = omega (arith, n, m); column = room.0; index = room.1 }
+    let room = room-read (point_in es r.event) (point_in es r.event) F F (get_or backs r.number []) (opened_sizes r.number pairs) r.remaining refl refl (b r.number) (h.column, h.index) in
+    record { event = h.event; back = omega (arith, n, m); column = room.0; index = room.1 }

@@ -1,5 +1,5 @@
 -- From what pairing leaves to what the edits ask for, and to what they leave.
-use Rattle.std.proofs.Common.{◌≡◌, ◌∙◌, ℕ, ◌<◌, true, false, List, length, sym, ap, subst}
+use Rattle.std.proofs.Common.{◌≡◌, ◌∙◌, ℕ, ◌<◌, List, length, arith, sym, ap, subst}
 use Rattle.std.specs.List.{All}
 use Rattle.markdown_content.specs.declared.configuration.ParseOptions.{ParseOptions}
 use Rattle.markdown_engine_events.specs.Edits.{CanEdit, edited}
@@ -8,13 +8,14 @@ use Rattle.markdown_engine.specs.declared.tokenizer.Tokenizer.{Tokenizer}
 use Rattle.markdown_engine_events.specs.declared.util.edit_map.Edit.{Edit}
 use Rattle.markdown_attention.specs.RunsOfEvents.{runs_of_events}
 use Rattle.markdown_attention.specs.NumberedPairs.{run_at}
+use Rattle.markdown_attention.specs.PairScan.{Numbered}
 use Rattle.markdown_attention.specs.declared.attention.pairing.Pair.{Pair}
 use Rattle.markdown_attention.specs.declared.attention.runs.Sequence.{Sequence}
 use Rattle.markdown_attention.specs.AttentionPass.{MayPair, IsPairing, IsGrouped}
 use Rattle.markdown_attention.specs.RunEdits.{run_edits, point_in}
-use Rattle.markdown_attention.specs.PairSizes.{side_of, HasRoomFor}
-use Rattle.markdown_attention.proofs.RunRoom.{has-room, have-closers, have-openers}
-use Rattle.markdown_attention.proofs.AttentionEditsLaw.{log-same, group-can}
+use Rattle.markdown_attention.specs.PairSizes.{HasRoomFor}
+use Rattle.markdown_attention.proofs.RunRoom.{has-room, have-openers}
+use Rattle.markdown_attention.proofs.AttentionEditsLaw.{log-same, group-can, numbered-is}
 use Rattle.markdown_content.specs.Codes.{Code}
 
 -- U is T; these runs and pairs are what pairing leaves of the runs of T
@@ -35,10 +36,12 @@ module _ (T U : Tokenizer) (same : U ≡ T) (may : MayPair T) (list fin runs : L
       (subst (λ (x : List Sequence). IsPairing T.parse_state.now.options.now list x pairs probes) (sym are)
       (subst (λ (x : List Pair). IsPairing T.parse_state.now.options.now list fin x probes) (sym as_found) left))
 
-  pub closers-in : All (λ p. side_of true p < length runs) pairs
-  closers-in = have-closers options bytes content T.events may.places may.ends may.room runs pairs pairing.left pairing.within
+  pub numbered-in : Numbered runs
+  numbered-in i l =
+      let u : i < length (runs_of_events T) = omega (arith, l, pairing.left.same_length) in
+      ap (λ (r : Sequence). r.number) (pairing.left.stands i u) ∙ numbered-is options bytes content T.events may.places i u
 
-  pub openers-in : All (λ p. side_of false p < length runs) pairs
+  pub openers-in : All (λ p. p.opener < length runs) pairs
   openers-in = have-openers options bytes content T.events may.places may.ends may.room runs pairs pairing.left pairing.within
 
   pub room-in : (i : ℕ) → i < length runs → HasRoomFor U.events (length runs) pairs (run_at runs i)

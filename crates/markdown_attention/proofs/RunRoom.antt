@@ -17,7 +17,7 @@ use Rattle.markdown_attention.specs.RunEdits.{point_in, HaveRunEnds, closed_size
 use Rattle.markdown_attention.proofs.RunEditPlaces.{numbered}
 use Rattle.markdown_attention.proofs.AttentionEditsLaw.{sizes-sum}
 use Rattle.markdown_attention.specs.RunEdits.{HaveRunRoom}
-use Rattle.markdown_attention.specs.PairSizes.{side_of, HasRoomFor}
+use Rattle.markdown_attention.specs.PairSizes.{HasRoomFor}
 use Rattle.markdown_content.specs.Codes.{Code}
 
 -- a run among these events, the first of which is event i
@@ -95,16 +95,10 @@ module _ (options : ParseOptions) (bytes : List ℕ) (content : List Code) (es :
       subst (λ (x : Sequence). HasRoomFor es (length fin) pairs x) (sym (stands.stands i u))
       (record { event = omega (arith, at, f.within); number = omega (arith, number, l); column = omega (arith, sums, column); index = omega (arith, sums, index) })
 
-  sides : (closers : Bool) (ps : List Pair) → ArePairsWithin list ps → All (λ p. side_of closers p < length fin) ps
-  sides closers [] w = All-nil (λ p. side_of closers p < length fin)
-  sides closers (p ∷ ps) w = All-cons (λ x. side_of closers x < length fin) p ps (by_test closers) (sides closers ps w.1)
-    where
-      by_test : (b : Bool) → side_of b p < length fin
-      by_test true = omega (arith, stands.same_length, w.0.within)
-      by_test false = omega (arith, stands.same_length, w.0.within, w.0.order)
+  openers : (ps : List Pair) → ArePairsWithin list ps → All (λ p. p.opener < length fin) ps
+  openers [] w = All-nil (λ p. p.opener < length fin)
+  openers (p ∷ ps) w =
+      All-cons (λ x. x.opener < length fin) p ps (omega (arith, stands.same_length, w.0.within, w.0.order)) (openers ps w.1)
 
-  pub have-closers : All (λ p. side_of true p < length fin) pairs
-  have-closers = sides true pairs within
-
-  pub have-openers : All (λ p. side_of false p < length fin) pairs
-  have-openers = sides false pairs within
+  pub have-openers : All (λ p. p.opener < length fin) pairs
+  have-openers = openers pairs within

@@ -3,9 +3,10 @@ use Rattle.std.proofs.Common.{◌≡◌, ℕ, List, [], ◌∷◌, get_or, refl,
 use Rattle.markdown_event.specs.declared.event.Event.{Event}
 use Rattle.markdown_event.specs.declared.event.Point.{Point}
 use Rattle.markdown_attention.specs.declared.attention.edits.Sole.TheVariants as S
+use Rattle.markdown_attention.specs.declared.attention.pairing.Pair.{Pair}
 use Rattle.markdown_attention.specs.declared.attention.runs.Sequence.{Sequence}
 use Rattle.markdown_attention.specs.PairSizes.{HasRoom}
-use Rattle.markdown_attention.specs.RunEdits.{point_in}
+use Rattle.markdown_attention.specs.RunEdits.{closed_sizes, point_in}
 use Rattle.markdown_attention.specs.RunEvents.{closing_at, opening_at, marker_events}
 use Rattle.markdown_attention.specs.SolePairs.{IsSole, HasRoomFrom}
 use Rattle.markdown_attention.proofs.BracketAppends.{shift-none}
@@ -33,10 +34,9 @@ pub opening-alone : (m : ℕ) (p : Point) (fronts backs : List ℕ) (kept k : �
 opening-alone m p fronts backs kept k h =
     opening-is m p k ∙ sym (alike m p fronts [] backs (k ∷ []) kept 0 h.0 h.1.0 h.1.1)
 
-pub room-from : (p : Point) (es : List Event) (fronts backs : List (List ℕ)) (r : Sequence) → p ≡ point_in es r.event →
-    HasRoom es fronts backs r → HasRoomFrom p fronts backs r
-room-from p es fronts backs r e h =
-    let F : List ℕ = get_or fronts r.number [] in
+pub room-from : (p : Point) (es : List Event) (pairs : List Pair) (fronts : List ℕ) (backs : List (List ℕ)) (r : Sequence) → p ≡ point_in es r.event →
+    fronts ≡ closed_sizes r.number pairs → HasRoom es pairs backs r → HasRoomFrom p fronts (get_or backs r.number []) r
+room-from p es pairs fronts backs r e f h =
     let B : List ℕ = get_or backs r.number [] in
-    let room = room-read p (point_in es r.event) F F B B r.remaining e refl refl (h.column, h.index) in
-    record { front = h.front; back = h.back; column = room.0; index = room.1 }
+    let room = room-read p (point_in es r.event) fronts (closed_sizes r.number pairs) B B r.remaining e f refl (h.column, h.index) in
+    record { column = room.0; index = room.1 }

@@ -1,5 +1,6 @@
 -- The runs and pairs of one container: the whole content, or the text of one label.
 use Rattle.std.specs.Prelude.{◌≡◌, ℕ, zero, suc, ◌<◌, ◌≤◌, Bool, ◌==◌, if◌then◌else◌, List, [], ◌∷◌, length, map, filter, Option}
+use Rattle.std.specs.List.{All}
 use Rattle.markdown_content.specs.declared.configuration.ParseOptions.{ParseOptions}
 use Rattle.markdown_model.specs.Laws.{Shape, shape_of}
 use Rattle.markdown_model.specs.Pairs as Model
@@ -39,6 +40,11 @@ ArePairLists options list pairs =
     (s : Setting) (text : Option ℕ) (runs : List Run)
     → s.options ≡ options → map shape_of runs ≡ map whole_shape (runs_in (row_of text) list)
     → Model.IsPairList s runs (pairs_of (row_of text) list pairs)
+
+-- the pairs come in the order of their closers
+abbrev pub AreByCloser : List Pair → Type 0
+AreByCloser [] = Unit {0}
+AreByCloser (p ∷ ps) = All (λ q. p.closer ≤ q.closer) ps × AreByCloser ps
 
 -- a pair of two runs of one container, in order
 pub record IsPairWithin (list : List Sequence) (p : Pair) : Type 0 where

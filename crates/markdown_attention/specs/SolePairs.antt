@@ -1,5 +1,5 @@
 -- The edit of one run, by its sizes; and the runs that one pair takes whole.
-use Rattle.std.specs.Prelude.{◌≡◌, ℕ, ◌+◌, ◌<◌, ◌^◌, List, [], ◌∷◌, length, slice_index_or, false}
+use Rattle.std.specs.Prelude.{◌≡◌, ℕ, ◌+◌, ◌<◌, ◌^◌, List, [], ◌∷◌, false}
 use Rattle.markdown_event.specs.declared.event.Point.{Point}
 use Rattle.markdown_engine_events.specs.declared.util.edit_map.Edit.{Edit}
 use Rattle.markdown_attention.specs.declared.attention.edits.Sole.{Sole}
@@ -13,19 +13,17 @@ IsSole (S.Closing k) fronts kept backs = (fronts ≡ k ∷ []) × ((kept ≡ 0) 
 IsSole (S.Opening k) fronts kept backs = (fronts ≡ []) × ((kept ≡ 0) × (backs ≡ k ∷ []))
 IsSole S.Neither fronts kept backs = Unit {0}
 
--- there is room for a run's markers from this place on
-pub record HasRoomFrom (p : Point) (fronts backs : List (List ℕ)) (r : Sequence) : Type 0 where
-  pub front : r.number < length fronts
-  pub back : r.number < length backs
-  pub column : p.column + (total (slice_index_or fronts r.number []) + r.remaining + total (slice_index_or backs r.number [])) < 2 ^ 64
-  pub index : p.index + (total (slice_index_or fronts r.number []) + r.remaining + total (slice_index_or backs r.number [])) < 2 ^ 64
+-- there is room for a run's markers from this place on, of which pairs take these sizes
+pub record HasRoomFrom (p : Point) (fronts backs : List ℕ) (r : Sequence) : Type 0 where
+  pub column : p.column + (total fronts + r.remaining + total backs) < 2 ^ 64
+  pub index : p.index + (total fronts + r.remaining + total backs) < 2 ^ 64
 
--- the edit of a run that stands at this place
-abbrev pub edit_from : Point → List (List ℕ) → List (List ℕ) → Sequence → Edit
+-- the edit of a run that stands at this place, of which pairs take these sizes
+abbrev pub edit_from : Point → List ℕ → List ℕ → Sequence → Edit
 edit_from p fronts backs r =
     record {
       at = r.event;
       remove = 2;
-      events = marker_events r.marker p (slice_index_or fronts r.number []) r.remaining (slice_index_or backs r.number []);
+      events = marker_events r.marker p fronts r.remaining backs;
       before = false;
     }

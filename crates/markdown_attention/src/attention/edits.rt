@@ -1,12 +1,14 @@
 //! The edits of the pass: one for each run.
 #![tactic(auto)]
 
-ghost use Rattle.std.specs.Prelude.{◌≡◌, ◌<◌, ◌++◌, ◌∷◌, [], OnOk, true, false, ℕ, length, slice_index_or};
+ghost use Rattle.std.specs.Prelude.{◌≡◌, ◌≢◌, ◌<◌, ◌≤◌, ◌++◌, ◌∷◌, [], OnOk, ℕ, length, slice_index_or, take};
 ghost use Rattle.std.specs.List.{All};
 ghost use Rattle.markdown_attention.specs.NumberedPairs.{run_at};
 ghost use Rattle.markdown_engine_events.specs.Edits.{CanEdit, edited};
 ghost use Rattle.markdown_attention.specs.RunEdits.{edits_by, run_edits, point_in};
-ghost use Rattle.markdown_attention.specs.PairSizes.{side_of, HasRoom, HasRoomFor, added_for};
+ghost use Rattle.markdown_attention.specs.PairSizes.{sizes_of, HasRoom, HasRoomFor, added_for};
+ghost use Rattle.markdown_attention.specs.PairScan.{Numbered};
+ghost use Rattle.markdown_attention.specs.RunContainers.{AreByCloser};
 ghost use Rattle.markdown_attention.specs.SolePairs.{IsSole, HasRoomFrom, edit_from};
 
 use crate::attention::brackets::{closing, opening, run_events, shifted};
@@ -29,25 +31,48 @@ enum Sole {
     Neither,
 }
 
-// Whether one pair takes all markers of a run.
-fn sole_pair(run: &Sequence, fronts: &Sizes, backs: &Sizes) -> Sole
-    requires front { run.now.number < length fronts.now }
-    requires back { run.now.number < length backs.now }
-    ensures { IsSole result (slice_index_or fronts.now run.now.number []) run.now.remaining (slice_index_or backs.now run.now.number []) }
+// Whether one pair takes all markers of a run. It closes the pairs `fronts`.
+fn sole_pair(run: &Sequence, fronts: &[Pair], backs: &Sizes) -> Sole
+    requires { run.now.number < length backs.now }
+    ensures { IsSole result (sizes_of fronts.now) run.now.remaining (slice_index_or backs.now run.now.number []) }
 {
     if run.remaining > 0 {
         return Sole::Neither;
     }
     if backs.is_none(run.number) {
-        return match fronts.sole(run.number) {
-            Some(size) => Sole::Closing(size),
-            None => Sole::Neither,
+        return match fronts {
+            [pair] => Sole::Closing(pair.size),
+            _ => Sole::Neither,
         };
     }
     match backs.sole(run.number) {
-        Some(size) if fronts.is_none(run.number) => Sole::Opening(size),
+        Some(size) if fronts.is_empty() => Sole::Opening(size),
         _ => Sole::Neither,
     }
+}
+
+// How many of the pairs at the front a run closes.
+fn closed_count(pairs: &[Pair], run: usize) -> usize
+    ensures within { result ≤ length pairs.now }
+    ensures closed { All (λ p. p.closer ≡ run) (take result pairs.now) }
+    ensures next { (p : Pair) → result < length pairs.now → (slice_index_or pairs.now result p).closer ≢ run }
+{
+    let mut count = 0usize;
+    while count < pairs.len() && pairs[count].closer == run {
+        count += 1;
+    }
+    count
+}
+
+// Puts the sizes of pairs in place of those that a list had.
+fn read_sizes(pairs: &[Pair], into: &mut Vec<usize>) -> Result<(), AllocError>
+    ensures { OnOk result (into.new.items ≡ sizes_of pairs.now) }
+{
+    into.clear();
+    for pair in pairs {
+        into.push(pair.size)?;
+    }
+    Ok(())
 }
 
 // Lists that the edits of runs are made in, one after another, so that each takes no memory of its own.
@@ -65,13 +90,14 @@ fn edit_any(
     lists: &mut Lists,
     run: &Sequence,
     from: Point,
-    fronts: &Sizes,
+    fronts: &[Pair],
     backs: &Sizes,
 ) -> Result<(), AllocError>
-    requires { HasRoomFrom from fronts.now backs.now run.now }
-    ensures { OnOk result (map.new ≡ map.old ++ edit_from from fronts.now backs.now run.now ∷ []) }
+    requires back { run.now.number < length backs.now }
+    requires room { HasRoomFrom from (sizes_of fronts.now) (slice_index_or backs.now run.now.number []) run.now }
+    ensures { OnOk result (map.new ≡ map.old ++ edit_from from (sizes_of fronts.now) (slice_index_or backs.now run.now.number []) run.now ∷ []) }
 {
-    fronts.read(run.number, &mut lists.front)?;
+    read_sizes(fronts, &mut lists.front)?;
     backs.read(run.number, &mut lists.back)?;
     run_events(
         &mut lists.added,
@@ -90,11 +116,12 @@ fn edit_run(
     lists: &mut Lists,
     run: &Sequence,
     from: Point,
-    fronts: &Sizes,
+    fronts: &[Pair],
     backs: &Sizes,
 ) -> Result<(), AllocError>
-    requires { HasRoomFrom from fronts.now backs.now run.now }
-    ensures { OnOk result (map.new ≡ map.old ++ edit_from from fronts.now backs.now run.now ∷ []) }
+    requires back { run.now.number < length backs.now }
+    requires room { HasRoomFrom from (sizes_of fronts.now) (slice_index_or backs.now run.now.number []) run.now }
+    ensures { OnOk result (map.new ≡ map.old ++ edit_from from (sizes_of fronts.now) (slice_index_or backs.now run.now.number []) run.now ∷ []) }
 {
     match sole_pair(run, fronts, backs) {
         Sole::Closing(size) => {
@@ -109,27 +136,32 @@ fn edit_run(
     }
 }
 
-// Adds an edit for each run.
+// Adds an edit for each run. The pairs that a run closes stand together, behind those that the runs before it close.
 fn edit_runs(
     alloc: Global,
     events: &Events,
     map: &mut EditMap,
     runs: &[Sequence],
-    fronts: &Sizes,
+    pairs: &[Pair],
     backs: &Sizes,
 ) -> Result<(), AllocError>
     requires empty { map.old ≡ [] }
-    requires room { (i : ℕ) → i < length runs.now → HasRoom events.now fronts.now backs.now (run_at runs.now i) }
-    ensures { OnOk result (map.new ≡ edits_by (added_for events.now fronts.now backs.now) runs.now) }
+    requires numbered { Numbered runs.now }
+    requires order { AreByCloser pairs.now }
+    requires room { (i : ℕ) → i < length runs.now → HasRoom events.now pairs.now backs.now (run_at runs.now i) }
+    ensures { OnOk result (map.new ≡ edits_by (added_for events.now pairs.now backs.now) runs.now) }
 {
     let mut lists = Lists {
         added: Vec::new(alloc),
         front: Vec::new(alloc),
         back: Vec::new(alloc),
     };
+    let mut rest = pairs;
     for run in runs {
         let from = events.bare_at(run.event).point;
+        let (fronts, later) = rest.split_at(closed_count(rest, run.number));
         edit_run(map, &mut lists, run, from, fronts, backs)?;
+        rest = later;
     }
     Ok(())
 }
@@ -143,17 +175,17 @@ fn mark_runs(
     pairs: &[Pair],
 ) -> Result<(), AllocError>
     requires empty { map.old ≡ [] }
-    requires closers { All (λ p. side_of true p < length runs.now) pairs.now }
-    requires openers { All (λ p. side_of false p < length runs.now) pairs.now }
+    requires numbered { Numbered runs.now }
+    requires order { AreByCloser pairs.now }
+    requires openers { All (λ p. p.opener < length runs.now) pairs.now }
     requires room { (i : ℕ) → i < length runs.now → HasRoomFor events.now (length runs.now) pairs.now (run_at runs.now i) }
     ensures { OnOk result (map.new ≡ run_edits (point_in events.now) pairs.now runs.now) }
 {
-    let fronts = Sizes::over(alloc, runs.len(), pairs, true)?;
-    let backs = Sizes::over(alloc, runs.len(), pairs, false)?;
-    edit_runs(alloc, events, map, runs, &fronts, &backs)
+    let backs = Sizes::over(alloc, runs.len(), pairs)?;
+    edit_runs(alloc, events, map, runs, pairs, &backs)
 }
 
-/// Makes groups of these pairs of runs in the events. What is known of the pairs is let go before the events are made.
+/// Makes groups of these pairs of runs, which come in the order of their closers, in the events. What is known of the pairs is let go before the events are made.
 pub(crate) fn group_runs(
     alloc: Global,
     events: &mut Events,
@@ -162,8 +194,9 @@ pub(crate) fn group_runs(
     pairs: Vec<Pair>,
 ) -> Result<(), AllocError>
     requires empty { map.old ≡ [] }
-    requires closers { All (λ p. side_of true p < length runs.items) pairs.items }
-    requires openers { All (λ p. side_of false p < length runs.items) pairs.items }
+    requires numbered { Numbered runs.items }
+    requires order { AreByCloser pairs.items }
+    requires openers { All (λ p. p.opener < length runs.items) pairs.items }
     requires room { (i : ℕ) → i < length runs.items → HasRoomFor events.old (length runs.items) pairs.items (run_at runs.items i) }
     requires can { CanEdit (run_edits (point_in events.old) pairs.items runs.items) events.old }
     ensures edited { OnOk result (events.new ≡ edited (run_edits (point_in events.old) pairs.items runs.items) events.old) }

@@ -14,7 +14,7 @@
 //!       EmphasisSequence    the closing markers
 //!     Data                  markers that no pair takes
 //!
-//! `pairing` finds the pairs; `sizes` keeps what pairs take of each run, `brackets` writes the events, and `edits` collects and applies the
+//! `pairing` finds the pairs; `sizes` keeps what pairs take of each run as their opener, `brackets` writes the events, and `edits` collects and applies the
 //! edits.
 //!
 //! Example: `*a **b***` is emphasis with strong emphasis in it.
@@ -34,6 +34,7 @@ ghost use Rattle.markdown_model.specs.Pairs.{pair_list};
 ghost use Rattle.markdown_model.specs.Setting.{Setting};
 ghost use Rattle.markdown_attention.specs.AttentionPass.{IsSmall, MayPair, IsPairing, IsGrouped, IsProbed};
 ghost use Rattle.markdown_attention.specs.AttentionTrees.{IsStriped};
+ghost use Rattle.markdown_attention.specs.RunContainers.{AreByCloser};
 
 use crate::attention::edits::group_runs;
 use crate::attention::pairing::{Pair, pair_runs};
@@ -58,7 +59,8 @@ fn paired_runs(alloc: Global, options: ParseOptions, runs: Runs) -> Result<Pairi
     requires whole { AreUntaken runs.list }
     requires markers { HaveMarkers runs.list }
     requires small { IsSmall runs.list }
-    ensures { IfOk result (λ p. IsPairing options runs.list p.runs.items p.pairs.items p.probes) }
+    ensures pairing { IfOk result (λ p. IsPairing options runs.list p.runs.items p.pairs.items p.probes) }
+    ensures order { IfOk result (λ p. AreByCloser p.pairs.items) }
 {
     let mut runs = runs;
     let pairs = pair_runs(alloc, options, &mut runs)?;

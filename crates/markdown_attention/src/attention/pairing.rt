@@ -7,7 +7,7 @@ ghost use Rattle.std.specs.Prelude.{◌≡◌, ℕ, ◌+◌, ◌-◌, ◌*◌, �
 ghost use Rattle.markdown_attention.specs.NumberedPairs.{run_at, markers_left, sizes_fit, ruled_size, is_refused_by_three, is_tilde_pair, size_of_pair, row_of};
 ghost use Rattle.markdown_attention.specs.PairScan.{AreRunsAfter, AreUntaken, AreSmall};
 ghost use Rattle.markdown_attention.specs.OpenRuns.{AreLines, kind_of, class_of, WalkFound, WalkEnded, IsCut, HaveMarkers, IsClosing};
-ghost use Rattle.markdown_attention.specs.RunContainers.{ArePairLists, ArePairsWithin, AreTakenOnce};
+ghost use Rattle.markdown_attention.specs.RunContainers.{ArePairLists, ArePairsWithin, AreTakenOnce, AreByCloser};
 
 use crate::attention::newest::Newest;
 use crate::attention::runs::{Runs, Sequence};
@@ -334,6 +334,7 @@ pub fn pair_runs(
     ensures lists { IfOk result (λ pairs. ArePairLists options runs.old.list pairs.items) }
     ensures within { IfOk result (λ pairs. ArePairsWithin runs.old.list pairs.items) }
     ensures once { IfOk result (λ pairs. AreTakenOnce runs.old.list pairs.items) }
+    ensures order { IfOk result (λ pairs. AreByCloser pairs.items) }
     ensures left { IfOk result (λ pairs. AreRunsAfter runs.old.list runs.new.list pairs.items) }
     ensures at_most { IfOk result (λ pairs. runs.new.probes ≤ 6 * count_by (λ r. r.may_open) runs.old.list
         + count_by (λ r. r.may_close) runs.old.list + 7 * length pairs.items) }

@@ -1,9 +1,9 @@
-//! The sizes of the pairs of each run.
+//! The sizes of the pairs of each run, as their opener.
 #![tactic(auto)]
 
 ghost use Rattle.std.specs.Prelude.{◌≡◌, ◌<◌, ◌∷◌, [], IfOk, IfSome, IsTrue, OnOk, length, replicate, slice_index_or, slice_set};
 ghost use Rattle.std.specs.List.{All};
-ghost use Rattle.markdown_attention.specs.PairSizes.{side_of, AreSizes};
+ghost use Rattle.markdown_attention.specs.PairSizes.{AreSizes};
 
 use crate::attention::pairing::Pair;
 use markdown_event::seq::Stack;
@@ -18,7 +18,7 @@ struct SizeNode {
     next: usize,
 }
 
-// The sizes of the pairs of each run, as their closer or as their opener: contracts see a list for each run.
+// The sizes of the pairs of each run, as their opener: contracts see a list for each run.
 //
 // The sizes of all runs stand in one list, so that a run takes no memory of its own but one number.
 #[derive(Drop)]
@@ -62,21 +62,16 @@ impl Sizes {
         Ok(())
     }
 
-    /// For each run the sizes of the pairs whose closer it is, or whose opener, in order.
-    pub(crate) fn over(
-        alloc: Global,
-        count: usize,
-        pairs: &[Pair],
-        closers: bool,
-    ) -> Result<Sizes, AllocError>
-        requires { All (λ p. side_of closers p < count) pairs.now }
-        ensures sizes { IfOk result (λ v. AreSizes closers pairs.now v) }
+    /// For each run the sizes of the pairs whose opener it is, in order.
+    pub(crate) fn over(alloc: Global, count: usize, pairs: &[Pair]) -> Result<Sizes, AllocError>
+        requires { All (λ p. p.opener < count) pairs.now }
+        ensures sizes { IfOk result (λ v. AreSizes pairs.now v) }
         ensures len { IfOk result (λ v. length v ≡ count) }
     {
         let mut sizes = Sizes::new(alloc, count)?;
         for index in (0..pairs.len()).rev() {
             let pair = pairs[index];
-            sizes.push_first(side_of(pair, closers), pair.size)?;
+            sizes.push_first(pair.opener, pair.size)?;
         }
         Ok(sizes)
     }
@@ -120,11 +115,4 @@ impl Sizes {
         }
         Ok(())
     }
-}
-
-// The number of a pair's closer, or of its opener.
-fn side_of(pair: Pair, closers: bool) -> usize
-    ensures { result ≡ side_of closers pair }
-{
-    if closers { pair.closer } else { pair.opener }
 }

@@ -376,6 +376,7 @@ returns c =
           c.loop-closer.heads.items c.loop-closer.older.items c.loop-closer.marks.items inv last;
       within = all-within c.args.options c.args.runs.now.list c.loop-closer.runs.turn c.loop-closer.pairs.items inv.scanned;
       once = all-once c.args.options c.args.runs.now.list c.loop-closer.runs.turn c.loop-closer.pairs.items inv.scanned;
+      order = inv.scanned.order;
       left = inv.stands;
       at_most = paid-all (layout_of c.in_ok-lines.lines.of_rows.items c.in_ok-lines.lines.count c.in_ok-lines.ensures.are) c.args.options c.args.runs.now.list c.loop-closer.runs.list c.loop-closer.runs.turn c.loop-closer.pairs.items c.loop-closer.runs.probes
           c.loop-closer.heads.items c.loop-closer.older.items c.loop-closer.marks.items inv last;

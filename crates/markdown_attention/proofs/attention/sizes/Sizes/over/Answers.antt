@@ -6,6 +6,6 @@ pub loop-index-preserved : goal.loop-index-preserved
 loop-index-preserved c =
     let no : Pair = record { opener = 0; closer = 0; size = 0 } in
     record {
-      sizes = sizes-before c.args.closers c.args.pairs.now c.args.count c.loop-index.index no c.loop-index.sizes c.push_first.new.self c.side_of.result c.loop-index-test.true c.loop-index.auto.index c.side_of.ensures c.requires c.loop-index.invariant.len c.in_ok-push_first.ensures c.loop-index.invariant.sizes;
-      len = sizes-long c.args.closers c.args.pairs.now c.args.count c.loop-index.index no c.loop-index.sizes c.push_first.new.self c.side_of.result c.loop-index-test.true c.loop-index.auto.index c.side_of.ensures c.requires c.loop-index.invariant.len c.in_ok-push_first.ensures;
+      sizes = sizes-before c.args.pairs.now c.args.count c.loop-index.index no c.loop-index.sizes c.push_first.new.self c.loop-index-test.true c.loop-index.auto.index c.requires c.loop-index.invariant.len c.in_ok-push_first.ensures c.loop-index.invariant.sizes;
+      len = sizes-long c.args.pairs.now c.args.count c.loop-index.index no c.loop-index.sizes c.push_first.new.self c.loop-index-test.true c.loop-index.auto.index c.requires c.loop-index.invariant.len c.in_ok-push_first.ensures;
     }
