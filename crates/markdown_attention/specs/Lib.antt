@@ -19,3 +19,4 @@ pub mod PairSizes
 pub mod SizeNodes
 pub mod SolePairs
 pub mod RunSteps
+pub mod RowLines

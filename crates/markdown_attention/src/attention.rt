@@ -21,6 +21,7 @@
 mod brackets;
 mod edits;
 mod grouping;
+mod lines;
 mod newest;
 pub mod pairing;
 mod reading;

@@ -9,6 +9,7 @@ ghost use Rattle.markdown_attention.specs.PairScan.{AreRunsAfter, AreUntaken, Ar
 ghost use Rattle.markdown_attention.specs.OpenRuns.{AreLines, kind_of, class_of, WalkFound, WalkEnded, IsCut, HaveMarkers, IsClosing};
 ghost use Rattle.markdown_attention.specs.RunContainers.{ArePairLists, ArePairsWithin, AreTakenOnce, AreByCloser};
 
+use crate::attention::lines::Lines;
 use crate::attention::newest::Newest;
 use crate::attention::runs::{Runs, Sequence};
 use markdown_content::configuration::ParseOptions;
@@ -74,17 +75,6 @@ fn do_sizes_fit(options: ParseOptions, a: Sequence, b: Sequence) -> bool
     }
 }
 
-// The row of the text of a label, or of the whole content.
-fn row_number(text: Option<usize>) -> usize
-    requires { row_of text < 2 ^ 64 }
-    ensures { result ≡ row_of text }
-{
-    match text {
-        None => 0,
-        Some(text) => text + 1,
-    }
-}
-
 // Which list of its container a marker has.
 fn kind_number(marker: u8) -> usize
     ensures is { result ≡ kind_of marker }
@@ -95,40 +85,6 @@ fn kind_number(marker: u8) -> usize
         b'_' => 1,
         _ => 2,
     }
-}
-
-// Which line of the tables each row has: one more than its number, or 0 where the row has none. There are lines only for the rows that hold a run.
-#[derive(Drop)]
-struct Lines {
-    of_rows: Vec<usize>,
-    count: usize,
-}
-
-// Gives a row the next line, if it has none.
-#[inline(always)]
-fn give_line(lines: &mut Lines, row: usize)
-    requires within { row < length lines.old.of_rows.items }
-    requires room { lines.old.count + 1 < 2 ^ 64 }
-    requires are { AreLines lines.old.of_rows.items lines.old.count }
-    ensures are { AreLines lines.new.of_rows.items lines.new.count }
-    ensures some { 0 < slice_index lines.new.of_rows.items row }
-    ensures kept { (a : ℕ) → 0 < slice_index lines.old.of_rows.items a → 0 < slice_index lines.new.of_rows.items a }
-    ensures same { length lines.new.of_rows.items ≡ length lines.old.of_rows.items }
-    ensures count { lines.new.count ≤ lines.old.count + 1 }
-{
-    if lines.of_rows[row] == 0 {
-        lines.count += 1;
-        lines.of_rows[row] = lines.count;
-    }
-}
-
-// The line of the text of a label, or of the whole content.
-fn line_of(lines: &Lines, text: Option<usize>) -> usize
-    requires row { row_of text < length lines.now.of_rows.items }
-    requires some { 0 < slice_index lines.now.of_rows.items (row_of text) }
-    ensures { result + 1 ≡ slice_index lines.now.of_rows.items (row_of text) }
-{
-    lines.of_rows[row_number(text)] - 1
 }
 
 // The list of a run, whose text has this line.
@@ -278,14 +234,6 @@ fn note_run(heads: &mut Vec<Newest>, marks: &mut Vec<usize>, list: usize, at: us
     }
 }
 
-// How many rows there are: one for the whole content, and one for the text of each label.
-fn row_count(runs: &Runs) -> Result<usize, AllocError>
-    ensures is { IfOk result (λ rows. rows ≡ runs.now.texts + 1) }
-    ensures within { IfOk result (λ rows. (r : ℕ) → r < length runs.now.list → row_of (run_at runs.now.list r).text < rows) }
-{
-    runs.texts().checked_add(1).ok_or(AllocError)
-}
-
 // Three empty lists for each line.
 fn empty_lists(alloc: Global, rows: usize) -> Result<Vec<Newest>, AllocError>
     ensures { IfOk result (λ table. table.items ≡ replicate (rows * 3) 0) }
@@ -304,17 +252,13 @@ fn zeros(alloc: Global, rows: usize, each: usize) -> Result<Vec<usize>, AllocErr
 
 // The lines of the rows that hold a run.
 fn lines_of(alloc: Global, runs: &Runs) -> Result<Lines, AllocError>
-    ensures are { IfOk result (λ lines. AreLines lines.of_rows.items lines.count) }
-    ensures within { IfOk result (λ lines. (r : ℕ) → r < length runs.now.list → row_of (run_at runs.now.list r).text < length lines.of_rows.items) }
-    ensures some { IfOk result (λ lines. (r : ℕ) → r < length runs.now.list → 0 < slice_index lines.of_rows.items (row_of (run_at runs.now.list r).text)) }
+    ensures are { IfOk result (λ lines. AreLines lines.of_rows lines.count) }
+    ensures within { IfOk result (λ lines. (r : ℕ) → r < length runs.now.list → row_of (run_at runs.now.list r).text < length lines.of_rows) }
+    ensures some { IfOk result (λ lines. (r : ℕ) → r < length runs.now.list → 0 < slice_index lines.of_rows (row_of (run_at runs.now.list r).text)) }
 {
-    let rows = row_count(runs)?;
-    let mut lines = Lines {
-        of_rows: zeros(alloc, rows, 1)?,
-        count: 0,
-    };
+    let mut lines = Lines::new(alloc, runs.texts())?;
     for index in 0..runs.len() {
-        give_line(&mut lines, row_number(runs.text_of(index)));
+        lines.give(runs.text_of(index));
     }
     Ok(lines)
 }
@@ -342,13 +286,15 @@ pub fn pair_runs(
     ensures scan { IfOk result (λ pairs. runs.new.probes ≤ (length runs.old.list + length pairs.items) * length runs.old.list) }
     ensures half { IfOk result (λ pairs. 2 * length pairs.items ≤ markers_left runs.old.list) }
 {
-    let lines = lines_of(alloc, runs)?;
+    let found = lines_of(alloc, runs)?;
+    let lines = &found;
     let mut pairs = Vec::with_capacity(alloc, runs.len() / 2)?;
-    let mut heads = empty_lists(alloc, lines.count)?;
-    let mut marks = zeros(alloc, lines.count, 18)?;
+    let count = lines.count();
+    let mut heads = empty_lists(alloc, count)?;
+    let mut marks = zeros(alloc, count, 18)?;
     let mut older = Vec::with_capacity(alloc, runs.len())?;
     while let Some(closer) = runs.closer() {
-        let line = line_of(&lines, closer.text);
+        let line = lines.line_of(closer.text);
         let list = list_of(line, closer);
         let class = class_number(options, closer);
         let at = list * 6 + class;

@@ -18,19 +18,19 @@ lines-more runs old new k row kept is here all r low =
       | inr less ↦ kept (row_of (run_at runs r).text) (all r less)
     ]
 
-pub give_line-requires-clause-within : goal.give_line-requires-clause-within
-give_line-requires-clause-within c =
-    let row = c.row_number.ensures ∙ ap row_of c.text_of.ensures in
+pub give-requires-clause-within : goal.give-requires-clause-within
+give-requires-clause-within c =
+    let row = ap row_of c.text_of.ensures in
     let at : c.loop-index.index < length c.args.runs.now.list = omega (arith, c.loop-index-test.true, c.len-index-end.ensures) in
-    let within = c.in_ok-rows.ensures.within c.loop-index.index at in
-    omega (arith, row, within, c.loop-index.invariant.same)
+    let within = c.texts.ensures.containers c.loop-index.index at in
+    omega (arith, row, within, c.texts.ensures.is, c.loop-index.invariant.same)
 
 pub loop-index-preserved : goal.loop-index-preserved
 loop-index-preserved c = record {
-  are = c.give_line.ensures.are;
-  same = c.give_line.ensures.same ∙ c.loop-index.invariant.same;
-  count = omega (arith, c.give_line.ensures.count, c.loop-index.invariant.count);
-  some = lines-more c.args.runs.now.list c.loop-index.lines.of_rows.items c.give_line.new.lines.of_rows.items c.loop-index.index c.row_number.result c.give_line.ensures.kept (c.row_number.ensures ∙ ap row_of c.text_of.ensures) c.give_line.ensures.some c.loop-index.invariant.some;
+  are = c.give.ensures.are;
+  same = c.give.ensures.same ∙ c.loop-index.invariant.same;
+  count = omega (arith, c.give.ensures.count, c.loop-index.invariant.count);
+  some = lines-more c.args.runs.now.list c.loop-index.lines.of_rows c.give.new.self.of_rows c.loop-index.index (row_of c.text_of.result) c.give.ensures.kept (ap row_of c.text_of.ensures) c.give.ensures.some c.loop-index.invariant.some;
 }
 
 pub returns-clause-are : goal.returns-clause-are
@@ -38,8 +38,8 @@ returns-clause-are c = c.loop-index.invariant.are
 
 pub returns-clause-within : goal.returns-clause-within
 returns-clause-within c r low =
-    let within = c.in_ok-rows.ensures.within r low in
-    omega (arith, within, c.loop-index.invariant.same)
+    let within = c.texts.ensures.containers r low in
+    omega (arith, within, c.texts.ensures.is, c.loop-index.invariant.same)
 
 pub returns-clause-some : goal.returns-clause-some
 returns-clause-some c r low =

@@ -1,4 +1,4 @@
-use Rattle.std.proofs.Common.{◌≡◌, ℕ, ◌+◌, ◌-◌, ◌*◌, ◌<◌, ◌≤◌, ◌⊎◌, ◌&&◌, cond, true, false, eqb, ltb, set, length, get_or, refl, sym, ◌∙◌, ap, subst, arith, List, inl, inr}
+use Rattle.std.proofs.Common.{◌≡◌, ℕ, ◌+◌, ◌-◌, ◌*◌, ◌<◌, ◌≤◌, ◌⊎◌, ◌&&◌, cond, true, false, eqb, ltb, set, length, replicate, get_or, refl, sym, ◌∙◌, ap, subst, arith, List, inl, inr}
 use Rattle.std.proofs.lemmas.Bool.{cases_lt}
 use Rattle.std.proofs.lemmas.List.{get_or_read, length-replicate}
 use Rattle.markdown_attention.specs.NumberedPairs.{row_of, run_at, markers_left, after_taking}
@@ -16,13 +16,13 @@ use Rattle.markdown_attention.proofs.attention.pairing.pair_runs.Goals.{After-wa
 
 pub loop-closer-init : goal.loop-closer-init
 loop-closer-init c =
-    let hs = c.in_ok-heads.ensures in
-    let ms = c.in_ok-marks.ensures in
+    let hs = c.in_ok-heads.ensures ∙ ap (λ (n : ℕ). replicate (n * 3) 0) c.count-count.ensures in
+    let ms = c.in_ok-marks.ensures ∙ ap (λ (n : ℕ). replicate (n * 18) 0) c.count-count.ensures in
     rw (hs, ms, c.in_ok-older.ensures.items, c.in_ok-pairs.ensures.items, c.requires.start, c.requires.unread)
     (record {
-      inv = inv_start (layout_of c.in_ok-lines.lines.of_rows.items c.in_ok-lines.lines.count c.in_ok-lines.ensures.are) c.args.options c.args.runs.now.list _ _ c.requires.whole (zeros (c.in_ok-lines.lines.count * 3)) (zeros (c.in_ok-lines.lines.count * 18));
-      heads_length = length-replicate (c.in_ok-lines.lines.count * 3) 0;
-      marks_length = length-replicate (c.in_ok-lines.lines.count * 18) 0;
+      inv = inv_start (layout_of c.in_ok-found.found.of_rows c.in_ok-found.found.count c.in_ok-found.ensures.are) c.args.options c.args.runs.now.list _ _ c.requires.whole (zeros (c.in_ok-found.found.count * 3)) (zeros (c.in_ok-found.found.count * 18));
+      heads_length = length-replicate (c.in_ok-found.found.count * 3) 0;
+      marks_length = length-replicate (c.in_ok-found.found.count * 18) 0;
     })
 
 here : (c : After-row_known-1) → c.loop-closer.runs.turn < length c.args.runs.now.list
@@ -33,16 +33,16 @@ here c =
 
 -- the line of each run is one of those
 below : (c : After-row_known-1) → (r : ℕ) → r < length c.args.runs.now.list →
-    line_in c.in_ok-lines.lines.of_rows.items c.in_ok-lines.lines.count (row_of (run_at c.args.runs.now.list r).text) < c.in_ok-lines.lines.count
+    line_in c.in_ok-found.found.of_rows c.in_ok-found.found.count (row_of (run_at c.args.runs.now.list r).text) < c.in_ok-found.found.count
 below c r inside =
     let row : ℕ = row_of (run_at c.args.runs.now.list r).text in
-    let s = line-some c.in_ok-lines.lines.of_rows.items c.in_ok-lines.lines.count row (c.in_ok-lines.ensures.some r inside) in
-    let w = c.in_ok-lines.ensures.are.within row in
+    let s = line-some c.in_ok-found.found.of_rows c.in_ok-found.found.count row (c.in_ok-found.ensures.some r inside) in
+    let w = c.in_ok-found.ensures.are.within row in
     omega arith
 
 keys : (c : After-row_known-1) → (r : ℕ) → r < length c.args.runs.now.list →
-    list_of (line_in c.in_ok-lines.lines.of_rows.items c.in_ok-lines.lines.count) c.args.runs.now.list r < length c.loop-closer.heads.items
-keys c = some_key (layout_of c.in_ok-lines.lines.of_rows.items c.in_ok-lines.lines.count c.in_ok-lines.ensures.are) c.args.runs.now.list c.in_ok-lines.lines.count c.loop-closer.heads.items c.loop-closer.invariant.heads_length (below c)
+    list_of (line_in c.in_ok-found.found.of_rows c.in_ok-found.found.count) c.args.runs.now.list r < length c.loop-closer.heads.items
+keys c = some_key (layout_of c.in_ok-found.found.of_rows c.in_ok-found.found.count c.in_ok-found.ensures.are) c.args.runs.now.list c.in_ok-found.found.count c.loop-closer.heads.items c.loop-closer.invariant.heads_length (below c)
 
 marks_six : (c : After-row_known-1) → length c.loop-closer.marks.items ≡ length c.loop-closer.heads.items * 6
 marks_six c =
@@ -53,17 +53,17 @@ text_is : (c : After-row_known-1) → c.in-Some.closer.text ≡ (run_at c.args.r
 text_is c =
     ap (λ (r : Sequence). r.text) (c.in-Some.ensures.run ∙ c.loop-closer.invariant.inv.stands.stands c.loop-closer.runs.turn (here c))
 
-line_is : (c : After-row_known-1) → c.line_of-line.result ≡ line_in c.in_ok-lines.lines.of_rows.items c.in_ok-lines.lines.count (row_of c.in-Some.closer.text)
+line_is : (c : After-row_known-1) → c.line_of-line.result ≡ line_in c.in_ok-found.found.of_rows c.in_ok-found.found.count (row_of c.in-Some.closer.text)
 line_is c =
-    let some : 0 < get_or c.in_ok-lines.lines.of_rows.items (row_of c.in-Some.closer.text) 0 = omega (arith, c.line_of-line.ensures) in
-    let s = line-some c.in_ok-lines.lines.of_rows.items c.in_ok-lines.lines.count (row_of c.in-Some.closer.text) some in
+    let some : 0 < get_or c.in_ok-found.found.of_rows (row_of c.in-Some.closer.text) 0 = omega (arith, c.line_of-line.ensures) in
+    let s = line-some c.in_ok-found.found.of_rows c.in_ok-found.found.count (row_of c.in-Some.closer.text) some in
     omega (arith, s, c.line_of-line.ensures)
 
-list_is : (c : After-row_known-1) → c.list_of-list.result ≡ list_of (line_in c.in_ok-lines.lines.of_rows.items c.in_ok-lines.lines.count) c.args.runs.now.list c.loop-closer.runs.turn
+list_is : (c : After-row_known-1) → c.list_of-list.result ≡ list_of (line_in c.in_ok-found.found.of_rows c.in_ok-found.found.count) c.args.runs.now.list c.loop-closer.runs.turn
 list_is c =
     c.list_of-list.ensures
     ∙ ap (λ x. x * 3 + kind_of c.in-Some.closer.marker) (line_is c)
-    ∙ key_is (layout_of c.in_ok-lines.lines.of_rows.items c.in_ok-lines.lines.count c.in_ok-lines.ensures.are) c.args.options c.args.runs.now.list c.loop-closer.runs.list c.loop-closer.runs.turn c.loop-closer.pairs.items c.loop-closer.runs.probes
+    ∙ key_is (layout_of c.in_ok-found.found.of_rows c.in_ok-found.found.count c.in_ok-found.ensures.are) c.args.options c.args.runs.now.list c.loop-closer.runs.list c.loop-closer.runs.turn c.loop-closer.pairs.items c.loop-closer.runs.probes
     c.loop-closer.heads.items c.loop-closer.older.items c.loop-closer.marks.items c.loop-closer.invariant.inv (here c) (by-marker c.args.runs.now.list c.requires.markers) (keys c) (marks_six c)
     c.in-Some.closer c.in-Some.ensures.run
 
@@ -72,14 +72,14 @@ class_is : (c : After-row_known-1) → c.class_number-class.result
 class_is c = c.class_number-class.ensures.is ∙ ap (λ r. class_of c.args.options r r.remaining) c.in-Some.ensures.run
 
 head_is : (c : After-row_known-1) →
-    c.index-head.result.now ≡ get_or c.loop-closer.heads.items (list_of (line_in c.in_ok-lines.lines.of_rows.items c.in_ok-lines.lines.count) c.args.runs.now.list c.loop-closer.runs.turn) 0
+    c.index-head.result.now ≡ get_or c.loop-closer.heads.items (list_of (line_in c.in_ok-found.found.of_rows c.in_ok-found.found.count) c.args.runs.now.list c.loop-closer.runs.turn) 0
 head_is c =
     let inside : c.list_of-list.result < length c.loop-closer.heads.items = rw (list_is c) (keys c c.loop-closer.runs.turn (here c)) in
     get_or_read c.loop-closer.heads.items c.list_of-list.result c.index-head.result.now inside c.index-head.ensures 0
     ∙ ap (λ x. get_or c.loop-closer.heads.items x 0) (list_is c)
 
 mark_is : (c : After-row_known-1) → c.index.result.now
-    ≡ mark_of c.loop-closer.marks.items (list_of (line_in c.in_ok-lines.lines.of_rows.items c.in_ok-lines.lines.count) c.args.runs.now.list c.loop-closer.runs.turn)
+    ≡ mark_of c.loop-closer.marks.items (list_of (line_in c.in_ok-found.found.of_rows c.in_ok-found.found.count) c.args.runs.now.list c.loop-closer.runs.turn)
     (class_of c.args.options (run_at c.loop-closer.runs.list c.loop-closer.runs.turn) (run_at c.loop-closer.runs.list c.loop-closer.runs.turn).remaining)
 mark_is c =
     let inside : c.list_of-list.result < length c.loop-closer.heads.items = rw (list_is c) (keys c c.loop-closer.runs.turn (here c)) in
@@ -88,7 +88,7 @@ mark_is c =
     let in_marks : c.list_of-list.result * 6 + c.class_number-class.result < length c.loop-closer.marks.items = omega arith in
     get_or_read c.loop-closer.marks.items (c.list_of-list.result * 6 + c.class_number-class.result) c.index.result.now in_marks c.index.ensures 0
     ∙ ap (λ x. get_or c.loop-closer.marks.items (x * 6 + c.class_number-class.result) 0) (list_is c)
-    ∙ ap (λ x. get_or c.loop-closer.marks.items (list_of (line_in c.in_ok-lines.lines.of_rows.items c.in_ok-lines.lines.count) c.args.runs.now.list c.loop-closer.runs.turn * 6 + x) 0) (class_is c)
+    ∙ ap (λ x. get_or c.loop-closer.marks.items (list_of (line_in c.in_ok-found.found.of_rows c.in_ok-found.found.count) c.args.runs.now.list c.loop-closer.runs.turn * 6 + x) 0) (class_is c)
 
 pub line_of-line-requires-clause-row : goal.line_of-line-requires-clause-row
 line_of-line-requires-clause-row c =
@@ -96,7 +96,7 @@ line_of-line-requires-clause-row c =
     let w = c.in-Some.ensures.within.0 refl in
     let here : c.loop-closer.runs.turn < length c.args.runs.now.list = omega (arith, e, w) in
     let text = ap (λ (r : Sequence). r.text) (c.in-Some.ensures.run ∙ c.loop-closer.invariant.inv.stands.stands c.loop-closer.runs.turn here) in
-    subst (λ x. row_of x < length c.in_ok-lines.lines.of_rows.items) (sym text) (c.in_ok-lines.ensures.within c.loop-closer.runs.turn here)
+    subst (λ x. row_of x < length c.in_ok-found.found.of_rows) (sym text) (c.in_ok-found.ensures.within c.loop-closer.runs.turn here)
 
 pub line_of-line-requires-clause-some : goal.line_of-line-requires-clause-some
 line_of-line-requires-clause-some c =
@@ -104,16 +104,16 @@ line_of-line-requires-clause-some c =
     let w = c.in-Some.ensures.within.0 refl in
     let here : c.loop-closer.runs.turn < length c.args.runs.now.list = omega (arith, e, w) in
     let text = ap (λ (r : Sequence). r.text) (c.in-Some.ensures.run ∙ c.loop-closer.invariant.inv.stands.stands c.loop-closer.runs.turn here) in
-    subst (λ x. 0 < get_or c.in_ok-lines.lines.of_rows.items (row_of x) 0) (sym text) (c.in_ok-lines.ensures.some c.loop-closer.runs.turn here)
+    subst (λ x. 0 < get_or c.in_ok-found.found.of_rows (row_of x) 0) (sym text) (c.in_ok-found.ensures.some c.loop-closer.runs.turn here)
 
 pub list_of-list-requires : goal.list_of-list-requires
 list_of-list-requires c =
-    line-small c.line_of-line.result c.in_ok-lines.lines.count (get_or c.in_ok-lines.lines.of_rows.items (row_of c.in-Some.closer.text) 0) (length c.loop-closer.marks.items) c.loop-closer.marks.len c.loop-closer.marks.cap c.line_of-line.ensures (c.in_ok-lines.ensures.are.within (row_of c.in-Some.closer.text)) c.loop-closer.invariant.marks_length c.loop-closer.marks.ok c.loop-closer.marks.small
+    line-small c.line_of-line.result c.in_ok-found.found.count (get_or c.in_ok-found.found.of_rows (row_of c.in-Some.closer.text) 0) (length c.loop-closer.marks.items) c.loop-closer.marks.len c.loop-closer.marks.cap c.line_of-line.ensures (c.in_ok-found.ensures.are.within (row_of c.in-Some.closer.text)) c.loop-closer.invariant.marks_length c.loop-closer.marks.ok c.loop-closer.marks.small
 
 -- the run in turn has its lists and its mark in the tables
 tables : (c : After-class_number-class) → InTables c.line_of-line.result c.list_of-list.result c.class_number-class.result (length c.loop-closer.heads.items) (length c.loop-closer.marks.items)
 tables c =
-    in-tables c.line_of-line.result c.list_of-list.result c.class_number-class.result c.in_ok-lines.lines.count (get_or c.in_ok-lines.lines.of_rows.items (row_of c.in-Some.closer.text) 0) c.in-Some.closer.marker (length c.loop-closer.heads.items) (length c.loop-closer.marks.items) c.loop-closer.marks.len c.loop-closer.marks.cap c.line_of-line.ensures (c.in_ok-lines.ensures.are.within (row_of c.in-Some.closer.text)) c.list_of-list.ensures c.class_number-class.ensures.small c.loop-closer.invariant.heads_length c.loop-closer.invariant.marks_length c.loop-closer.marks.ok c.loop-closer.marks.small
+    in-tables c.line_of-line.result c.list_of-list.result c.class_number-class.result c.in_ok-found.found.count (get_or c.in_ok-found.found.of_rows (row_of c.in-Some.closer.text) 0) c.in-Some.closer.marker (length c.loop-closer.heads.items) (length c.loop-closer.marks.items) c.loop-closer.marks.len c.loop-closer.marks.cap c.line_of-line.ensures (c.in_ok-found.ensures.are.within (row_of c.in-Some.closer.text)) c.list_of-list.ensures c.class_number-class.ensures.small c.loop-closer.invariant.heads_length c.loop-closer.invariant.marks_length c.loop-closer.marks.ok c.loop-closer.marks.small
 
 pub overflow_mul-at : goal.overflow_mul-at
 overflow_mul-at c = list-small _ _ _ _ _ (tables c)
@@ -145,11 +145,11 @@ walk-requires-clause-down c =
 
 pub walk-requires-clause-head : goal.walk-requires-clause-head
 walk-requires-clause-head c =
-    rw (head_is c) (c.loop-closer.invariant.inv.lists.heads_le (list_of (line_in c.in_ok-lines.lines.of_rows.items c.in_ok-lines.lines.count) c.args.runs.now.list c.loop-closer.runs.turn) (keys c c.loop-closer.runs.turn (here c)))
+    rw (head_is c) (c.loop-closer.invariant.inv.lists.heads_le (list_of (line_in c.in_ok-found.found.of_rows c.in_ok-found.found.count) c.args.runs.now.list c.loop-closer.runs.turn) (keys c c.loop-closer.runs.turn (here c)))
 
 pub walk-requires-clause-small : goal.walk-requires-clause-small
 walk-requires-clause-small c =
-    small_runs (layout_of c.in_ok-lines.lines.of_rows.items c.in_ok-lines.lines.count c.in_ok-lines.ensures.are) c.args.options c.args.runs.now.list c.loop-closer.runs.list c.loop-closer.runs.turn c.loop-closer.pairs.items c.loop-closer.runs.probes
+    small_runs (layout_of c.in_ok-found.found.of_rows c.in_ok-found.found.count c.in_ok-found.ensures.are) c.args.options c.args.runs.now.list c.loop-closer.runs.list c.loop-closer.runs.turn c.loop-closer.pairs.items c.loop-closer.runs.probes
     c.loop-closer.heads.items c.loop-closer.older.items c.loop-closer.marks.items c.loop-closer.invariant.inv c.requires.whole c.requires.small
 
 pub walk-requires-clause-room : goal.walk-requires-clause-room
@@ -177,7 +177,7 @@ loop-closer-smaller-in-None c =
 pub loop-closer-preserved-in-None : goal.loop-closer-preserved-in-None
 loop-closer-preserved-in-None c =
     let b = (goal.at.loop-closer-preserved-in-None c).After-walk.before in
-    let k : ℕ = list_of (line_in c.in_ok-lines.lines.of_rows.items c.in_ok-lines.lines.count) c.args.runs.now.list c.loop-closer.runs.turn in
+    let k : ℕ = list_of (line_in c.in_ok-found.found.of_rows c.in_ok-found.found.count) c.args.runs.now.list c.loop-closer.runs.turn in
     let class : ℕ = class_of c.args.options (run_at c.loop-closer.runs.list c.loop-closer.runs.turn) (run_at c.loop-closer.runs.list c.loop-closer.runs.turn).remaining in
     let heads' : c.note_run.new.heads.items
     ≡ cond (c.in-Some.closer.may_open && ltb 0 c.in-Some.closer.remaining) (set c.loop-closer.heads.items k (c.loop-closer.runs.turn + 1)) c.loop-closer.heads.items =
@@ -201,7 +201,7 @@ loop-closer-preserved-in-None c =
     c.loop-closer.runs.turn c.index-head.result.now (c.walk.new.runs.probes - c.loop-closer.runs.probes)) (mark_is b)
     (subst (λ o. WalkEnded c.args.options c.loop-closer.runs.list o c.index.result.now
     c.loop-closer.runs.turn c.index-head.result.now (c.walk.new.runs.probes - c.loop-closer.runs.probes)) c.deref.ensures.value (c.in-None.ensures.none x)) in
-    let inv' = end_turn (layout_of c.in_ok-lines.lines.of_rows.items c.in_ok-lines.lines.count c.in_ok-lines.ensures.are) c.args.options c.args.runs.now.list c.loop-closer.runs.list c.loop-closer.runs.turn c.loop-closer.pairs.items c.loop-closer.runs.probes
+    let inv' = end_turn (layout_of c.in_ok-found.found.of_rows c.in_ok-found.found.count c.in_ok-found.ensures.are) c.args.options c.args.runs.now.list c.loop-closer.runs.list c.loop-closer.runs.turn c.loop-closer.pairs.items c.loop-closer.runs.probes
     c.loop-closer.heads.items c.loop-closer.older.items c.loop-closer.marks.items c.loop-closer.invariant.inv (here b) (by-marker c.args.runs.now.list c.requires.markers) (keys b) (marks_six b)
     c.in-Some.closer c.in-Some.ensures.run c.walk.new.runs.probes c.index-head.result.now c.note_run.new.heads.items c.note_run.new.marks.items
     (head_is b) heads' marks' c.in-None.ensures.idle walked c.in-None.ensures.at_least c.in-None.ensures.at_most in
@@ -216,7 +216,7 @@ loop-closer-preserved-in-None c =
 pub take-requires-clause-opener_has : goal.take-requires-clause-opener_has
 take-requires-clause-opener_has c =
     let b = (goal.at.take-requires-clause-opener_has c).After-walk.before in
-    let k : ℕ = list_of (line_in c.in_ok-lines.lines.of_rows.items c.in_ok-lines.lines.count) c.args.runs.now.list c.loop-closer.runs.turn in
+    let k : ℕ = list_of (line_in c.in_ok-found.found.of_rows c.in_ok-found.found.count) c.args.runs.now.list c.loop-closer.runs.turn in
     let class : ℕ = class_of c.args.options (run_at c.loop-closer.runs.list c.loop-closer.runs.turn) (run_at c.loop-closer.runs.list c.loop-closer.runs.turn).remaining in
     let o : ℕ = c.in-Some-walk.opener.number in
     let walk : WalkFound c.args.options c.loop-closer.runs.list c.loop-closer.older.items (mark_of c.loop-closer.marks.items k class)
@@ -225,7 +225,7 @@ take-requires-clause-opener_has c =
     c.loop-closer.runs.turn c.index-head.result.now o (c.walk.new.runs.probes - c.loop-closer.runs.probes)) (mark_is b)
     (subst (λ l. WalkFound c.args.options c.loop-closer.runs.list l c.index.result.now
     c.loop-closer.runs.turn c.index-head.result.now o (c.walk.new.runs.probes - c.loop-closer.runs.probes)) c.deref.ensures.value c.in-Some-walk.ensures.found) in
-    let f = fits (layout_of c.in_ok-lines.lines.of_rows.items c.in_ok-lines.lines.count c.in_ok-lines.ensures.are) c.args.options c.args.runs.now.list c.loop-closer.runs.list c.loop-closer.runs.turn c.loop-closer.pairs.items c.loop-closer.runs.probes
+    let f = fits (layout_of c.in_ok-found.found.of_rows c.in_ok-found.found.count c.in_ok-found.ensures.are) c.args.options c.args.runs.now.list c.loop-closer.runs.list c.loop-closer.runs.turn c.loop-closer.pairs.items c.loop-closer.runs.probes
     c.loop-closer.heads.items c.loop-closer.older.items c.loop-closer.marks.items c.loop-closer.invariant.inv (here b) (by-marker c.args.runs.now.list c.requires.markers) (keys b) (marks_six b)
     c.in-Some.closer c.in-Some.ensures.run o c.pair_size-size.result c.walk.new.runs.probes c.index-head.result.now c.in-Some-walk.opener
     c.in-Some-walk.ensures.run (head_is b) c.in-Some-walk.ensures.closes walk c.pair_size-size.ensures in
@@ -234,7 +234,7 @@ take-requires-clause-opener_has c =
 pub take-requires-clause-closer_has : goal.take-requires-clause-closer_has
 take-requires-clause-closer_has c =
     let b = (goal.at.take-requires-clause-closer_has c).After-walk.before in
-    let k : ℕ = list_of (line_in c.in_ok-lines.lines.of_rows.items c.in_ok-lines.lines.count) c.args.runs.now.list c.loop-closer.runs.turn in
+    let k : ℕ = list_of (line_in c.in_ok-found.found.of_rows c.in_ok-found.found.count) c.args.runs.now.list c.loop-closer.runs.turn in
     let class : ℕ = class_of c.args.options (run_at c.loop-closer.runs.list c.loop-closer.runs.turn) (run_at c.loop-closer.runs.list c.loop-closer.runs.turn).remaining in
     let o : ℕ = c.in-Some-walk.opener.number in
     let walk : WalkFound c.args.options c.loop-closer.runs.list c.loop-closer.older.items (mark_of c.loop-closer.marks.items k class)
@@ -243,7 +243,7 @@ take-requires-clause-closer_has c =
     c.loop-closer.runs.turn c.index-head.result.now o (c.walk.new.runs.probes - c.loop-closer.runs.probes)) (mark_is b)
     (subst (λ l. WalkFound c.args.options c.loop-closer.runs.list l c.index.result.now
     c.loop-closer.runs.turn c.index-head.result.now o (c.walk.new.runs.probes - c.loop-closer.runs.probes)) c.deref.ensures.value c.in-Some-walk.ensures.found) in
-    let f = fits (layout_of c.in_ok-lines.lines.of_rows.items c.in_ok-lines.lines.count c.in_ok-lines.ensures.are) c.args.options c.args.runs.now.list c.loop-closer.runs.list c.loop-closer.runs.turn c.loop-closer.pairs.items c.loop-closer.runs.probes
+    let f = fits (layout_of c.in_ok-found.found.of_rows c.in_ok-found.found.count c.in_ok-found.ensures.are) c.args.options c.args.runs.now.list c.loop-closer.runs.list c.loop-closer.runs.turn c.loop-closer.pairs.items c.loop-closer.runs.probes
     c.loop-closer.heads.items c.loop-closer.older.items c.loop-closer.marks.items c.loop-closer.invariant.inv (here b) (by-marker c.args.runs.now.list c.requires.markers) (keys b) (marks_six b)
     c.in-Some.closer c.in-Some.ensures.run o c.pair_size-size.result c.walk.new.runs.probes c.index-head.result.now c.in-Some-walk.opener
     c.in-Some-walk.ensures.run (head_is b) c.in-Some-walk.ensures.closes walk c.pair_size-size.ensures in
@@ -287,7 +287,7 @@ lower_marks-requires c = (tables (goal.at.lower_marks-requires c).After-class_nu
 pub loop-closer-smaller : goal.loop-closer-smaller
 loop-closer-smaller c =
     let b = (goal.at.loop-closer-smaller c).After-walk.before in
-    let k : ℕ = list_of (line_in c.in_ok-lines.lines.of_rows.items c.in_ok-lines.lines.count) c.args.runs.now.list c.loop-closer.runs.turn in
+    let k : ℕ = list_of (line_in c.in_ok-found.found.of_rows c.in_ok-found.found.count) c.args.runs.now.list c.loop-closer.runs.turn in
     let class : ℕ = class_of c.args.options (run_at c.loop-closer.runs.list c.loop-closer.runs.turn) (run_at c.loop-closer.runs.list c.loop-closer.runs.turn).remaining in
     let o : ℕ = c.in-Some-walk.opener.number in
     let walk : WalkFound c.args.options c.loop-closer.runs.list c.loop-closer.older.items (mark_of c.loop-closer.marks.items k class)
@@ -296,7 +296,7 @@ loop-closer-smaller c =
     c.loop-closer.runs.turn c.index-head.result.now o (c.walk.new.runs.probes - c.loop-closer.runs.probes)) (mark_is b)
     (subst (λ l. WalkFound c.args.options c.loop-closer.runs.list l c.index.result.now
     c.loop-closer.runs.turn c.index-head.result.now o (c.walk.new.runs.probes - c.loop-closer.runs.probes)) c.deref.ensures.value c.in-Some-walk.ensures.found) in
-    let f = fits (layout_of c.in_ok-lines.lines.of_rows.items c.in_ok-lines.lines.count c.in_ok-lines.ensures.are) c.args.options c.args.runs.now.list c.loop-closer.runs.list c.loop-closer.runs.turn c.loop-closer.pairs.items c.loop-closer.runs.probes
+    let f = fits (layout_of c.in_ok-found.found.of_rows c.in_ok-found.found.count c.in_ok-found.ensures.are) c.args.options c.args.runs.now.list c.loop-closer.runs.list c.loop-closer.runs.turn c.loop-closer.pairs.items c.loop-closer.runs.probes
     c.loop-closer.heads.items c.loop-closer.older.items c.loop-closer.marks.items c.loop-closer.invariant.inv (here b) (by-marker c.args.runs.now.list c.requires.markers) (keys b) (marks_six b)
     c.in-Some.closer c.in-Some.ensures.run o c.pair_size-size.result c.walk.new.runs.probes c.index-head.result.now c.in-Some-walk.opener
     c.in-Some-walk.ensures.run (head_is b) c.in-Some-walk.ensures.closes walk c.pair_size-size.ensures in
@@ -315,7 +315,7 @@ loop-closer-smaller c =
 pub loop-closer-preserved : goal.loop-closer-preserved
 loop-closer-preserved c =
     let b = (goal.at.loop-closer-preserved c).After-walk.before in
-    let k : ℕ = list_of (line_in c.in_ok-lines.lines.of_rows.items c.in_ok-lines.lines.count) c.args.runs.now.list c.loop-closer.runs.turn in
+    let k : ℕ = list_of (line_in c.in_ok-found.found.of_rows c.in_ok-found.found.count) c.args.runs.now.list c.loop-closer.runs.turn in
     let class : ℕ = class_of c.args.options (run_at c.loop-closer.runs.list c.loop-closer.runs.turn) (run_at c.loop-closer.runs.list c.loop-closer.runs.turn).remaining in
     let o : ℕ = c.in-Some-walk.opener.number in
     let walk : WalkFound c.args.options c.loop-closer.runs.list c.loop-closer.older.items (mark_of c.loop-closer.marks.items k class)
@@ -328,7 +328,7 @@ loop-closer-preserved c =
     let hs' : List ℕ = c.cut_for_pair.new.heads.items in
     let ms : List ℕ = c.loop-closer.marks.items in
     let ms' : List ℕ = c.lower_marks.new.marks.items in
-    let row : ℕ = line_in c.in_ok-lines.lines.of_rows.items c.in_ok-lines.lines.count (row_of c.in-Some.closer.text) in
+    let row : ℕ = line_in c.in_ok-found.found.of_rows c.in_ok-found.found.count (row_of c.in-Some.closer.text) in
     let old : List ℕ = c.loop-closer.older.items in
     let cut : (i : ℕ) → row * 3 ≤ i → i < row * 3 + 3 → (i ≡ k → ⊥) → IsCut old o (get_or hs i 0) (get_or hs' i 0) =
     subst (λ f. (i : ℕ) → f * 3 ≤ i → i < f * 3 + 3 → (i ≡ k → ⊥) → IsCut old o (get_or hs i 0) (get_or hs' i 0)) (line_is b)
@@ -350,7 +350,7 @@ loop-closer-preserved c =
     subst (λ x. (i : ℕ) → x * 6 ≤ i → i < x * 6 + 6 → o < get_or ms i 0 → get_or ms' i 0 ≡ o) (list_is b) c.lower_marks.ensures.high in
     let rest : (i : ℕ) → (i < k * 6) ⊎ (k * 6 + 6 ≤ i) → get_or ms' i 0 ≡ get_or ms i 0 =
     subst (λ x. (i : ℕ) → (i < x * 6) ⊎ (x * 6 + 6 ≤ i) → get_or ms' i 0 ≡ get_or ms i 0) (list_is b) c.lower_marks.ensures.others in
-    let inv' = pair_turn (layout_of c.in_ok-lines.lines.of_rows.items c.in_ok-lines.lines.count c.in_ok-lines.ensures.are) c.args.options c.args.runs.now.list c.loop-closer.runs.list c.loop-closer.runs.turn c.loop-closer.pairs.items c.loop-closer.runs.probes
+    let inv' = pair_turn (layout_of c.in_ok-found.found.of_rows c.in_ok-found.found.count c.in_ok-found.ensures.are) c.args.options c.args.runs.now.list c.loop-closer.runs.list c.loop-closer.runs.turn c.loop-closer.pairs.items c.loop-closer.runs.probes
     c.loop-closer.heads.items c.loop-closer.older.items c.loop-closer.marks.items c.loop-closer.invariant.inv (here b) (by-marker c.args.runs.now.list c.requires.markers) (keys b) (marks_six b)
     c.in-Some.closer c.in-Some.ensures.run o c.pair_size-size.result c.walk.new.runs.probes c.index-head.result.now c.in-Some-walk.opener
     c.in-Some-walk.ensures.run (head_is b) c.in-Some-walk.ensures.closes walk c.pair_size-size.ensures
@@ -372,16 +372,16 @@ returns c =
     ] in
     let inv = c.loop-closer.invariant.inv in
     record {
-      lists = scanned-all (layout_of c.in_ok-lines.lines.of_rows.items c.in_ok-lines.lines.count c.in_ok-lines.ensures.are) c.args.options c.args.runs.now.list c.loop-closer.runs.list c.loop-closer.runs.turn c.loop-closer.pairs.items c.loop-closer.runs.probes
+      lists = scanned-all (layout_of c.in_ok-found.found.of_rows c.in_ok-found.found.count c.in_ok-found.ensures.are) c.args.options c.args.runs.now.list c.loop-closer.runs.list c.loop-closer.runs.turn c.loop-closer.pairs.items c.loop-closer.runs.probes
           c.loop-closer.heads.items c.loop-closer.older.items c.loop-closer.marks.items inv last;
       within = all-within c.args.options c.args.runs.now.list c.loop-closer.runs.turn c.loop-closer.pairs.items inv.scanned;
       once = all-once c.args.options c.args.runs.now.list c.loop-closer.runs.turn c.loop-closer.pairs.items inv.scanned;
       order = inv.scanned.order;
       left = inv.stands;
-      at_most = paid-all (layout_of c.in_ok-lines.lines.of_rows.items c.in_ok-lines.lines.count c.in_ok-lines.ensures.are) c.args.options c.args.runs.now.list c.loop-closer.runs.list c.loop-closer.runs.turn c.loop-closer.pairs.items c.loop-closer.runs.probes
+      at_most = paid-all (layout_of c.in_ok-found.found.of_rows c.in_ok-found.found.count c.in_ok-found.ensures.are) c.args.options c.args.runs.now.list c.loop-closer.runs.list c.loop-closer.runs.turn c.loop-closer.pairs.items c.loop-closer.runs.probes
           c.loop-closer.heads.items c.loop-closer.older.items c.loop-closer.marks.items inv last;
       at_least = inv.least;
-      scan = looks-all (layout_of c.in_ok-lines.lines.of_rows.items c.in_ok-lines.lines.count c.in_ok-lines.ensures.are) c.args.options c.args.runs.now.list c.loop-closer.runs.list c.loop-closer.runs.turn c.loop-closer.pairs.items c.loop-closer.runs.probes
+      scan = looks-all (layout_of c.in_ok-found.found.of_rows c.in_ok-found.found.count c.in_ok-found.ensures.are) c.args.options c.args.runs.now.list c.loop-closer.runs.list c.loop-closer.runs.turn c.loop-closer.pairs.items c.loop-closer.runs.probes
           c.loop-closer.heads.items c.loop-closer.older.items c.loop-closer.marks.items inv last;
       half = omega (arith, inv.half);
     }

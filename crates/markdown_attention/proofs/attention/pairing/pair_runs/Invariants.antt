@@ -6,7 +6,7 @@ use Rattle.markdown_attention.proofs.attention.pairing.pair_runs.Given as goal
 
 abbrev pub invariant-loop-closer : goal.invariant-loop-closer
 invariant-loop-closer l = record {
-  inv : Inv (line_in l.lines.of_rows.items l.lines.count) l.options l.fn.runs.list l.runs.list l.runs.turn l.pairs.items l.runs.probes l.heads.items l.older.items l.marks.items;
+  inv : Inv (line_in l.lines.of_rows l.lines.count) l.options l.fn.runs.list l.runs.list l.runs.turn l.pairs.items l.runs.probes l.heads.items l.older.items l.marks.items;
   heads_length : length l.heads.items ≡ l.lines.count * 3;
   marks_length : length l.marks.items ≡ l.lines.count * 18;
 }
