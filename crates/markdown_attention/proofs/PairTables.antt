@@ -14,13 +14,13 @@ pub record InTables (line list class lists marks : ℕ) : Type 0 where
   pub small : marks < 2 ^ 63
 
 -- a line below the number of lines
-pub line-small : (line count entry marks len cap : ℕ) → line + 1 ≡ entry → entry ≤ count → marks ≡ count * 18 → (len ≡ marks) × (len ≤ cap) →
+pub line-small : (line count entry cells len cap : ℕ) → line + 1 ≡ entry → entry ≤ count → cells ≡ count * 21 → (len ≡ cells) × (len ≤ cap) →
     cap < 2 ^ 63 → line * 3 + 3 < 2 ^ 64
-line-small line count entry marks len cap e w m v s = let a = v.0 in let b = v.1 in omega (arith, a, b)
+line-small line count entry cells len cap e w m v s = let a = v.0 in let b = v.1 in omega (arith, a, b)
 
-pub in-tables : (line list class count entry marker lists marks len cap : ℕ) → line + 1 ≡ entry → entry ≤ count → list ≡ line * 3 + kind_of marker → class < 6 →
-    lists ≡ count * 3 → marks ≡ count * 18 → (len ≡ marks) × (len ≤ cap) → cap < 2 ^ 63 → InTables line list class lists marks
-in-tables line list class count entry marker lists marks len cap e w l c h m v s =
+pub in-tables : (line list class count entry marker lists marks cells len cap : ℕ) → line + 1 ≡ entry → entry ≤ count → list ≡ line * 3 + kind_of marker → class < 6 →
+    lists ≡ count * 3 → marks ≡ count * 18 → cells ≡ count * 21 → (len ≡ cells) × (len ≤ cap) → cap < 2 ^ 63 → InTables line list class lists marks
+in-tables line list class count entry marker lists marks cells len cap e w l c h m t v s =
     from (kind_of marker) (kinds marker) l
   where
     from : (kind : ℕ) → kind < 3 → list ≡ line * 3 + kind → InTables line list class lists marks
@@ -28,9 +28,6 @@ in-tables line list class count entry marker lists marks len cap e w l c h m v s
         let a = v.0 in
         let b = v.1 in
         record { lists_in = omega arith; list_in = omega arith; marks_in = omega arith; mark_in = omega arith; small = omega arith }
-
-pub len-below : (a n m : ℕ) → a < n → m ≡ n → a < m
-len-below a n m l e = subst (λ x. a < x) (sym e) l
 
 pub list-small : (line list class lists marks : ℕ) → InTables line list class lists marks → Fits w64 (list * 6)
 list-small line list class lists marks t = let a = t.marks_in in let b = t.small in omega arith

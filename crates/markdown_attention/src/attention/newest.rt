@@ -1,5 +1,5 @@
-//! The newest run of a list of open runs, or none.
-ghost use Rattle.std.specs.Prelude.{◌≡◌, ◌+◌, ◌<◌, ◌≤◌, ◌^◌, IfSome, IfNone};
+//! The newest run of a list of open runs, or of those that a mark covers, or none.
+ghost use Rattle.std.specs.Prelude.{◌≡◌, ◌+◌, ◌<◌, ◌≤◌, ◌^◌, nat_lt, IfSome, IfNone};
 
 use std::marker::Model;
 
@@ -35,13 +35,27 @@ impl Newest {
         Newest { above: number + 1 }
     }
 
-    /// Its number, unless that is below another.
-    pub(crate) fn number_from(self, low: usize) -> Option<usize>
-        ensures number { IfSome result (λ r. self ≡ r + 1) }
-        ensures from { IfSome result (λ r. low ≤ r) }
-        ensures below { IfNone result (self ≤ low) }
+    /// The run before the one of this number, or none.
+    pub(crate) fn before(number: usize) -> Newest
+        ensures { result ≡ number }
     {
-        if self.above > low {
+        Newest { above: number }
+    }
+
+    /// Whether it is the run of this number, or a newer one.
+    pub(crate) fn reaches(self, number: usize) -> bool
+        ensures { result ≡ nat_lt number self }
+    {
+        self.above > number
+    }
+
+    /// Its number, if it is newer than another.
+    pub(crate) fn number_past(self, other: Newest) -> Option<usize>
+        ensures number { IfSome result (λ r. self ≡ r + 1) }
+        ensures past { IfSome result (λ r. other ≤ r) }
+        ensures none { IfNone result (self ≤ other) }
+    {
+        if self.above > other.above {
             Some(self.above - 1)
         } else {
             None

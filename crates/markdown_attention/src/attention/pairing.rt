@@ -1,7 +1,7 @@
 //! Which runs pair: one scan over all runs, by lists of open runs.
 //!
 //! Each container has, for each marker, a list of its open runs, the newest first. A closer walks the list of its marker to the nearest run
-//! that fits it. A mark for each list and each class of closers says how far all open runs refuse the class, so that a walk stops there.
+//! that fits it. A mark for each list and each class of closers says up to which run all open ones refuse the class, so that a walk stops there.
 
 ghost use Rattle.std.specs.Prelude.{◌≡◌, ℕ, ◌+◌, ◌-◌, ◌*◌, ◌^◌, ◌<◌, ◌≤◌, ◌⊎◌, ◌&&◌, length, slice_index, slice_set, nat_lt, if◌then◌else◌, IfSome, IfNone, IfOk, IsTrue, IsFalse, count_by, replicate};
 ghost use Rattle.markdown_attention.specs.NumberedPairs.{run_at, markers_left, sizes_fit, ruled_size, is_refused_by_three, is_tilde_pair, size_of_pair, row_of};
@@ -122,7 +122,7 @@ fn walk(
     runs: &mut Runs,
     head: Newest,
     older: &[Newest],
-    mark: usize,
+    mark: Newest,
     closer: Sequence,
 ) -> Option<Sequence>
     requires run { closer ≡ run_at runs.old.list runs.old.turn }
@@ -147,7 +147,7 @@ fn walk(
         return None;
     }
     let mut at = head;
-    while let Some(run) = at.number_from(mark) {
+    while let Some(run) = at.number_past(mark) {
         let opener = runs.look(run);
         if do_sizes_fit(options, opener, closer) {
             return Some(opener);
@@ -165,49 +165,50 @@ fn cut(head: Newest, older: &[Newest], opener: usize) -> Newest
     ensures cut { IsCut older.now opener head result }
     ensures down { result ≤ head }
 {
+    let kept = Newest::run(opener);
     let mut at = head;
-    while let Some(run) = at.number_from(opener + 1) {
+    while let Some(run) = at.number_past(kept) {
         at = older[run];
     }
     at
 }
 
 // Lowers six marks that reach the opener.
-fn lower_marks(marks: &mut Vec<usize>, first: usize, opener: usize)
-    requires { first + 6 ≤ length marks.old.items }
-    ensures same { length marks.new.items ≡ length marks.old.items }
-    ensures low { (i : ℕ) → first ≤ i → i < first + 6 → slice_index marks.old.items i ≤ opener → slice_index marks.new.items i ≡ slice_index marks.old.items i }
-    ensures high { (i : ℕ) → first ≤ i → i < first + 6 → opener < slice_index marks.old.items i → slice_index marks.new.items i ≡ opener }
-    ensures others { (i : ℕ) → (i < first) ⊎ (first + 6 ≤ i) → slice_index marks.new.items i ≡ slice_index marks.old.items i }
+fn lower_marks(marks: &mut [Newest], first: usize, opener: usize)
+    requires { first + 6 ≤ length marks.old }
+    ensures same { length marks.new ≡ length marks.old }
+    ensures low { (i : ℕ) → first ≤ i → i < first + 6 → slice_index marks.old i ≤ opener → slice_index marks.new i ≡ slice_index marks.old i }
+    ensures high { (i : ℕ) → first ≤ i → i < first + 6 → opener < slice_index marks.old i → slice_index marks.new i ≡ opener }
+    ensures others { (i : ℕ) → (i < first) ⊎ (first + 6 ≤ i) → slice_index marks.new i ≡ slice_index marks.old i }
 {
     for i in first..first + 6 {
-        if marks[i] > opener {
-            marks[i] = opener;
+        if marks[i].reaches(opener) {
+            marks[i] = Newest::before(opener);
         }
     }
 }
 
 // Cuts the three lists of a container behind the opener, and takes a used-up opener out of its own.
 fn cut_for_pair(
-    heads: &mut Vec<Newest>,
+    heads: &mut [Newest],
     older: &[Newest],
     first: usize,
     list: usize,
     opener: usize,
     used: bool,
 )
-    requires lists { first + 3 ≤ length heads.old.items }
-    requires list { list < length heads.old.items }
+    requires lists { first + 3 ≤ length heads.old }
+    requires list { list < length heads.old }
     requires opener { opener < length older.now }
     requires down { (r : ℕ) → r < length older.now → slice_index older.now r ≤ r }
-    requires heads { (i : ℕ) → i < length heads.old.items → slice_index heads.old.items i ≤ length older.now }
-    ensures same { length heads.new.items ≡ length heads.old.items }
+    requires heads { (i : ℕ) → i < length heads.old → slice_index heads.old i ≤ length older.now }
+    ensures same { length heads.new ≡ length heads.old }
     ensures cut { (i : ℕ) → first ≤ i → i < first + 3 → (i ≡ list → ⊥)
-        → IsCut older.now opener (slice_index heads.old.items i) (slice_index heads.new.items i) }
+        → IsCut older.now opener (slice_index heads.old i) (slice_index heads.new i) }
     ensures own { IsFalse used → first ≤ list → list < first + 3
-        → IsCut older.now opener (slice_index heads.old.items list) (slice_index heads.new.items list) }
-    ensures used { IsTrue used → slice_index heads.new.items list ≡ slice_index older.now opener }
-    ensures others { (i : ℕ) → (i < first) ⊎ (first + 3 ≤ i) → (i ≡ list → ⊥) → slice_index heads.new.items i ≡ slice_index heads.old.items i }
+        → IsCut older.now opener (slice_index heads.old list) (slice_index heads.new list) }
+    ensures used { IsTrue used → slice_index heads.new list ≡ slice_index older.now opener }
+    ensures others { (i : ℕ) → (i < first) ⊎ (first + 3 ≤ i) → (i ≡ list → ⊥) → slice_index heads.new i ≡ slice_index heads.old i }
 {
     for i in first..first + 3 {
         let head = cut(heads[i], older, opener);
@@ -219,35 +220,33 @@ fn cut_for_pair(
 }
 
 // Notes a run that found no opener: if it may close, all runs before it are marked, and if it may open, it is put on top of its list.
-fn note_run(heads: &mut Vec<Newest>, marks: &mut Vec<usize>, list: usize, at: usize, run: Sequence)
-    requires list { list < length heads.old.items }
-    requires at { at < length marks.old.items }
+fn note_run(heads: &mut [Newest], marks: &mut [Newest], list: usize, at: usize, run: Sequence)
+    requires list { list < length heads.old }
+    requires at { at < length marks.old }
     requires number { run.number + 1 < 2 ^ 64 }
-    ensures marks { marks.new.items ≡ (if run.may_close && nat_lt 0 run.remaining then slice_set marks.old.items at run.number else marks.old.items) }
-    ensures heads { heads.new.items ≡ (if run.may_open && nat_lt 0 run.remaining then slice_set heads.old.items list (run.number + 1) else heads.old.items) }
+    ensures marks { marks.new ≡ (if run.may_close && nat_lt 0 run.remaining then slice_set marks.old at run.number else marks.old) }
+    ensures heads { heads.new ≡ (if run.may_open && nat_lt 0 run.remaining then slice_set heads.old list (run.number + 1) else heads.old) }
 {
     if run.may_close && run.remaining > 0 {
-        marks[at] = run.number;
+        marks[at] = Newest::before(run.number);
     }
     if run.may_open && run.remaining > 0 {
         heads[list] = Newest::run(run.number);
     }
 }
 
-// Three empty lists for each line.
-fn empty_lists(alloc: Global, rows: usize) -> Result<Vec<Newest>, AllocError>
-    ensures { IfOk result (λ table. table.items ≡ replicate (rows * 3) 0) }
-{
-    let size = rows.checked_mul(3).ok_or(AllocError)?;
-    vec![in alloc; Newest::none(); size]
-}
+// How many lists each line has.
+const LISTS: usize = 3;
 
-// A table of zeros, so many for each line.
-fn zeros(alloc: Global, rows: usize, each: usize) -> Result<Vec<usize>, AllocError>
-    ensures { IfOk result (λ table. table.items ≡ replicate (rows * each) 0) }
+// How many lists and marks each line has: three lists, and six marks for each of them.
+const CELLS: usize = 21;
+
+// The empty lists of all lines, and behind them their marks, none of which marks a run.
+fn empty_tables(alloc: Global, lines: usize) -> Result<Vec<Newest>, AllocError>
+    ensures { IfOk result (λ tables. tables.items ≡ replicate (lines * CELLS) 0) }
 {
-    let size = rows.checked_mul(each).ok_or(AllocError)?;
-    vec![in alloc; 0usize; size]
+    let size = lines.checked_mul(CELLS).ok_or(AllocError)?;
+    vec![in alloc; Newest::none(); size]
 }
 
 // The lines of the rows that hold a run.
@@ -290,8 +289,8 @@ pub fn pair_runs(
     let lines = &found;
     let mut pairs = Vec::with_capacity(alloc, runs.len() / 2)?;
     let count = lines.count();
-    let mut heads = empty_lists(alloc, count)?;
-    let mut marks = zeros(alloc, count, 18)?;
+    let mut tables = empty_tables(alloc, count)?;
+    let (heads, marks) = tables.split_at_mut(count * LISTS);
     let mut older = Vec::with_capacity(alloc, runs.len())?;
     while let Some(closer) = runs.closer() {
         let line = lines.line_of(closer.text);
@@ -302,15 +301,15 @@ pub fn pair_runs(
         match walk(options, runs, head, &older, marks[at], closer) {
             None => {
                 older.push(head)?;
-                note_run(&mut heads, &mut marks, list, at, closer);
+                note_run(heads, marks, list, at, closer);
                 runs.advance();
             }
             Some(opener) => {
                 let size = pair_size(opener.remaining, closer.remaining);
                 runs.take(opener.number, size);
                 let used = opener.remaining == size;
-                cut_for_pair(&mut heads, &older, line * 3, list, opener.number, used);
-                lower_marks(&mut marks, list * 6, opener.number);
+                cut_for_pair(heads, &older, line * 3, list, opener.number, used);
+                lower_marks(marks, list * 6, opener.number);
                 pairs.push(Pair {
                     opener: opener.number,
                     closer: closer.number,

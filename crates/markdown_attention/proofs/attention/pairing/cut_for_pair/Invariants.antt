@@ -4,8 +4,8 @@ use Rattle.markdown_attention.proofs.attention.pairing.cut_for_pair.Given as goa
 
 abbrev pub invariant-loop-i : goal.invariant-loop-i
 invariant-loop-i l = record {
-  same : length l.heads.items ≡ length l.fn.heads.items;
+  same : length l.heads ≡ length l.fn.heads;
   cut : (i : ℕ) → l.fn.first ≤ i → i < l.i →
-      IsCut l.older l.opener (get_or l.fn.heads.items i 0) (get_or l.heads.items i 0);
-  others : (i : ℕ) → (i < l.fn.first) ⊎ (l.i ≤ i) → get_or l.heads.items i 0 ≡ get_or l.fn.heads.items i 0;
+      IsCut l.older l.opener (get_or l.fn.heads i 0) (get_or l.heads i 0);
+  others : (i : ℕ) → (i < l.fn.first) ⊎ (l.i ≤ i) → get_or l.heads i 0 ≡ get_or l.fn.heads i 0;
 }

@@ -16,7 +16,7 @@ returns-then-do_sizes_fit-clause-found c =
       refused = c.loop-run.runs.probes - runs.probes;
       passed = subst (λ (x : ℕ). Passed c.args.options list c.args.older.now c.args.mark runs.turn c.args.head (c.loop-run.runs.probes - runs.probes) x) at c.loop-run.invariant.passed;
       counted = omega (arith, probes, c.loop-run.invariant.low);
-      unmarked = c.in-Some.ensures.from;
+      unmarked = c.in-Some.ensures.past;
       fit = cc;
     } in
     subst (λ (x : ℕ). WalkFound c.args.options list c.args.older.now c.args.mark runs.turn c.args.head x (c.look-opener.new.self.probes - runs.probes)) (sym number) found
@@ -27,5 +27,5 @@ returns-clause-none c closing = record {
   next = c.loop-run.at;
   passed = c.loop-run.invariant.passed;
   counted = omega arith;
-  marked = omega (arith, c.in_default.ensures.below);
+  marked = omega (arith, c.in_default.ensures.none);
 }
