@@ -5,4 +5,5 @@ pub mod OneMoreCall
 pub mod WalkTree
 pub mod PlainStretch
 pub mod BroughtTree
+pub mod BroughtBound
 pub mod ClippedText

@@ -8,3 +8,4 @@ pub mod Brought
 pub mod FirstDefinitions
 pub mod KnownFootnotes
 pub mod BroughtWalk
+pub mod BroughtAtMost

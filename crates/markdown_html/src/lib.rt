@@ -3,6 +3,7 @@
 
 mod addresses;
 mod brought;
+mod brought_at_most;
 mod calls;
 pub mod footnotes;
 mod found;
@@ -14,4 +15,5 @@ pub mod targets;
 mod writer;
 
 pub use brought::left_of_limit;
+pub use brought_at_most::is_within_limit;
 pub use writer::{text_by, text_of, to_html};

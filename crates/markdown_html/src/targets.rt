@@ -1,9 +1,11 @@
 //! Where labels lead.
 #![tactic(auto)]
 
-ghost use Rattle.std.specs.Prelude.{◌≡◌, ◌++◌, ◌∷◌, [], None, OnErr, OnOk, option_map, string_bytes};
+ghost use Rattle.std.specs.Prelude.{◌≡◌, ◌-◌, ◌^◌, ◌++◌, ◌∷◌, [], None, IfSome, OnErr, OnOk, min, option_map, string_bytes};
 ghost use Rattle.std.specs.List.{slice_get};
 ghost use Rattle.markdown_html_model.specs.Html.{defined, nowhere};
+ghost use Rattle.markdown_html.specs.Brought.{target_bytes};
+ghost use Rattle.markdown_html.specs.BroughtAtMost.{BringAtMost};
 ghost use Rattle.markdown_html.specs.FirstDefinitions.{IsDefined, first_with, target_there, target_with};
 ghost use Rattle.markdown_html.specs.DefinitionView.{defined_of};
 ghost use Rattle.markdown_html.specs.View.{target_view};
@@ -21,6 +23,17 @@ pub(crate) struct Goal<'a> {
 }
 
 impl<'a> Goal<'a> {
+    // How many bytes a destination and a title have, or the largest number where they are more than can be counted.
+    pub(crate) fn bytes(self) -> usize
+        ensures { result ≡ min (target_bytes (target_view self.entry)) (2 ^ 64 - 1) }
+    {
+        let title = match self.title {
+            Some(title) => title.len(),
+            None => 0,
+        };
+        self.destination.len().saturating_add(title)
+    }
+
     pub(crate) fn nowhere() -> Goal<'a>
         ensures { target_view result ≡ nowhere }
     {
@@ -39,12 +52,15 @@ pub struct Targets {
     definitions: Vec<Definition>,
     // Where the first with each identifier stands.
     numbers: BTreeMap<String, usize>,
+    // The most bytes of a destination and its title, or the largest number where they are more than can be counted.
+    longest: usize,
 }
 
 impl Model for Targets {
     ghost use Rattle.std.specs.Prelude.{◌≡◌, List, ℕ, map};
     ghost use Rattle.std.specs.BTreeMap.{get_by_text};
     ghost use Rattle.markdown_html_model.specs.Html.{Defined};
+    ghost use Rattle.markdown_html.specs.BroughtAtMost.{BringCounted};
     ghost use Rattle.markdown_html.specs.FirstDefinitions.{first_with};
     ghost use Rattle.markdown_html.specs.DefinitionView.{defined_of};
 
@@ -52,7 +68,7 @@ impl Model for Targets {
 
     ghost view = { λ t. map defined_of t.definitions.items };
 
-    ghost invariant = { λ t. (identifier : List ℕ) → get_by_text t.numbers identifier ≡ first_with identifier (map defined_of t.definitions.items) };
+    ghost invariant = { λ t. ((identifier : List ℕ) → get_by_text t.numbers identifier ≡ first_with identifier (map defined_of t.definitions.items)) × BringCounted (map defined_of t.definitions.items) t.longest };
 }
 
 impl Targets {
@@ -63,6 +79,7 @@ impl Targets {
         Targets {
             definitions: Vec::new(alloc),
             numbers: BTreeMap::new(alloc),
+            longest: 0,
         }
     }
 
@@ -81,9 +98,13 @@ impl Targets {
     {
         let key = definition.identifier.clone()?;
         let number = self.definitions.len();
+        let longest = self.longest.max(goal_of(&definition).bytes());
         self.definitions.push(definition)?;
         match self.numbers.insert(key, number) {
-            Ok(_) => Ok(()),
+            Ok(_) => {
+                self.longest = longest;
+                Ok(())
+            }
             Err(_) => {
                 self.definitions.pop();
                 Err(AllocError)
@@ -97,7 +118,9 @@ impl Targets {
         ensures ok { OnOk result (self.new ≡ self.old ++ defined_of definition ∷ []) }
         ensures err { OnErr result (self.new ≡ self.old) }
     {
+        let longest = self.longest.max(goal_of(&definition).bytes());
         self.definitions.push(definition)?;
+        self.longest = longest;
         Ok(())
     }
 
@@ -112,6 +135,17 @@ impl Targets {
         match self.first_with(definition.identifier.as_str()) {
             Some(_) => self.push_later(definition),
             None => self.push_first(definition),
+        }
+    }
+
+    // The most bytes that a definition brings at once; none where they are more than can be counted.
+    pub(crate) fn most_brought(&self) -> Option<usize>
+        ensures { IfSome result (BringAtMost self.now) }
+    {
+        if self.longest < usize::MAX {
+            Some(self.longest)
+        } else {
+            None
         }
     }
 
