@@ -11,6 +11,7 @@ use markdown_html_model::resolve::push_resolved;
 use markdown_html_model::role::Role;
 use markdown_util::decoding::Decoding;
 use std::alloc::{AllocError, Global};
+use std::mem;
 
 // What has been read of a link or an image so far.
 #[derive(Drop)]
@@ -53,6 +54,16 @@ impl Found {
         self.reference = None;
     }
 
+    // Forgets what was found. The memory of a destination becomes spare.
+    fn clear_into(&mut self, spare: &mut Vec<u8>)
+        ensures { parts_of self.new ≡ no_parts }
+    {
+        if let Some(destination) = self.destination.take() {
+            *spare = destination;
+        }
+        self.clear();
+    }
+
     // Adds what was found earlier. Of two parts of one kind the later stays.
     pub(crate) fn join_behind(&mut self, earlier: Found)
         ensures { parts_of self.new ≡ joined_parts (parts_of earlier) (parts_of self.old) }
@@ -64,6 +75,7 @@ impl Found {
     }
 
     // Replaces what was found inside something by what its surroundings find in it, where it stands from one place to another and has this string.
+    // The memory of a destination that is forgotten becomes spare.
     pub(crate) fn make_own(
         &mut self,
         alloc: Global,
@@ -71,6 +83,7 @@ impl Found {
         from: Point,
         to: Point,
         string: Vec<u8>,
+        spare: &mut Vec<u8>,
     )
         ensures { parts_of self.new ≡ own_parts role from to string.items (parts_of self.old) }
     {
@@ -93,7 +106,7 @@ impl Found {
                 self.clear();
                 self.reference = Some((from.index, to.index));
             }
-            Role::Link | Role::Image | Role::Footnote => self.clear(),
+            Role::Link | Role::Image | Role::Footnote => self.clear_into(spare),
             _ => {}
         }
     }
@@ -108,19 +121,23 @@ fn set_if_none(text: &mut Option<Vec<u8>>, other: Option<Vec<u8>>)
     }
 }
 
-// The string that a destination or a title is, of the text inside it; empty for all else.
+// The string that a destination or a title is, of the text inside it; empty for all else. It is made in the spare memory.
 pub(crate) fn string_of(
     alloc: Global,
     how: Decoding,
     role: Role,
     inside: &[u8],
+    spare: &mut Vec<u8>,
 ) -> Result<Vec<u8>, AllocError>
     ensures { IfOk result (λ text. text.items ≡ string_of how role inside.now) }
 {
-    let mut text = Vec::new(alloc);
     match role {
-        Role::Destination | Role::TitleText => push_resolved(alloc, &mut text, how, inside)?,
-        _ => {}
+        Role::Destination | Role::TitleText => {
+            let mut text = mem::replace(spare, Vec::new(alloc));
+            text.clear();
+            push_resolved(alloc, &mut text, how, inside)?;
+            Ok(text)
+        }
+        _ => Ok(Vec::new(alloc)),
     }
-    Ok(text)
 }

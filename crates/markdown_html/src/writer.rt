@@ -64,6 +64,8 @@ struct Writer {
     calls: FootnoteCalls,
     // Room for an inside that is written anew.
     room: Vec<u8>,
+    // Room for the string of the next destination or title.
+    spare: Vec<u8>,
 }
 
 // Where the inside of something stands.
@@ -403,10 +405,12 @@ impl Writer {
             given.decoding,
             role,
             bytes_from(self.out.as_slice(), entry.start),
+            &mut self.spare,
         )?;
         self.close(alloc, given, role, entry, to)?;
         push_calls(&mut self.calls, alloc, given, role, &self.found)?;
-        self.found.make_own(alloc, role, entry.point, to, string);
+        self.found
+            .make_own(alloc, role, entry.point, to, string, &mut self.spare);
         join_before(&mut self.before, &mut self.found, entry.kept);
         Ok(())
     }
@@ -500,6 +504,7 @@ fn written(
         before: Vec::new(alloc),
         calls,
         room: Vec::new(alloc),
+        spare: Vec::new(alloc),
     };
     let mut index = behind_silent(events, 0);
     while index < events.len() {
