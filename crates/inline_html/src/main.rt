@@ -24,7 +24,7 @@ mod words;
 
 use markdown_html::footnotes::FootnoteCalls;
 use markdown_html::targets::Targets;
-use markdown_html::{left_of_limit, to_html};
+use markdown_html::{is_within_limit, to_html};
 use markdown_html_model::options::HtmlOptions;
 use markdown_inline::event_list::EventSlice;
 use markdown_inline::parser::{ParseState, Piece};
@@ -99,7 +99,7 @@ fn check_limit(
     let Some(limit) = limit else {
         return Ok(());
     };
-    match left_of_limit(
+    let is_within = is_within_limit(
         alloc,
         parse_state,
         pieces,
@@ -107,9 +107,11 @@ fn check_limit(
         definitions,
         options,
         limit,
-    )? {
-        Some(_) => Ok(()),
-        None => Err(Fault::References),
+    )?;
+    if is_within {
+        Ok(())
+    } else {
+        Err(Fault::References)
     }
 }
 
