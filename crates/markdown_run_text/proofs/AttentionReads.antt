@@ -4,7 +4,7 @@ use Rattle.std.specs.Option.{is_some}
 use Rattle.std.proofs.lemmas.Bool.{eqb-true, eq-eqb}
 use Rattle.markdown_content.specs.Codes.{Code}
 use Rattle.markdown_content.specs.ListFunctions.{rest_of}
-use Rattle.markdown_content.specs.Place.{Place, ahead_at, code_at, moved}
+use Rattle.markdown_content.specs.Place.{Place, ahead_at, code_at, moved, point_of}
 use Rattle.markdown_content.specs.Tree.{Forest, leaf, leaf_codes}
 use Rattle.markdown_event.specs.declared.event.Name.TheVariants as N
 use Rattle.markdown_content.proofs.PlaceRules.{IsAhead, ahead_none, ahead_some, left_moved}
@@ -25,7 +25,7 @@ use Rattle.markdown_model.specs.Grammar.{gives, span}
 use Rattle.markdown_model.specs.LabelEnd.{plain}
 use Rattle.markdown_model.specs.SingleConstructs.{attention_here, begins_run, plain_tree}
 use Rattle.markdown_model.proofs.GrammarSteps.{bind-some, some-span, span-none, span-takes, switched-off, switched-on}
-use Rattle.markdown_run_text.specs.PlacesPassed.{is_some_value, past_run}
+use Rattle.markdown_run_text.specs.PlacesPassed.{is_some_value, past_run, with_leaf}
 use Rattle.markdown_run_text.specs.ReaderEnds.{ReadsWith, options_here}
 
 -- Marker by marker.
@@ -83,9 +83,9 @@ span-parts p (c ∷ cs) = by_test (p c) refl (span-parts p cs)
     by_test true e more = ap (λ (s : List Code × List Code). s.0 ++ s.1) (span-takes p c cs e) ∙ ap (λ xs. c ∷ xs) more
     by_test false e more = ap (λ (s : List Code × List Code). s.0 ++ s.1) (span-none p (c ∷ cs) e)
 
--- past a run, from its entry on
+-- past a run, with the events of its leaf
 abbrev past_markers : ℕ → Tokenizer → Tokenizer
-past_markers m T = let E : Tokenizer = entered N.AttentionSequence T in exited N.AttentionSequence (record E { cursor = past_run m E.cursor })
+past_markers m T = with_leaf N.AttentionSequence (point_of T.cursor) (record T { cursor = past_run m T.cursor })
 
 markers-past : (m : ℕ) (T : Tokenizer) →
     past_markers m T ≡ exited N.AttentionSequence (passed (span (is_value m) (ahead T)).0 (entered N.AttentionSequence T))

@@ -28,6 +28,7 @@ ghost use Rattle.markdown_model.specs.SingleConstructs.{attention_here, begins_r
 ghost use Rattle.markdown_run_text.specs.PlacesPassed.{is_some_value, past_run};
 ghost use Rattle.markdown_run_text.specs.ReaderEnds.{ReadsOrStays, options_here};
 
+use crate::readers::events::append_leaf;
 use markdown_content::configuration::Constructs;
 use markdown_content::cursor::Cursor;
 use markdown_engine::tokenizer::Tokenizer;
@@ -91,9 +92,9 @@ pub fn read(tokenizer: &mut Tokenizer, marker: u8) -> Result<bool, AllocError>
     if !begins_run(tokenizer.parse_state.options.constructs, marker) {
         return Ok(false);
     }
-    tokenizer.enter(Name::AttentionSequence)?;
+    let from = tokenizer.point();
     pass_markers(&mut tokenizer.cursor, marker);
-    tokenizer.exit(Name::AttentionSequence)?;
+    append_leaf(tokenizer, Name::AttentionSequence, from)?;
     tokenizer.register_resolver(ResolveName::Attention)?;
     Ok(true)
 }
