@@ -1,1 +1,2 @@
 -- The proofs of prepared documents.
+mod WholeGroups

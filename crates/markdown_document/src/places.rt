@@ -73,6 +73,59 @@ fn pass_group(bytes: &[u8], point: Point, to: usize) -> Point
     }
 }
 
+// Walks on over the next sixteen bytes, if all are line feeds or above 13.
+#[inline(always)]
+fn pass_whole_group(bytes: &[u8], point: Point) -> Option<Point>
+    requires fits { length bytes.now ≤ document_limit }
+    requires is_point { IsPoint bytes.now point }
+    requires at_byte { point.vs ≡ 0 }
+    requires room { point.index + LANES ≤ length bytes.now }
+    ensures { MatchOption result (Unit {0}) (λ next. IsPoint bytes.now next × ((next.vs ≡ 0) × (next.index ≡ point.index + LANES))) }
+{
+    let (ordinary, feeds) = feeds_among(bytes, point.index);
+    if ordinary < LANES {
+        return None;
+    }
+    if feeds == 0 {
+        Some(Point {
+            line: point.line,
+            column: point.column + LANES,
+            index: point.index + LANES,
+            vs: 0,
+        })
+    } else {
+        Some(Point {
+            line: point.line + feeds.count_ones() as usize,
+            column: LANES - feeds.ilog2() as usize,
+            index: point.index + LANES,
+            vs: 0,
+        })
+    }
+}
+
+// As `pass_bytes`, while the next sixteen bytes are passed together.
+#[inline(always)]
+fn pass_whole_groups(bytes: &[u8], point: Point, to: usize) -> Point
+    requires fits { length bytes.now ≤ document_limit }
+    requires is_point { IsPoint bytes.now point }
+    requires at_byte { point.vs ≡ 0 }
+    requires forward { point.index ≤ to }
+    requires within { to ≤ length bytes.now }
+    ensures is_point { IsPoint bytes.now result }
+    ensures at_byte { result.vs ≡ 0 }
+    ensures from { point.index ≤ result.index }
+    ensures forward { result.index ≤ to }
+{
+    let mut point = point;
+    while to - point.index >= LANES {
+        let Some(next) = pass_whole_group(bytes, point) else {
+            return point;
+        };
+        point = next;
+    }
+    point
+}
+
 // As `pass_bytes`, while sixteen bytes are left in the document.
 #[inline(always)]
 fn pass_groups(bytes: &[u8], point: Point, to: usize) -> Point
@@ -86,7 +139,7 @@ fn pass_groups(bytes: &[u8], point: Point, to: usize) -> Point
     ensures from { point.index ≤ result.index }
     ensures forward { result.index ≤ to }
 {
-    let mut point = point;
+    let mut point = pass_whole_groups(bytes, point, to);
     while point.index < to && bytes.len() - point.index >= LANES {
         let next = pass_group(bytes, point, to);
         if next.index == point.index {
