@@ -23,7 +23,7 @@ use markdown_content::parser::{ParseState, Piece};
 use markdown_engine_events::event_list::EventSlice;
 use markdown_html::footnotes::FootnoteCalls;
 use markdown_html::targets::Targets;
-use markdown_html::{left_of_limit, to_html};
+use markdown_html::{is_within_limit, to_html};
 use markdown_html_model::options::{Definition, HtmlOptions, LineEnds};
 use markdown_util::util::normalize_identifier::identifier_by;
 use std::alloc::{AllocError, Global};
@@ -171,7 +171,7 @@ fn check_limit(
     if limit == 0 {
         return Ok(());
     }
-    match left_of_limit(
+    let is_within = is_within_limit(
         alloc,
         parse_state,
         pieces,
@@ -179,9 +179,11 @@ fn check_limit(
         definitions,
         options,
         limit,
-    )? {
-        Some(_) => Ok(()),
-        None => Err(Fault::References),
+    )?;
+    if is_within {
+        Ok(())
+    } else {
+        Err(Fault::References)
     }
 }
 
