@@ -1,8 +1,9 @@
 //! Writes the HTML of a paragraph that it reads from standard input.
 //!
-//! The first word is `text`. The others are those of `mdinline` but `label=`: `gfm`, `math`, `task`, `cm-lengths`, `cm-shortcut`, `note=TEXT`; and
-//! `raw`, which writes raw HTML as it stands; `any-link`, by which links lead wherever they say; `lf` and `crlf`, which write line endings so; `define=LABEL`, which defines a label, followed
-//! by `to=DESTINATION` and perhaps `title=TEXT`; and `no-limit`. One final line ending is dropped.
+//! The first word is `text`. The others are those of `mdinline` but `label=`: `gfm`, `math`, `task`, `cm-lengths`, `cm-shortcut`, `html-references`,
+//! `commonmark`, `note=TEXT`; and `raw`, which writes raw HTML as it stands; `any-link`, by which links lead wherever they say; `lf` and `crlf`, which
+//! write line endings so; `define=LABEL`, which defines a label, followed by `to=DESTINATION` and perhaps `title=TEXT`; and `no-limit`. One final line
+//! ending is dropped.
 //!
 //! A definition brings the bytes of its destination and of its title to each link and image that refers to it. Definitions bring no more than 100,000
 //! bytes, or than the input has where it has more, as in cmark; the word `no-limit` lifts that.

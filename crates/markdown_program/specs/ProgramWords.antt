@@ -15,7 +15,7 @@ abbrev pub is_option : List ℕ → Bool
 is_option word =
     bytes_eq word (codes "gfm") || bytes_eq word (codes "math") || bytes_eq word (codes "task")
     || bytes_eq word (codes "cm-lengths") || bytes_eq word (codes "cm-shortcut")
-    || bytes_eq word (codes "commonmark")
+    || bytes_eq word (codes "html-references") || bytes_eq word (codes "commonmark")
     || starts_with nat_eq word (codes "label=") || starts_with nat_eq word (codes "note=")
 
 -- a word that says how the content is read

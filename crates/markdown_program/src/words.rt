@@ -12,11 +12,12 @@ use std::alloc::{AllocError, Global};
 // Whether the word sets an option, or defines a label or a footnote.
 fn sets_or_defines(word: &str) -> bool
     ensures { result ≡ (bytes_eq word.now (codes "cm-lengths") || bytes_eq word.now (codes "cm-shortcut")
-        || bytes_eq word.now (codes "commonmark")
+        || bytes_eq word.now (codes "html-references") || bytes_eq word.now (codes "commonmark")
         || starts_with nat_eq word.now (codes "label=") || starts_with nat_eq word.now (codes "note=")) }
 {
     word == "cm-lengths"
         || word == "cm-shortcut"
+        || word == "html-references"
         || word == "commonmark"
         || word.as_bytes().starts_with(b"label=")
         || word.as_bytes().starts_with(b"note=")

@@ -49,7 +49,7 @@ fn read<R: Read>(
     out: &mut Answers,
 ) -> Result<(), AllocError> {
     let (mut written, mut told) = (Vec::new(alloc), Vec::new(alloc));
-    told.reserve(128)?;
+    told.reserve(256)?;
     let status = run(alloc, row.words.as_slice(), reader, &mut written, &mut told);
     tell(status, written.as_slice(), told.as_slice(), out);
     Ok(())
