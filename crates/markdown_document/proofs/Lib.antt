@@ -1,2 +1,1 @@
 -- The proofs of prepared documents.
-mod WholeGroups

@@ -1,10 +1,11 @@
 //! The known places of a document, in which many contents are read: each is found by a short walk from one of them.
-ghost use Rattle.std.specs.Prelude.{◌≡◌, ◌+◌, ◌≤◌, ◌↔◌, length, IfOk, IsTrue, MatchOption};
+ghost use Rattle.std.specs.Prelude.{◌≡◌, ℕ, ◌+◌, ◌<◌, ◌≤◌, ◌↔◌, length, take, drop, slice_index, true, IfOk, IsTrue, MatchOption};
 ghost use Rattle.markdown_content.specs.Codes.{place_of, is_at_or_after};
 ghost use Rattle.markdown_content.specs.Content.{document_limit, IsContent, IsTextContent};
 ghost use Rattle.markdown_content.specs.KnownPlaces.{IsDocument, AreMarks, IsFirst};
 ghost use Rattle.markdown_content.specs.Place.{start_of_content};
 ghost use Rattle.markdown_content.specs.DocumentWalk.{IsPoint};
+ghost use Rattle.markdown_content.specs.PlainBytes.{is_of_line, feed_bits};
 
 use markdown_content::content::{
     DOCUMENT_LIMIT, are_between_characters, are_pieces_from, has_text_lines, reach,
@@ -40,21 +41,21 @@ impl<'a> Model for Places<'a> {
     ghost invariant = { λ d. IsDocument d.bytes.now × AreMarks d.bytes.now d.marks.items };
 }
 
-// Walks on over the line feeds and bytes above 13 that are first among sixteen bytes, as far as an index.
+// The place behind so many of the sixteen bytes from a place on. All of these are line feeds or above 13, and the set bits say which of the sixteen are line
+// feeds.
 #[inline(always)]
-fn pass_group(bytes: &[u8], point: Point, to: usize) -> Point
+fn behind_group(bytes: &[u8], point: Point, count: usize, group: u64) -> Point
     requires fits { length bytes.now ≤ document_limit }
     requires is_point { IsPoint bytes.now point }
     requires at_byte { point.vs ≡ 0 }
-    requires forward { point.index ≤ to }
     requires room { point.index + LANES ≤ length bytes.now }
+    requires few { count ≤ LANES }
+    requires of_lines { (i : ℕ) → point.index ≤ i → i < point.index + count → is_of_line (slice_index bytes.now i) ≡ true }
+    requires feeds { group ≡ feed_bits (take LANES (drop point.index bytes.now)) }
     ensures is_point { IsPoint bytes.now result }
     ensures at_byte { result.vs ≡ 0 }
-    ensures from { point.index ≤ result.index }
-    ensures forward { result.index ≤ to }
+    ensures index { result.index ≡ point.index + count }
 {
-    let (ordinary, group) = feeds_among(bytes, point.index);
-    let count = ordinary.min(to - point.index);
     let feeds = group & ((1 << count) - 1);
     if feeds == 0 {
         Point {
@@ -73,6 +74,24 @@ fn pass_group(bytes: &[u8], point: Point, to: usize) -> Point
     }
 }
 
+// Walks on over the line feeds and bytes above 13 that are first among sixteen bytes, as far as an index.
+#[inline(always)]
+fn pass_group(bytes: &[u8], point: Point, to: usize) -> Point
+    requires fits { length bytes.now ≤ document_limit }
+    requires is_point { IsPoint bytes.now point }
+    requires at_byte { point.vs ≡ 0 }
+    requires forward { point.index ≤ to }
+    requires room { point.index + LANES ≤ length bytes.now }
+    ensures is_point { IsPoint bytes.now result }
+    ensures at_byte { result.vs ≡ 0 }
+    ensures from { point.index ≤ result.index }
+    ensures forward { result.index ≤ to }
+{
+    let (ordinary, group) = feeds_among(bytes, point.index);
+    let count = ordinary.min(to - point.index);
+    behind_group(bytes, point, count, group)
+}
+
 // Walks on over the next sixteen bytes, if all are line feeds or above 13.
 #[inline(always)]
 fn pass_whole_group(bytes: &[u8], point: Point) -> Option<Point>
@@ -82,25 +101,11 @@ fn pass_whole_group(bytes: &[u8], point: Point) -> Option<Point>
     requires room { point.index + LANES ≤ length bytes.now }
     ensures { MatchOption result (Unit {0}) (λ next. IsPoint bytes.now next × ((next.vs ≡ 0) × (next.index ≡ point.index + LANES))) }
 {
-    let (ordinary, feeds) = feeds_among(bytes, point.index);
+    let (ordinary, group) = feeds_among(bytes, point.index);
     if ordinary < LANES {
         return None;
     }
-    if feeds == 0 {
-        Some(Point {
-            line: point.line,
-            column: point.column + LANES,
-            index: point.index + LANES,
-            vs: 0,
-        })
-    } else {
-        Some(Point {
-            line: point.line + feeds.count_ones() as usize,
-            column: LANES - feeds.ilog2() as usize,
-            index: point.index + LANES,
-            vs: 0,
-        })
-    }
+    Some(behind_group(bytes, point, LANES, group))
 }
 
 // As `pass_bytes`, while the next sixteen bytes are passed together.
