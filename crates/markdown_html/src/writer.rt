@@ -8,11 +8,11 @@ ghost use Rattle.markdown_content.specs.LabelTexts.{HasLabelTexts};
 ghost use Rattle.markdown_content.specs.Tree.{Forest, events_from, events_of};
 ghost use Rattle.markdown_passes.specs.TrimmedData.{IsStretch};
 ghost use Rattle.markdown_innermost.specs.InnermostEvents.{innermost, IsSpanInOrder};
-ghost use Rattle.markdown_html_model.specs.Html.{Page, calls_behind, group_html, html, joined_parts, no_parts, own_calls, plain_text, plain_text_by, within_of, written};
+ghost use Rattle.markdown_html_model.specs.Html.{calls_behind, group_html, html, joined_parts, no_parts, own_calls, plain_text, plain_text_by, within_of, written};
 ghost use Rattle.markdown_html_model.specs.Roles.{role_of};
 ghost use Rattle.markdown_html_model.specs.OwnMarkup.{IsOwnMarkup};
 ghost use Rattle.markdown_html.specs.View.{HasContent, open_view, page_from, page_of, parts_of, state_of};
-ghost use Rattle.markdown_html.specs.EventWalk.{State, before_left, before_parts, closed_apart, closed_around, entered, exit_first, exited, filled_before, has_parts, is_apart, is_bare, is_leaf, is_light, is_silent, is_text_alone, keeps_inside, opened_by, rewritten, stepped, walked};
+ghost use Rattle.markdown_html.specs.EventWalk.{before_left, before_parts, closed_apart, closed_around, entered, exit_first, exited, filled_before, has_parts, is_apart, is_bare, is_leaf, is_light, is_silent, is_text_alone, keeps_inside, opened_by, rewritten, stepped, walked};
 
 use crate::addresses::Given;
 use crate::calls::push_call;
@@ -439,20 +439,6 @@ impl Writer {
     }
 }
 
-// The index of the first event from an index on that is not silent. At what comes before it nothing is written.
-fn behind_silent(events: &EventSlice, from: usize) -> usize
-    requires { from ≤ length events.now }
-    ensures low { from ≤ result }
-    ensures high { result ≤ length events.now }
-    ensures same { (p : Page) (s : State) → walked p s (drop result events.now) ≡ walked p s (drop from events.now) }
-{
-    let mut index = from;
-    while index < events.len() && is_silent(role_of(events.at(index).name)) {
-        index += 1;
-    }
-    index
-}
-
 // Writes the HTML of the event at an index. Answers the index of the first event that is not done.
 #[inline(always)]
 fn step(
@@ -473,6 +459,9 @@ fn step(
 {
     let event = events.at(index);
     let role = role_of(event.name);
+    if is_silent(role) {
+        return Ok(index + 1);
+    }
     match event.kind {
         Kind::Exit => writer.exit(alloc, given, role, event.point)?,
         Kind::Enter if is_leaf(role) => {
@@ -506,10 +495,9 @@ fn written(
         room: Vec::new(alloc),
         spare: Vec::new(alloc),
     };
-    let mut index = behind_silent(events, 0);
+    let mut index = 0;
     while index < events.len() {
-        let next = step(&mut writer, alloc, given, events, index)?;
-        index = behind_silent(events, next);
+        index = step(&mut writer, alloc, given, events, index)?;
     }
     Ok(writer)
 }

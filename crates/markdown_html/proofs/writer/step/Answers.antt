@@ -2,7 +2,7 @@ use Rattle.std.proofs.Common.{◌≡◌, ◌∙◌, ◌+◌, sym, ap, subst, dro
 use Rattle.markdown_innermost.specs.InnermostEvents.{innermost, IsSpanInOrder}
 use Rattle.markdown_html.specs.View.{page_of, state_of}
 use Rattle.markdown_html.specs.EventWalk.{State, walked}
-use Rattle.markdown_html.proofs.WalkTree.{passed, step-exit, step-leaf, step-enter}
+use Rattle.markdown_html.proofs.WalkTree.{passed, silent-passed, step-exit, step-leaf, step-enter}
 use Rattle.markdown_html.proofs.Lists.{drop_at, first_within, places_from}
 use Rattle.markdown_html.proofs.writer.step.Goals.{in-Exit+in_ok-exit-in-Exit, in-Enter-2+in_ok-enter-in-Enter-2}
 use Rattle.markdown_html.proofs.writer.step.Goals as goal
@@ -38,3 +38,8 @@ returns-clause-walk c =
           step-enter p s c.at-event.result rest c.role_of-role.result c.role_of-role.ensures w.in-Enter-2.is (sym w.is_leaf.ensures ∙ w.if-is_leaf.false)
           ∙ sym w.in_ok-enter-in-Enter-2.ensures ∙ ap state_of (sym w.writer-is)
     ])
+
+pub returns-then-is_silent-clause-walk : goal.returns-then-is_silent-clause-walk
+returns-then-is_silent-clause-walk c =
+    silent-passed (page_of c.args.given.now) (state_of c.args.writer.now) c.args.events.now c.args.index c.at-event.result c.role_of-role.result c.is_silent.result
+    c.requires.index c.at-event.ensures c.role_of-role.ensures c.is_silent.ensures c.if-is_silent.true
