@@ -1,5 +1,6 @@
 """What the calls answer, and their statuses; and the tests of the modules that are named at the end."""
 import doctest
+import os
 import sys
 import unittest
 from array import array
@@ -231,8 +232,12 @@ class Calls(unittest.TestCase):
         self.assertEqual(html(document, definitions=defined, raw_html=True, any_link=True), '<b> <a href="javascript:b">a</a> <a href="/d" title="é">C</a>')
 
     def test_documented_examples(self):
-        for module, least in ((markdown_inline, 4), (markdown_inline._events, 4)):
-            found = doctest.testmod(module, extraglobs={it: getattr(markdown_inline, it) for it in markdown_inline.__all__})
+        public = {it: getattr(markdown_inline, it) for it in markdown_inline.__all__}
+        page = os.path.join(os.path.dirname(os.path.abspath(__file__)), '..', 'python', 'README.md')
+        for found, least in (
+            (doctest.testmod(markdown_inline, extraglobs=public), 4), (doctest.testmod(markdown_inline._events, extraglobs=public), 4),
+            (doctest.testfile(page, module_relative=False, globs=public), 4),
+        ):
             self.assertEqual(found.failed, 0)
             self.assertGreaterEqual(found.attempted, least)
 
