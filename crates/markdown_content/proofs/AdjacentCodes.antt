@@ -1,5 +1,5 @@
 -- Codes that stand one after another, each at a later place.
-use Rattle.std.proofs.Common.{ℕ, Bool, true, false, not, ◌≡◌, List, [], ◌∷◌, ◌++◌, filter, refl, sym, ap, subst, ◌∙◌}
+use Rattle.std.proofs.Common.{ℕ, Bool, true, false, not, ◌≡◌, List, [], ◌∷◌, ◌++◌, filter, refl, sym, ap, subst, ◌∙◌, arith}
 use Rattle.std.proofs.lemmas.Bool.{both_ways}
 use Rattle.markdown_event.specs.declared.event.Point.{Point}
 use Rattle.markdown_content.specs.Codes.{Code, stop_of, is_code_before, place_of}
@@ -54,9 +54,7 @@ chain-back p (c ∷ cs) back h = chain-back c.stop cs back h.2
 -- the place of the first code is before the end of a row that has it
 head-first : (p : Point) (c : Code) (cs back : List Code) → IsChain p (c ∷ cs ++ back) →
     is_before (place_of p) (place_of (stop_of c.stop cs)) ≡ true
-head-first p c cs back h =
-    let later : is_before (place_of (stop_of c.stop cs)) (place_of c.stop) ≡ false = stop-later c.stop cs back h.2 in
-    before-reach (place_of p) (place_of c.stop) (place_of (stop_of c.stop cs)) h.1 later
+head-first p c cs back h = grind (arith, stop-later, before-reach)
 
 -- a split of a chain is the split at the place there
 pub before_in-split : (p : Point) (front back : List Code) → IsChain p (front ++ back) →

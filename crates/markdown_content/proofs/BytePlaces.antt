@@ -33,13 +33,7 @@ before-index a v i h = grind (arith, nat_tests)
 
 two-more : (bytes : List ℕ) (j i : ℕ) → j < i → SplitsNoEnding bytes i → get_or bytes j 0 ≡ carriage_return →
     get_or bytes (j + 1) 0 ≡ line_feed → j + 2 ≤ i
-two-more bytes j i lt clear cr lf =
-    elim (cases_lt (j + 1) i) [
-      | inl l ↦ omega (arith, l)
-      | inr ge ↦ let same : i ≡ j + 1 = omega (arith, lt, ge) in
-          let before : i - 1 ≡ j = omega (arith, same) in
-          absurd (clear (omega (arith, lt)) (ap (λ (k : ℕ). get_or bytes k 0) before ∙ cr) (ap (λ (k : ℕ). get_or bytes k 0) same ∙ lf))
-    ]
+two-more bytes j i lt clear cr lf = grind (arith, cases_lt)
 
 len-short : (b c : ℕ) (cs : List ℕ) (j i : ℕ) (t : Bool) → (b == carriage_return && c == line_feed) ≡ t → j < i →
     (t ≡ true → j + 2 ≤ i) → j + line_ending_len b (c ∷ cs) ≤ i
@@ -52,16 +46,7 @@ len-short b c cs j i false h lt two =
 
 ending-short : (bytes : List ℕ) (j i : ℕ) → j < i → SplitsNoEnding bytes i →
     j + line_ending_len (get_or bytes j 0) (drop (j + 1) bytes) ≤ i
-ending-short bytes j i lt clear =
-    elim (cases_lt (j + 1) (length bytes)) [
-      | inl more ↦
-          let b : ℕ = get_or bytes j 0 in
-          let c : ℕ = get_or bytes (j + 1) 0 in
-          let two : (b == carriage_return && c == line_feed) ≡ true → j + 2 ≤ i = λ t. two-more bytes j i lt clear (eqb-true b carriage_return (and_parts (b == carriage_return) (c == line_feed) t).0) (eqb-true c line_feed (and_parts (b == carriage_return) (c == line_feed) t).1) in
-          subst (λ (bs : List ℕ). j + line_ending_len b bs ≤ i) (sym (drop_more bytes (j + 1) 0 more)) (len-short b c (drop (j + 1 + 1) bytes) j i (b == carriage_return && c == line_feed) refl lt two)
-      | inr last ↦
-          subst (λ (bs : List ℕ). j + line_ending_len (get_or bytes j 0) bs ≤ i) (sym (drop_all (j + 1) bytes last)) (omega (arith, lt))
-    ]
+ending-short bytes j i lt clear = grind (arith, cases_lt, two-more, eqb-true, and_parts, drop_more, len-short, drop_all)
 
 other-by : (bytes : List ℕ) (p : Point) (i : ℕ) → p.index < i → is_line_ending_byte (get_or bytes p.index 0) ≡ false →
     (b : Bool) → (get_or bytes p.index 0 == tab_value && nat_lt 0 (tab_left p)) ≡ b →
@@ -122,14 +107,7 @@ byte-place bytes i inside clear =
 past-feed : (bytes : List ℕ) (q : Point) (i : ℕ) → q.index + 1 ≡ i → i < length bytes →
     get_or bytes q.index 0 ≡ carriage_return → get_or bytes i 0 ≡ line_feed →
     is_before (i, 0) (place_of (stop_at bytes q)) ≡ true
-past-feed bytes q i e lt cr lf =
-    let b : ℕ = get_or bytes q.index 0 in
-    let c : ℕ = get_or bytes (q.index + 1) 0 in
-    let feed : c ≡ line_feed = ap (λ (k : ℕ). get_or bytes k 0) e ∙ lf in
-    let ending : is_line_ending_byte b ≡ true = ap (λ (x : ℕ). is_line_ending_byte x) cr in
-    let both : (b == carriage_return && c == line_feed) ≡ true = and_from (b == carriage_return) (c == line_feed) (eq-eqb b carriage_return cr) (eq-eqb c line_feed feed) in
-    let two : line_ending_len b (drop (q.index + 1) bytes) ≡ 2 = ap (λ (bs : List ℕ). line_ending_len b bs) (drop_more bytes (q.index + 1) 0 (omega (arith, e, lt))) ∙ len-two b c (drop (q.index + 1 + 1) bytes) both in
-    subst (λ (x : Point). is_before (i, 0) (place_of x) ≡ true) (stop-ending bytes q ending) (early-index i 0 (q.index + line_ending_len b (drop (q.index + 1) bytes)) 0 (omega (arith, e, two)))
+past-feed bytes q i e lt cr lf = grind (arith, and_from, eq-eqb, drop_more, len-two, stop-ending, early-index)
 
 not-both : (b : ℕ) → b ≡ carriage_return → b ≡ line_feed → ⊥
 not-both b h k = omega (arith, h, k)

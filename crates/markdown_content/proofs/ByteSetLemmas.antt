@@ -74,8 +74,4 @@ plain-under set bytes at signs n plain le clear i low high =
 pub plain-without : (set bytes : List ℕ) (at signs left k : ℕ) → ArePlainUnder set bytes at signs →
     ((i : ℕ) → i < 16 → i ≢ k → bit_at left i ≡ bit_at signs i) → is_plain set (get_or bytes (at + k) 0) ≡ true →
     ArePlainUnder set bytes at left
-plain-without set bytes at signs left k plain others here i lt clear =
-    elim (cases_Bool (i == k)) [
-      | inl e ↦ ap (λ (j : ℕ). is_plain set (get_or bytes (at + j) 0)) (eqb-true i k e) ∙ here
-      | inr e ↦ plain i lt (sym (others i lt (λ s. both_ways (i == k) e (ap (λ (j : ℕ). j == k) s ∙ eq-eqb k k refl))) ∙ clear)
-    ]
+plain-without set bytes at signs left k plain others here i lt clear = grind (arith, cases_Bool, eqb-true, both_ways)

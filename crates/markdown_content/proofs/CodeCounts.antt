@@ -125,19 +125,7 @@ record IsByteHere (bytes : List ℕ) (b : ℕ) (p q : Point) : Type 0 where
 
 byte-here : (bytes : List ℕ) (b : ℕ) (p q : Point) → 32 < b → IsPoint bytes q → is_before (place_of p) (place_of q) ≡ true →
     is_one b (value_at bytes p) ≡ true → IsByteHere bytes b p q
-byte-here bytes b p q ink k before is =
-    let byte : get_or bytes p.index 0 ≡ b = byte-is (get_or bytes p.index 0) b (nat_lt 0 p.vs) ink (one-is b (value_at bytes p) is) in
-    let plain = ink-plain (get_or bytes p.index 0) b ink byte in
-    record {
-      byte = byte;
-      before = elim (cases_lt p.index q.index) [
-        | inl lt ↦ lt
-        | inr le ↦
-            let inside = in-tab p.index p.vs q.index q.vs before le in
-            absurd (omega (arith, ink, byte, ap (λ j. get_or bytes j 0) inside.0, ((stands-point bytes q k).in_tab inside.1).1))
-      ];
-      stop = ap (λ (o : Point). o.index) (sym (stop-plain bytes p plain.0 plain.1));
-    }
+byte-here bytes b p q ink k before is = grind (arith, byte-is, one-is, ink-plain, cases_lt, in-tab, stands-point, stop-plain)
 
 first-few : (bytes : List ℕ) (b : ℕ) (p q : Point) → 32 < b → IsPoint bytes q → is_before (place_of p) (place_of q) ≡ true →
     p.index ≤ (stop_at bytes p).index →

@@ -32,42 +32,21 @@ ending-not_nine b e h = grind (arith, nat_tests)
 
 shape-ending : (bytes : List ℕ) (p : Point) → HasPlaceNumbers bytes p → is_line_ending_byte (get_or bytes p.index 0) ≡ true →
     IsPastByte p (stop_at bytes p)
-shape-ending bytes p s h =
-    let n : ℕ = line_ending_len (get_or bytes p.index 0) (drop (p.index + 1) bytes) in
-    let one : 1 ≤ n = (len-bounds (get_or bytes p.index 0) (drop (p.index + 1) bytes)).0 in
-    let q : Point = line_start (p.line + 1) (p.index + n) in
-    let past : IsPastByte p q = record { index = omega arith; vs = refl; last = λ k. absurd (ending-not_nine (get_or bytes p.index 0) (s.in_tab k).1 h) } in
-    subst (λ (x : Point). IsPastByte p x) (stop-ending bytes p h) past
+shape-ending bytes p s h = grind (arith, len-bounds, ending-not_nine, stop-ending)
 
 last-column : (t : Bool) (n : ℕ) → t ≡ true → (t && nat_lt 0 n) ≡ false → n ≡ 0
 last-column t n h k = grind (arith, nat_tests)
 
 shape-plain : (bytes : List ℕ) (p : Point) → HasPlaceNumbers bytes p → is_line_ending_byte (get_or bytes p.index 0) ≡ false →
     (get_or bytes p.index 0 == tab_value && nat_lt 0 (tab_left p)) ≡ false → IsPastByte p (stop_at bytes p)
-shape-plain bytes p s h k =
-    let q : Point = next_column p (p.index + 1) 0 in
-    let same : q ≡ stop_at bytes p = rw (h, k) refl in
-    let past : IsPastByte p q = record { index = omega arith; vs = refl; last = λ l. last-column (get_or bytes p.index 0 == tab_value) (tab_left p) (eq-eqb (get_or bytes p.index 0) tab_value (s.in_tab l).1) k } in
-    subst (λ (x : Point). IsPastByte p x) same past
+shape-plain bytes p s h k = grind (arith, last-column, eq-eqb)
 
 shape-tab : (bytes : List ℕ) (p : Point) → is_line_ending_byte (get_or bytes p.index 0) ≡ false →
     (get_or bytes p.index 0 == tab_value && nat_lt 0 (tab_left p)) ≡ true → IsInTab p (stop_at bytes p)
-shape-tab bytes p h k =
-    let both : (get_or bytes p.index 0 == tab_value ≡ true) × (nat_lt 0 (tab_left p) ≡ true) = and_parts (get_or bytes p.index 0 == tab_value) (nat_lt 0 (tab_left p)) k in
-    let q : Point = next_column p p.index (p.vs + 1) in
-    let past : IsInTab p q = record { index = refl; vs = refl; column = refl; more = ltb-true 0 (tab_left p) both.1 } in
-    subst (λ (x : Point). IsInTab p x) (stop-more bytes p h both.0 both.1) past
+shape-tab bytes p h k = grind (arith, and_parts, ltb-true, stop-more)
 
 pub shape : (bytes : List ℕ) (p : Point) → HasPlaceNumbers bytes p → IsInTab p (stop_at bytes p) ⊎ IsPastByte p (stop_at bytes p)
-shape bytes p s =
-    elim (cases_Bool (is_line_ending_byte (get_or bytes p.index 0))) [
-      | inl h ↦ inr (shape-ending bytes p s h)
-      | inr h ↦
-          elim (cases_Bool (get_or bytes p.index 0 == tab_value && nat_lt 0 (tab_left p))) [
-            | inl k ↦ inl (shape-tab bytes p h k)
-            | inr k ↦ inr (shape-plain bytes p s h k)
-          ]
-    ]
+shape bytes p s = grind (arith, cases_Bool, shape-ending, shape-tab, shape-plain)
 
 -- the codes from p to q
 abbrev pub codes_to : List ℕ → Point → Point → List Code
@@ -98,17 +77,11 @@ first-to bytes p q h k before =
 
 arrived : (bytes : List ℕ) (p q : Point) → IsPoint bytes p → is_before (place_of q) (place_of p) ≡ false →
     is_before (place_of p) (place_of q) ≡ false → IsArrived bytes p q
-arrived bytes p q h k l =
-    let same : (p.index ≡ q.index) × (p.vs ≡ q.vs) = same_place (place_of p) (place_of q) l k in
-    record { none = none-before bytes p (place_of q) h l; index = same.0; vs = same.1 }
+arrived bytes p q h k l = grind (arith, same_place, none-before)
 
 pub to-cases : (bytes : List ℕ) (p q : Point) → IsPoint bytes p → IsPoint bytes q →
     is_before (place_of q) (place_of p) ≡ false → IsFirstTo bytes p q ⊎ IsArrived bytes p q
-to-cases bytes p q h k l =
-    elim (cases_Bool (is_before (place_of p) (place_of q))) [
-      | inl e ↦ inl (first-to bytes p q h k e)
-      | inr e ↦ inr (arrived bytes p q h l e)
-    ]
+to-cases bytes p q h k l = grind (arith, cases_Bool, first-to, arrived)
 
 -- Virtual spaces among them.
 

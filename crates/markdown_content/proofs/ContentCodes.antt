@@ -31,12 +31,7 @@ pub record IsPieceRow (bytes : List ℕ) (piece : Piece) (rest : List Piece) : T
 
 pub piece_row : (bytes : List ℕ) (piece : Piece) (rest : List Piece) → are_pieces bytes (piece ∷ rest) ≡ true →
     IsPieceRow bytes piece rest
-piece_row bytes piece rest h =
-    let all : (is_piece bytes piece && are_pieces bytes rest) ≡ true = (and_parts (is_piece bytes piece && are_pieces bytes rest) (is_followed bytes piece rest) h).0 in
-    let both : (is_piece bytes piece ≡ true) × (are_pieces bytes rest ≡ true) = and_parts (is_piece bytes piece) (are_pieces bytes rest) all in
-    let one : ((is_place bytes piece.start && is_place bytes piece.end) ≡ true) × (is_at_or_after piece.start piece.end ≡ true) = and_parts (is_place bytes piece.start && is_place bytes piece.end) (is_at_or_after piece.start piece.end) both.0 in
-    let ends : (is_place bytes piece.start ≡ true) × (is_place bytes piece.end ≡ true) = and_parts (is_place bytes piece.start) (is_place bytes piece.end) one.0 in
-    record { start = ends.0; end = ends.1; in_order = not_past piece.start piece.end one.1; others = both.1 }
+piece_row bytes piece rest h = grind (arith, and_parts, not_past)
 
 pub record IsFollowed (bytes : List ℕ) (piece next : Piece) : Type 0 where
   pub ends : ends_line (piece_codes (codes_of bytes) piece) ≡ true
@@ -44,11 +39,7 @@ pub record IsFollowed (bytes : List ℕ) (piece next : Piece) : Type 0 where
 
 pub followed_by : (bytes : List ℕ) (piece next : Piece) (rest : List Piece) →
     are_pieces bytes (piece ∷ next ∷ rest) ≡ true → IsFollowed bytes piece next
-followed_by bytes piece next rest h =
-    let here : is_followed bytes piece (next ∷ rest) ≡ true = (and_parts (is_piece bytes piece && are_pieces bytes (next ∷ rest)) (is_followed bytes piece (next ∷ rest)) h).1 in
-    let both : (ends_line (piece_codes (codes_of bytes) piece) ≡ true) × ((is_at_or_after piece.end next.start && is_one_line bytes piece.end next.start) ≡ true) = and_parts (ends_line (piece_codes (codes_of bytes) piece)) (is_at_or_after piece.end next.start && is_one_line bytes piece.end next.start) here in
-    let after : is_at_or_after piece.end next.start ≡ true = (and_parts (is_at_or_after piece.end next.start) (is_one_line bytes piece.end next.start) both.1).0 in
-    record { ends = both.0; after = not_past piece.end next.start after }
+followed_by bytes piece next rest h = grind (arith, and_parts, not_past)
 
 -- A piece's codes.
 
@@ -85,9 +76,7 @@ pub record IsRowStart (bytes : List ℕ) (piece : Piece) (more : List Piece) : T
   pub line : EndsLine bytes (place_of (point_at bytes piece.start)) (piece ∷ more)
 
 is_open-same : (at end : ℕ × ℕ) → not (at.0 == end.0 && at.1 == end.1) ≡ false → ◌≡◌ {A = ℕ × ℕ} at end
-is_open-same at end h =
-    let both : (at.0 == end.0 ≡ true) × (at.1 == end.1 ≡ true) = and_parts (at.0 == end.0) (at.1 == end.1) (not-false (at.0 == end.0 && at.1 == end.1) h) in
-    same-pair at.0 at.1 end (eqb-true at.0 end.0 both.0) (eqb-true at.1 end.1 both.1)
+is_open-same at end h = grind (arith, and_parts, not-false, same-pair, eqb-true)
 
 -- a piece that another follows has codes, so it does not end where it starts
 open-start : (bytes : List ℕ) (piece : Piece) → IsThere bytes piece.start →
@@ -116,18 +105,7 @@ line-start bytes piece (next ∷ more) h =
 
 pub row-start : (bytes : List ℕ) (piece : Piece) (more : List Piece) → are_pieces bytes (piece ∷ more) ≡ true →
     IsRowStart bytes piece more
-row-start bytes piece more h =
-    let row : IsPieceRow bytes piece more = piece_row bytes piece more h in
-    let t : IsThere bytes piece.start = there bytes piece.start row.start in
-    let codes : content_of bytes (piece ∷ more) ≡ codes_in bytes piece.start (piece ∷ more) = ap (λ cs. cs ++ content_of bytes more) (piece-codes-is bytes piece) in
-    record {
-      place = t.place;
-      point = t.point;
-      codes = codes ∙ ap (λ (x : ℕ × ℕ). codes_in bytes x (piece ∷ more)) (sym t.place);
-      within = ap (λ (x : ℕ × ℕ). is_at_or_after x piece.end) t.place ∙ not_past-back piece.start piece.end row.in_order;
-      entered = subst (λ (x : ℕ × ℕ). IsEntered x (piece ∷ more)) (sym t.place) (entered-start bytes piece more t h);
-      line = subst (λ (x : ℕ × ℕ). EndsLine bytes x (piece ∷ more)) (sym t.place) (line-start bytes piece more h);
-    }
+row-start bytes piece more h = grind (arith, piece_row, there, piece-codes-is, not_past-back, entered-start, line-start)
 
 -- Where a code stands.
 
@@ -190,10 +168,7 @@ line-last bytes p piece next more row line h =
 
 pub closed-codes : (bytes : List ℕ) (p : Point) (piece : Piece) (more : List Piece) → IsPoint bytes p →
     is_open (place_of p) (piece ∷ more) ≡ false → codes_in bytes (place_of p) (piece ∷ more) ≡ content_of bytes more
-closed-codes bytes p piece more h k =
-    let same : ◌≡◌ {A = ℕ × ℕ} (place_of p) piece.end = is_open-same (place_of p) piece.end k in
-    let here : is_before (place_of p) piece.end ≡ false = ap (λ (x : ℕ × ℕ). is_before x piece.end) same ∙ before-self piece.end in
-    ap (λ cs. cs ++ content_of bytes more) (none-before bytes p piece.end h here)
+closed-codes bytes p piece more h k = grind (arith, is_open-same, before-self, none-before)
 
 pub closed-row : (bytes : List ℕ) (p : Point) (row : List Piece) → IsPoint bytes p → IsInFirstPiece p row →
     IsEntered (place_of p) row → is_open (place_of p) row ≡ false →

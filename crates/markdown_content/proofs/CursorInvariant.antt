@@ -59,9 +59,7 @@ open-standing bytes pieces (piece ∷ more) p n s h = open-standing-row bytes pi
 pub closed-standing : (bytes : List ℕ) (pieces left : List Piece) (p : Point) (n : ℕ) →
     IsStanding bytes pieces left p n → is_open (place_of p) left ≡ false →
     (slice_get (content_of bytes pieces) n ≡ None) × (p ≡ content_end bytes pieces)
-closed-standing bytes pieces left p n s h =
-    let none : (codes_in bytes (place_of p) left ≡ []) × (p ≡ content_end bytes left) = closed-row bytes p left s.is_point s.within s.entered h in
-    (drop-none n (content_of bytes pieces) (s.ahead ∙ none.0), none.1 ∙ s.end)
+closed-standing bytes pieces left p n s h = grind (arith, closed-row, drop-none)
 
 standing-point-by : (bytes : List ℕ) (pieces left : List Piece) (p : Point) (n : ℕ) → IsStanding bytes pieces left p n →
     (b : Bool) → is_open (place_of p) left ≡ b →

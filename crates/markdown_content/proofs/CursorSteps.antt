@@ -35,11 +35,7 @@ pub record IsAtCode (bytes : List ℕ) (pieces : List Piece) (k : ℕ) (p : Poin
   pub count : n + 1 < 2 ^ 64
 
 in-pieces : (pieces : List Piece) (k : ℕ) (at : ℕ × ℕ) → is_open at (drop k pieces) ≡ true → k < length pieces
-in-pieces pieces k at h =
-    elim (cases_lt k (length pieces)) [
-      | inl l ↦ l
-      | inr l ↦ absurd (both_ways (is_open at (drop k pieces)) (ap (λ (x : List Piece). is_open at x) (drop_all k pieces l)) h)
-    ]
+in-pieces pieces k at h = grind (arith, cases_lt, both_ways, drop_all)
 
 code-at-is : (bytes : List ℕ) (pieces : List Piece) (n : ℕ) (c : Code) →
     slice_get (content_of bytes pieces) n ≡ Some c → code_at (content_place bytes pieces n) ≡ Some c.value
@@ -154,9 +150,7 @@ cursor_next {bytes} {pieces} {k} {p} {e} {before} {n} x k2 v p2 e2 h is some val
 pub cursor_start : (bytes : List ℕ) (pieces : List Piece) (p : Point) → IsContent bytes pieces →
     p ≡ first_point bytes pieces → IsCursor bytes pieces 0 p p None 0
 unfolding code_before exit_point start_of_content
-cursor_start bytes pieces p h is =
-    let s : IsStanding bytes pieces pieces p 0 = subst (λ (x : Point). IsStanding bytes pieces pieces x 0) (sym is) (standing-start bytes pieces h) in
-    record { standing = s; before = refl; exits = standing-point bytes pieces pieces p 0 s; after_line = λ f. absurd (none≢some line_feed f); within_line = λ _. refl }
+cursor_start bytes pieces p h is = grind (arith, standing-start, standing-point, none≢some)
 
 pub start_is : (bytes : List ℕ) (pieces : List Piece) → content_place bytes pieces 0 ≡ start_of_content bytes pieces
 unfolding start_of_content
@@ -175,6 +169,4 @@ first-placed bytes (piece ∷ more) h = sym (row-start bytes piece more h.in_ord
 pub first_known : (bytes : List ℕ) (pieces : List Piece) (line column : ℕ) (at : ℕ × ℕ) → IsContent bytes pieces →
     BeginsAt bytes pieces line column → at ≡ first_place (0, 0) pieces →
     with_place line column at ≡ first_point bytes pieces
-first_known bytes pieces line column at h begins e =
-    let p : Point = first_point bytes pieces in
-    ap (λ n. with_place n column at) begins.line ∙ ap (λ n. with_place p.line n at) begins.column ∙ ap (with_place p.line p.column) (e ∙ first-placed bytes pieces h)
+first_known bytes pieces line column at h begins e = grind (arith, first-placed)

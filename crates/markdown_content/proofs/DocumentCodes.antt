@@ -64,9 +64,7 @@ from-other b p c cs h = rw (h, codes_from) refl
 
 from-crlf : (b : ℕ) (p : Point) (c : ℕ) (cs : List ℕ) → (b == carriage_return && c == line_feed) ≡ true →
     codes_from b p (c ∷ cs) ≡ codes_from 0 p cs
-from-crlf b p c cs h =
-    let feed : c ≡ line_feed = eqb-true c line_feed (and_parts (b == carriage_return) (c == line_feed) h).1 in
-    rw (h, codes_from) (subst (λ (x : ℕ). codes_from x p cs ≡ codes_from 0 p cs) (sym feed) (from-any line_feed p cs refl))
+from-crlf b p c cs h = grind (arith, eqb-true, and_parts, from-any)
 
 pub len-two : (b c : ℕ) (cs : List ℕ) → (b == carriage_return && c == line_feed) ≡ true → line_ending_len b (c ∷ cs) ≡ 2
 len-two b c cs h = rw h refl
@@ -103,22 +101,13 @@ from-ending p b bs h = rw h refl
 step-plain : (bytes : List ℕ) (p : Point) (b : ℕ) → drop p.index bytes ≡ b ∷ drop (p.index + 1) bytes →
     is_line_ending_byte b ≡ false → (b == tab_value) ≡ false →
     codes_from 0 p (drop p.index bytes) ≡ record { value = b; start = p; stop = next_column p (p.index + 1) 0 } ∷ codes_from 0 (next_column p (p.index + 1) 0) (drop (p.index + 1) bytes)
-step-plain bytes p b e h k =
-    let other : (b == carriage_return) ≡ false = (or_parts (b == line_feed) (b == carriage_return) h).1 in
-    ap (λ bs. codes_from 0 p bs) e ∙ from-plain p b (drop (p.index + 1) bytes) h k ∙ ap (λ cs. record { value = b; start = p; stop = next_column p (p.index + 1) 0 } ∷ cs) (from-any b (next_column p (p.index + 1) 0) (drop (p.index + 1) bytes) other)
+step-plain bytes p b e h k = grind (arith, or_parts, from-plain, from-any)
 
 step-ending : (bytes : List ℕ) (p q : Point) (b : ℕ) → drop p.index bytes ≡ b ∷ drop (p.index + 1) bytes →
     is_line_ending_byte b ≡ true →
     q ≡ line_start (p.line + 1) (p.index + line_ending_len b (drop (p.index + 1) bytes)) →
     codes_from 0 p (drop p.index bytes) ≡ record { value = line_feed; start = p; stop = q } ∷ codes_from 0 q (drop q.index bytes)
-step-ending bytes p q b e h k =
-    let bs : List ℕ = drop (p.index + 1) bytes in
-    let n : ℕ = line_ending_len b bs in
-    let passed : drop n (b ∷ bs) ≡ drop (p.index + n) bytes = ap (λ xs. drop n xs) (sym e) ∙ drop-drop n p.index bytes in
-    let start : Point = line_start (p.line + 1) (p.index + n) in
-    let whole : codes_from 0 p (drop p.index bytes) ≡ record { value = line_feed; start = p; stop = start } ∷ codes_from 0 start (drop (p.index + n) bytes) =
-    ap (λ xs. codes_from 0 p xs) e ∙ from-ending p b bs h ∙ ap (λ cs. record { value = line_feed; start = p; stop = start } ∷ cs) (past-ending b start bs ∙ ap (λ xs. codes_from 0 start xs) passed) in
-    subst (λ (x : Point). codes_from 0 p (drop p.index bytes) ≡ record { value = line_feed; start = p; stop = x } ∷ codes_from 0 x (drop x.index bytes)) (sym k) whole
+step-ending bytes p q b e h k = grind (arith, drop-drop, from-ending, past-ending)
 
 -- a tab begins with its own code
 from-tab : (bytes : List ℕ) (p : Point) → drop p.index bytes ≡ tab_value ∷ drop (p.index + 1) bytes →
@@ -141,9 +130,7 @@ left-less c n one h = omega arith
 
 tab-more : (v n : ℕ) (bytes : List ℕ) (p : Point) → 1 ≤ p.column → tab_left p ≡ suc n →
     tab_from v bytes p ≡ record { value = v; start = p; stop = next_column p p.index (p.vs + 1) } ∷ tab_from space_value bytes (next_column p p.index (p.vs + 1))
-tab-more v n bytes p one h =
-    let q : Point = next_column p p.index (p.vs + 1) in
-    ap (λ m. tab_rest v m bytes p) h ∙ ap (λ m. record { value = v; start = p; stop = q } ∷ tab_rest space_value m bytes q) (left-less p.column n one h)
+tab-more v n bytes p one h = grind (arith, left-less)
 
 -- What one step does: a code, and the place after it.
 pub record IsStep (bytes : List ℕ) (p : Point) (v : ℕ) (q : Point) : Type 0 where
@@ -153,11 +140,7 @@ pub record IsStep (bytes : List ℕ) (p : Point) (v : ℕ) (q : Point) : Type 0 
   pub counts : 4 * p.index + p.vs + 1 ≤ 4 * q.index + q.vs
 
 vs-none : (bytes : List ℕ) (p : Point) → HasPlaceNumbers bytes p → (get_or bytes p.index 0 == tab_value) ≡ false → p.vs ≡ 0
-vs-none bytes p s h =
-    elim (cases_lt 0 p.vs) [
-      | inl k ↦ absurd (eqb-false (get_or bytes p.index 0) tab_value h (s.in_tab k).1)
-      | inr k ↦ omega arith
-    ]
+vs-none bytes p s h = grind (arith, cases_lt, eqb-false)
 
 ending-not_tab : (b : ℕ) → is_line_ending_byte b ≡ true → (b == tab_value) ≡ false
 ending-not_tab b h = grind (arith, nat_tests)
@@ -236,23 +219,12 @@ inside-record bytes p v s lt tab more e = record {
 pub ending-step : (bytes : List ℕ) (p : Point) → HasPlaceNumbers bytes p → p.index < length bytes →
     is_line_ending_byte (get_or bytes p.index 0) ≡ true →
     IsStep bytes p line_feed (line_start (p.line + 1) (p.index + line_ending_len (get_or bytes p.index 0) (drop (p.index + 1) bytes)))
-ending-step bytes p s lt h =
-    let b : ℕ = get_or bytes p.index 0 in
-    let n : ℕ = line_ending_len b (drop (p.index + 1) bytes) in
-    let q : Point = line_start (p.line + 1) (p.index + n) in
-    let none : p.vs ≡ 0 = vs-none bytes p s (ending-not_tab b h) in
-    let bounds : (1 ≤ n) × (n ≤ 1 + length (drop (p.index + 1) bytes)) = len-bounds b (drop (p.index + 1) bytes) in
-    let rest : length (drop (p.index + 1) bytes) ≡ length bytes - (p.index + 1) = length-drop (p.index + 1) bytes in
-    ending-record bytes p n s lt none bounds.0 (omega arith)
-    (codes-none_inside bytes p none ∙ step-ending bytes p q b (drop-next bytes p.index lt) h refl)
+ending-step bytes p s lt h = grind (arith, vs-none, ending-not_tab, len-bounds, length-drop, ending-record, codes-none_inside, step-ending, drop-next)
 
 pub plain-step : (bytes : List ℕ) (p : Point) → HasPlaceNumbers bytes p → p.index < length bytes →
     is_line_ending_byte (get_or bytes p.index 0) ≡ false → (get_or bytes p.index 0 == tab_value) ≡ false →
     IsStep bytes p (get_or bytes p.index 0) (next_column p (p.index + 1) 0)
-plain-step bytes p s lt h k =
-    let none : p.vs ≡ 0 = vs-none bytes p s k in
-    column-record bytes p (get_or bytes p.index 0) s lt
-    (codes-none_inside bytes p none ∙ step-plain bytes p (get_or bytes p.index 0) (drop-next bytes p.index lt) h k)
+plain-step bytes p s lt h k = grind (arith, vs-none, column-record, codes-none_inside, step-plain, drop-next)
 
 tab-codes : (bytes : List ℕ) (p : Point) → p.index < length bytes → (get_or bytes p.index 0 == tab_value) ≡ true →
     (t : Bool) → nat_lt 0 p.vs ≡ t → codes_at bytes p ≡ tab_from (if t then space_value else tab_value) bytes p

@@ -30,15 +30,11 @@ chain-split bytes front back e = subst (λ (cs : List Code). IsChain document_st
 -- after any of the document's first codes is a place
 pub point-split : (bytes : List ℕ) (front back : List Code) → codes_of bytes ≡ front ++ back →
     point_at bytes (place_of (stop_of document_start front)) ≡ stop_of document_start front
-point-split bytes front back e =
-    let at : ℕ × ℕ = place_of (stop_of document_start front) in
-    ap (λ cs. stop_of document_start (before_in at cs)) e ∙ ap (λ cs. stop_of document_start cs) (before_in-split document_start front back (chain-split bytes front back e))
+point-split bytes front back e = grind (arith, before_in-split, chain-split)
 
 pub after-split : (bytes : List ℕ) (front back : List Code) → codes_of bytes ≡ front ++ back →
     codes_after bytes (place_of (stop_of document_start front)) ≡ back
-after-split bytes front back e =
-    let at : ℕ × ℕ = place_of (stop_of document_start front) in
-    ap (λ cs. from_in at cs) e ∙ from_in-split document_start front back (chain-split bytes front back e)
+after-split bytes front back e = grind (arith, from_in-split, chain-split)
 
 -- what a place of the document splits
 pub document-split : (bytes : List ℕ) (at : ℕ × ℕ) →
@@ -115,11 +111,7 @@ same-pair a b at e f = ap (λ (x : ℕ). let q : ℕ × ℕ = (x, b) in q) e ∙
 
 there-split : (bytes : List ℕ) (at : ℕ × ℕ) (front back : List Code) → codes_of bytes ≡ front ++ back →
     place_of (stop_of document_start front) ≡ at → IsThere bytes at
-there-split bytes at front back e h =
-    let q : Point = stop_of document_start front in
-    let here : point_at bytes at ≡ q = ap (λ (x : ℕ × ℕ). point_at bytes x) (sym h) ∙ point-split bytes front back e in
-    let place : place_of (point_at bytes at) ≡ at = ap (λ (x : Point). place_of x) here ∙ h in
-    record { place = place; point = record { here = ap (λ (x : ℕ × ℕ). point_at bytes x) place } }
+there-split bytes at front back e h = grind (arith, point-split)
 
 there-stop : (bytes : List ℕ) (at : ℕ × ℕ) →
     list_any (λ c. c.stop.index == at.0 && c.stop.vs == at.1) (codes_of bytes) ≡ true → IsThere bytes at
@@ -135,11 +127,7 @@ there-start bytes at h =
     there-split bytes at [] (codes_of bytes) refl (same-pair 0 0 at (sym (eqb-true at.0 0 both.0)) (sym (eqb-true at.1 0 both.1)))
 
 pub there : (bytes : List ℕ) (at : ℕ × ℕ) → is_place bytes at ≡ true → IsThere bytes at
-there bytes at h =
-    elim (or_cases (at.0 == 0 && at.1 == 0) (list_any (λ c. c.stop.index == at.0 && c.stop.vs == at.1) (codes_of bytes)) h) [
-      | inl k ↦ there-start bytes at k
-      | inr k ↦ there-stop bytes at k
-    ]
+there bytes at h = grind (arith, or_cases, there-start, there-stop)
 
 pub vs-small : (bytes : List ℕ) (p : Point) → HasPlaceNumbers bytes p → p.vs ≤ 3
 vs-small bytes p s = omega (arith, s.inside)

@@ -27,15 +27,11 @@ stop-plain bytes p h k = rw (h, k) refl
 
 pub value-tab : (bytes : List ℕ) (p : Point) → is_line_ending_byte (get_or bytes p.index 0) ≡ false →
     (get_or bytes p.index 0 == tab_value) ≡ true → (if nat_lt 0 p.vs then space_value else tab_value) ≡ value_at bytes p
-value-tab bytes p h k =
-    let tab : get_or bytes p.index 0 ≡ tab_value = eqb-true (get_or bytes p.index 0) tab_value k in
-    rw (h, k) (ap (λ n. if nat_lt 0 p.vs then space_value else n) (sym tab))
+value-tab bytes p h k = grind (arith, eqb-true)
 
 pub stop-last : (bytes : List ℕ) (p : Point) → is_line_ending_byte (get_or bytes p.index 0) ≡ false →
     nat_lt 0 (tab_left p) ≡ false → next_column p (p.index + 1) 0 ≡ stop_at bytes p
-stop-last bytes p h k =
-    let none : (get_or bytes p.index 0 == tab_value && nat_lt 0 (tab_left p)) ≡ false = and_right (get_or bytes p.index 0 == tab_value) (nat_lt 0 (tab_left p)) k in
-    rw (h, none) refl
+stop-last bytes p h k = grind (arith, and_right)
 
 pub stop-more : (bytes : List ℕ) (p : Point) → is_line_ending_byte (get_or bytes p.index 0) ≡ false →
     (get_or bytes p.index 0 == tab_value) ≡ true → nat_lt 0 (tab_left p) ≡ true →
@@ -46,11 +42,7 @@ nil≢cons : (c : Code) (cs : List Code) → [] ≡ c ∷ cs → ⊥
 nil≢cons c cs e = cc
 
 pub few-end : (bytes : List ℕ) (p : Point) → HasPlaceNumbers bytes p → 0 + 4 * p.index + p.vs ≤ 4 * length bytes
-few-end bytes p s =
-    elim (cases_lt 0 p.vs) [
-      | inl k ↦ let inside : p.index < length bytes = (s.in_tab k).0 in omega (arith, s.inside, s.in_bytes)
-      | inr k ↦ omega (arith, s.in_bytes)
-    ]
+few-end bytes p s = grind (arith, cases_lt)
 
 -- the code at a place, and the place after it
 step-as : (bytes : List ℕ) (p q : Point) (v : ℕ) → v ≡ value_at bytes p → q ≡ stop_at bytes p → IsStep bytes p v q →
@@ -89,11 +81,7 @@ step bytes p s lt =
 
 -- at the end there are no codes
 pub past-end : (bytes : List ℕ) (p : Point) → HasPlaceNumbers bytes p → length bytes ≤ p.index → codes_at bytes p ≡ []
-past-end bytes p s ge =
-    elim (cases_lt 0 p.vs) [
-      | inl k ↦ let inside : p.index < length bytes = (s.in_tab k).0 in absurd (omega arith)
-      | inr k ↦ let none : p.vs ≡ 0 = omega arith in codes-none_inside bytes p none ∙ ap (λ bs. codes_from 0 p bs) (drop_all p.index bytes ge)
-    ]
+past-end bytes p s ge = grind (arith, cases_lt, codes-none_inside, drop_all)
 
 pub stands-start : (bytes : List ℕ) → HasPlaceNumbers bytes document_start
 stands-start bytes = record {
@@ -109,11 +97,7 @@ stands-start bytes = record {
 
 some-left : (bytes : List ℕ) (p : Point) (c : Code) (cs : List Code) → HasPlaceNumbers bytes p → codes_at bytes p ≡ c ∷ cs →
     p.index < length bytes
-some-left bytes p c cs s e =
-    elim (cases_lt p.index (length bytes)) [
-      | inl k ↦ k
-      | inr k ↦ let none : codes_at bytes p ≡ [] = past-end bytes p s k in absurd (nil≢cons c cs (sym none ∙ e))
-    ]
+some-left bytes p c cs s e = grind (arith, cases_lt, past-end, nil≢cons)
 
 -- the first code at a place
 pub record IsFirstCode (bytes : List ℕ) (p : Point) (c : Code) (cs : List Code) : Type 0 where
@@ -126,19 +110,7 @@ pub record IsFirstCode (bytes : List ℕ) (p : Point) (c : Code) (cs : List Code
 
 pub first-of : (bytes : List ℕ) (p : Point) (c : Code) (cs : List Code) → HasPlaceNumbers bytes p → codes_at bytes p ≡ c ∷ cs →
     IsFirstCode bytes p c cs
-first-of bytes p c cs s e =
-    let lt : p.index < length bytes = some-left bytes p c cs s e in
-    let one : IsStep bytes p (value_at bytes p) (stop_at bytes p) = step bytes p s lt in
-    let both : c ∷ cs ≡ code_here bytes p ∷ codes_at bytes (stop_at bytes p) = sym e ∙ one.codes in
-    let same : code_here bytes p ≡ c = sym (head_same c (code_here bytes p) cs (codes_at bytes (stop_at bytes p)) both) in
-    record {
-      in_bytes = lt;
-      code = sym same;
-      rest = tail_same c (code_here bytes p) cs (codes_at bytes (stop_at bytes p)) both ∙ ap (λ (x : Code). codes_at bytes x.stop) same;
-      stands = subst (λ (x : Code). HasPlaceNumbers bytes x.stop) same one.stands;
-      later = subst (λ (x : Code). is_before (place_of p) (place_of x.stop) ≡ true) same one.later;
-      counts = subst (λ (x : Code). 4 * p.index + p.vs + 1 ≤ 4 * x.stop.index + x.stop.vs) same one.counts;
-    }
+first-of bytes p c cs s e = grind (arith, some-left, step, head_same, tail_same)
 
 pub chain-at : (bytes : List ℕ) (p : Point) (cs : List Code) → HasPlaceNumbers bytes p → codes_at bytes p ≡ cs → IsChain p cs
 chain-at bytes p [] s e = tt

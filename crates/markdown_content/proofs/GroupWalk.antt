@@ -30,11 +30,7 @@ twice : (z d : ℕ) → 2 * (z * d) ≡ (z + z) * d
 twice z d = omega arith
 
 bits-more : (c x y n d : ℕ) → x ≡ y + 2 ^ n * d → c + 2 * x ≡ c + 2 * y + 2 ^ suc n * d
-bits-more c x y n d h =
-    let e : 2 ^ suc n * d ≡ (2 ^ n + 2 ^ n) * d = ap (λ (z : ℕ). z * d) (two-pow-succ n) in
-    let t : 2 * (2 ^ n * d) ≡ (2 ^ n + 2 ^ n) * d = twice (2 ^ n) d in
-    let u : 2 ^ suc n * d ≡ 2 * (2 ^ n * d) = e ∙ sym t in
-    omega (arith, h, u)
+bits-more c x y n d h = grind (arith, two-pow-succ, twice)
 
 -- what follows so many
 bits-parts : (n : ℕ) (bs : List ℕ) → (d : ℕ) × (feed_bits bs ≡ feed_bits (take n bs) + 2 ^ n * d)
@@ -138,11 +134,7 @@ onward bytes (b ∷ bs) (suc n) p h v fits long from of =
 -- the place by its parts
 pub parts-are : (q : Point) (l c i : ℕ) → q.line ≡ l → q.column ≡ c → q.index ≡ i → q.vs ≡ 0 →
     q ≡ record { line = l; column = c; index = i; vs = 0 }
-parts-are q l c i a b d e =
-    ap (λ (x : ℕ). record { line = x; column = q.column; index = q.index; vs = q.vs }) a
-    ∙ ap (λ (x : ℕ). record { line = l; column = x; index = q.index; vs = q.vs }) b
-    ∙ ap (λ (x : ℕ). record { line = l; column = c; index = x; vs = q.vs }) d
-    ∙ ap (λ (x : ℕ). record { line = l; column = c; index = i; vs = x }) e
+parts-are q l c i a b d e = grind (arith)
 
 -- The numbers of a group.
 
@@ -172,15 +164,8 @@ past-group bytes p n m h v room few of e =
 -- a place with the numbers that are told of no line feed, and of some
 pub told-none : (bytes : List ℕ) (p : Point) (n m : ℕ) → StandsOnward bytes p n m → m ≡ 0 →
     IsPoint bytes (record { line = p.line; column = p.column + n; index = p.index + n; vs = 0 })
-told-none bytes p n m o e =
-    let line : o.0.line ≡ p.line = omega (arith, o.2.line, e, ap (λ (x : ℕ). count_ones x) e, ones_le_self 0) in
-    subst (λ (x : Point). IsPoint bytes x) (parts-are o.0 p.line (p.column + n) (p.index + n) line (o.2.none e) o.2.index o.2.vs) o.1
+told-none bytes p n m o e = grind (arith, ones_le_self, parts-are)
 
 pub told-some : (bytes : List ℕ) (p : Point) (n m r : ℕ) (o : StandsOnward bytes p n m) → 2 ^ r ≤ m → m < 2 * 2 ^ r →
     IsPoint bytes (record { line = p.line + count_ones m; column = n - r; index = p.index + n; vs = 0 }) × (r ≤ n) × (p.line + count_ones m ≡ o.0.line)
-told-some bytes p n m r o a b =
-    let last : o.0.column + r ≡ n = o.2.last r a b in (
-      subst (λ (x : Point). IsPoint bytes x) (parts-are o.0 (p.line + count_ones m) (n - r) (p.index + n) o.2.line (omega (arith, last)) o.2.index o.2.vs) o.1,
-      omega (arith, last),
-      sym o.2.line,
-    )
+told-some bytes p n m r o a b = grind (arith, parts-are)

@@ -33,9 +33,7 @@ unfolding start_of_content
 codes-start bytes pieces = refl
 
 pub text-is : (bytes : List ℕ) (pieces : List Piece) (p : Place) (r : Bool) → p ≡ start_of_content bytes pieces → r ≡ is_text_codes p.codes → IsContent bytes pieces → (IsTrue r → IsTextContent bytes pieces) × (IsTextContent bytes pieces → IsTrue r)
-text-is bytes pieces p r e h k =
-    let s : r ≡ is_text_codes (content_of bytes pieces) = h ∙ ap (λ (x : Place). is_text_codes x.codes) e ∙ ap (λ cs. is_text_codes cs) (codes-start bytes pieces) in
-    ((λ t. record { is_content = k; is_filled = sym s ∙ t }), (λ t. s ∙ t.is_filled))
+text-is bytes pieces p r e h k = grind (arith, codes-start)
 
 not-none : (n : ℕ) (r : Bool) → r ≡ (suc n == 0) → r ≡ true → ⊥
 not-none n r e k = grind (arith, nat_tests)

@@ -62,20 +62,11 @@ reached-start es (suc i) w o h s l = omega arith
 -- a step back over an Enter, and over an Exit
 pub reached-past_enter : (es : List Event) (i w : ℕ) (x : Event) (o : Option ℕ) → reached w es i ≡ o → 0 < w → 0 < i →
     i ≤ length es → (get_or es (i - 1) x).kind ≡ Enter → reached (w - 1) es (i - 1) ≡ o
-reached-past_enter es i w x o h l m b k =
-    let e : suc (w - 1) ≡ w = omega arith in
-    let f : i - 1 + 1 ≡ i = omega arith in
-    let within : i - 1 < length es = omega arith in
-    sym (reached-enter es (i - 1) (w - 1) x within k) ∙ ap (λ n. reached n es (i - 1 + 1)) e ∙ ap (reached w es) f ∙ h
+reached-past_enter es i w x o h l m b k = grind (arith, reached-enter)
 
 pub reached-past_exit : (es : List Event) (i w : ℕ) (x : Event) (o : Option ℕ) → reached w es i ≡ o → 0 < w → 0 < i →
     i ≤ length es → (get_or es (i - 1) x).kind ≡ Exit → reached (w + 1) es (i - 1) ≡ o
-reached-past_exit es i w x o h l m b k =
-    let e : suc (w - 1) ≡ w = omega arith in
-    let g : w + 1 ≡ suc (suc (w - 1)) = omega arith in
-    let f : i - 1 + 1 ≡ i = omega arith in
-    let within : i - 1 < length es = omega arith in
-    ap (λ n. reached n es (i - 1)) g ∙ sym (reached-exit es (i - 1) (w - 1) x within k) ∙ ap (λ n. reached n es (i - 1 + 1)) e ∙ ap (reached w es) f ∙ h
+reached-past_exit es i w x o h l m b k = grind (arith, reached-exit)
 
 pub reached-end : (es : List Event) (i w : ℕ) (o : Option ℕ) → reached w es i ≡ o → w ≤ 0 → o ≡ Some i
 reached-end es i zero o h l = sym h

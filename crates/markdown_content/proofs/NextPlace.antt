@@ -82,20 +82,12 @@ value_ending bytes p h lt k = value-is bytes p h lt ∙ ap (λ (v : ℕ). Some v
 
 pub value_space : (bytes : List ℕ) (p : Point) → IsPoint bytes p → p.index < length bytes →
     get_or bytes p.index 0 ≡ tab_value → 0 < p.vs → value_from bytes p ≡ Some 32
-value_space bytes p h lt tab inside =
-    let plain : is_line_ending_byte (get_or bytes p.index 0) ≡ false = rw tab refl in
-    let space : (if nat_lt 0 p.vs then space_value else tab_value) ≡ space_value = rw (lt-ltb 0 p.vs inside) refl in
-    value-is bytes p h lt ∙ ap (λ (v : ℕ). Some v) (sym (value-tab bytes p plain (eq-eqb (get_or bytes p.index 0) tab_value tab)) ∙ space)
+value_space bytes p h lt tab inside = grind (arith, lt-ltb, value-is, value-tab, eq-eqb)
 
 pub value_byte : (bytes : List ℕ) (p : Point) → IsPoint bytes p → p.index < length bytes →
     is_line_ending_byte (get_or bytes p.index 0) ≡ false → (get_or bytes p.index 0 ≡ tab_value → p.vs ≤ 0) →
     value_from bytes p ≡ Some (get_or bytes p.index 0)
-value_byte bytes p h lt plain first =
-    elim (cases_eq (get_or bytes p.index 0) tab_value) [
-      | inl e ↦ let none : (if nat_lt 0 p.vs then space_value else tab_value) ≡ tab_value = rw (le-ltb 0 p.vs (first e)) refl in
-          value-is bytes p h lt ∙ ap (λ (v : ℕ). Some v) (sym (value-tab bytes p plain (eq-eqb (get_or bytes p.index 0) tab_value e)) ∙ none ∙ sym e)
-      | inr e ↦ value-is bytes p h lt ∙ ap (λ (v : ℕ). Some v) (sym (value-plain bytes p plain (ne_eqb (get_or bytes p.index 0) tab_value e)))
-    ]
+value_byte bytes p h lt plain first = grind (arith, cases_eq, le-ltb, value-is, value-tab, eq-eqb, value-plain, ne_eqb)
 
 -- the next place is one of the document
 pub next_is_point : (bytes : List ℕ) (p q : Point) → IsPoint bytes p → p.index < length bytes → q ≡ next_point bytes p →
@@ -110,19 +102,7 @@ pub value_control : (bytes : List ℕ) (p : Point) (v : ℕ) → IsPoint bytes p
     (get_or bytes p.index 0 ≡ tab_value → 0 < p.vs → v ≡ 32) →
     (is_line_ending_byte (get_or bytes p.index 0) ≡ false → (get_or bytes p.index 0 ≡ tab_value → p.vs ≤ 0) → v ≡ get_or bytes p.index 0) →
     value_from bytes p ≡ Some v
-value_control bytes p v h lt ending space same =
-    let b : ℕ = get_or bytes p.index 0 in
-    let some : (w : ℕ) → v ≡ w → value_from bytes p ≡ Some w → value_from bytes p ≡ Some v = λ w e k. k ∙ ap (λ (n : ℕ). Some n) (sym e) in
-    elim (cases_Bool (is_line_ending_byte b)) [
-      | inl e ↦ some 10 (ending e) (value_ending bytes p h lt e)
-      | inr e ↦ elim (cases_eq b tab_value) [
-        | inl tab ↦ elim (cases_lt 0 p.vs) [
-          | inl inside ↦ some 32 (space tab inside) (value_space bytes p h lt tab inside)
-          | inr first ↦ some b (same e (λ _. first)) (value_byte bytes p h lt e (λ _. first))
-        ]
-        | inr other ↦ some b (same e (λ tab. absurd (other tab))) (value_byte bytes p h lt e (λ tab. absurd (other tab)))
-      ]
-    ]
+value_control bytes p v h lt ending space same = grind (arith, cases_Bool, value_ending, cases_eq, cases_lt, value_space, value_byte)
 
 -- past a byte above 13
 pub byte_on : (bytes : List ℕ) (p : Point) → IsPoint bytes p → p.index < length bytes → 13 < get_or bytes p.index 0 → IsPoint bytes (next_column p (p.index + 1) 0)

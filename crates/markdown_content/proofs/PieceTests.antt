@@ -1,5 +1,5 @@
 -- The pieces of a content, tested one after another.
-use Rattle.std.proofs.Common.{ℕ, ◌+◌, ◌<◌, Bool, true, false, not, ◌&&◌, ◌≡◌, List, ◌∷◌, length, drop, get_or, filter, refl, sym, ap, subst, ◌∙◌, IsTrue, Option, Some, None}
+use Rattle.std.proofs.Common.{ℕ, ◌+◌, ◌<◌, Bool, true, false, not, ◌&&◌, ◌≡◌, List, ◌∷◌, length, drop, get_or, filter, refl, sym, ap, subst, ◌∙◌, IsTrue, Option, Some, None, arith}
 use Rattle.std.proofs.Math.Bool.{and-true}
 use Rattle.std.specs.List.{list_any}
 use Rattle.std.proofs.lemmas.List.{drop_more}
@@ -20,9 +20,7 @@ use Rattle.markdown_content.proofs.ContentCodes.{piece-codes-is, piece_row, IsPi
 
 piece-of : (bytes : List ℕ) (piece : Piece) (rest : List Piece) → are_pieces bytes (piece ∷ rest) ≡ true →
     is_piece bytes piece ≡ true
-piece-of bytes piece rest h =
-    let row : IsPieceRow bytes piece rest = piece_row bytes piece rest h in
-    and_from (is_place bytes piece.start && is_place bytes piece.end) (is_at_or_after piece.start piece.end) (and_from (is_place bytes piece.start) (is_place bytes piece.end) row.start row.end) (not_past-back piece.start piece.end row.in_order)
+piece-of bytes piece rest h = grind (arith, piece_row, and_from, not_past-back)
 
 end-of : (bytes : List ℕ) (piece : Piece) → is_piece bytes piece ≡ true → is_place bytes piece.end ≡ true
 end-of bytes piece h =
@@ -39,9 +37,7 @@ pub record IsAtStart (bytes : List ℕ) (piece : Piece) (p : Point) : Type 0 whe
 
 pub at_start : (bytes : List ℕ) (p : Point) (piece : Piece) (s : Stretch) → IsStretchTo bytes p piece.start s →
     IsAtStart bytes piece s.point
-at_start bytes p piece s h =
-    let t : IsThere bytes piece.start = there bytes piece.start h.place in
-    record { point = subst (λ (x : Point). IsPoint bytes x) (sym h.point) t.point; place = ap (λ (x : Point). place_of x) h.point ∙ t.place }
+at_start bytes p piece s h = grind (arith, there)
 
 pub start-forward : (bytes : List ℕ) (piece : Piece) (p : Point) → IsAtStart bytes piece p →
     is_before piece.end piece.start ≡ false → IsTrue (is_at_or_after (place_of p) piece.end)
@@ -75,9 +71,7 @@ one-line-is bytes p at =
 pub next-lines : (bytes : List ℕ) (b : Bool) (p : Point) (piece : Piece) (s : Stretch) →
     IsStretchTo bytes p piece.start s → s.has_line_ending ≡ true →
     (may_follow bytes b (place_of p) piece.start && is_piece bytes piece) ≡ false
-next-lines bytes b p piece s h k =
-    let more : is_one_line bytes (place_of p) piece.start ≡ false = sym (one-line-is bytes p piece.start) ∙ not_from_true (list_any is_line_ending (codes_up bytes p piece.start)) (sym h.lines ∙ k) in
-    and_left (may_follow bytes b (place_of p) piece.start) (is_piece bytes piece) (and_right b (is_at_or_after (place_of p) piece.start && is_one_line bytes (place_of p) piece.start) (and_right (is_at_or_after (place_of p) piece.start) (is_one_line bytes (place_of p) piece.start) more))
+next-lines bytes b p piece s h k = grind (arith, one-line-is, not_from_true, and_left, and_right)
 
 pub next-result : (bytes : List ℕ) (b : Bool) (p : Point) (piece : Piece) (s : Stretch) (r : Option Stretch) →
     b ≡ true → is_before piece.start (place_of p) ≡ false → IsStretchTo bytes p piece.start s →
@@ -104,9 +98,7 @@ pub record ArePiecesLeft (bytes : List ℕ) (all left : List Piece) (s : Stretch
 
 last-place : (bytes : List ℕ) (s : Stretch) (piece : Piece) → IsPieceEnd bytes piece s →
     (place_of s.point ≡ piece.end) × IsPoint bytes s.point
-last-place bytes s piece h =
-    let t : IsThere bytes piece.end = there bytes piece.end (end-of bytes piece h.piece_is) in
-    (ap (λ (x : Point). place_of x) h.point ∙ t.place, subst (λ (x : Point). IsPoint bytes x) (sym h.point) t.point)
+last-place bytes s piece h = grind (arith, there, end-of)
 
 pub passing-point : (bytes : List ℕ) (all left : List Piece) (s : Stretch) → ArePiecesLeft bytes all left s →
     IsPoint bytes s.point
@@ -133,13 +125,7 @@ passing-next bytes all next more s t h (may, end) = record {
 
 pub passing-none : (bytes : List ℕ) (all : List Piece) (next : Piece) (more : List Piece) (s : Stretch) →
     ArePiecesLeft bytes all (next ∷ more) s → PassesNext bytes s.ends_line s.point next None → are_pieces bytes all ≡ false
-passing-none bytes all next more s h none =
-    sym h.same ∙ pair-is bytes h.last next more h.end.piece_is
-    ∙ false_from_ne_true (are_pieces bytes (next ∷ more) && may_follow bytes (ends_line (piece_codes (codes_of bytes) h.last)) h.last.end next.start)
-    (λ k.
-    let both : (are_pieces bytes (next ∷ more) ≡ true) × (may_follow bytes (ends_line (piece_codes (codes_of bytes) h.last)) h.last.end next.start ≡ true) = and_parts (are_pieces bytes (next ∷ more)) (may_follow bytes (ends_line (piece_codes (codes_of bytes) h.last)) h.last.end next.start) k in
-    both_ways (may_follow bytes s.ends_line (place_of s.point) next.start && is_piece bytes next) none
-    (and_from (may_follow bytes s.ends_line (place_of s.point) next.start) (is_piece bytes next) (follow-is bytes h.last next s h.end ∙ both.1) (piece-of bytes next more both.0)))
+passing-none bytes all next more s h none = grind (arith, pair-is, false_from_ne_true, and_parts, both_ways, and_from, follow-is, piece-of)
 
 -- one step of a loop over the pieces after the first
 

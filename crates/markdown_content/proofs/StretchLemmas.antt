@@ -53,20 +53,12 @@ unfolding ahead_at
 at-end p h = drop_all p.at p.codes h
 
 at-less : (ms : List ℕ) (p : Place) → is_free ms (code_at p) ≡ true → p.at < length p.codes
-at-less ms p h =
-    elim (cases_lt p.at (length p.codes)) [
-      | inl l ↦ l
-      | inr l ↦ absurd (both_ways (is_free ms (code_at p)) (ap (is_free ms) (code_at_end p (at-end p l))) h)
-    ]
+at-less ms p h = grind (arith, cases_lt, both_ways, code_at_end, at-end)
 
 -- fewer codes are left
 pub fewer : (ms : List ℕ) (p q r : Place) → is_free ms (code_at p) ≡ true → q ≡ moved p → r.codes ≡ q.codes →
     q.at ≤ r.at → length r.codes - r.at < length p.codes - p.at
-fewer ms p q r h e same forward =
-    let lt : p.at < length p.codes = at-less ms p h in
-    let at : q.at ≡ p.at + 1 = ap (λ (x : Place). x.at) e ∙ at_moved p in
-    let len : length r.codes ≡ length p.codes = ap (λ (x : List Code). length x) (same ∙ ap (λ (x : Place). x.codes) e ∙ codes_moved p) in
-    omega (arith, lt, at, len, forward)
+fewer ms p q r h e same forward = grind (arith, at-less, at_moved, codes_moved)
 
 -- What is kept.
 
@@ -99,24 +91,16 @@ left-stretch ms p =
 -- fewer are left behind the code where it ends
 pub left-behind : (ms : List ℕ) (p q r : Place) (v : ℕ) → q ≡ past_stretch ms p → code_at q ≡ Some v →
     length (ahead_at r) + 1 ≤ length (ahead_at q) → length (ahead_at r) < length (ahead_at p)
-left-behind ms p q r v e h less =
-    let left : length (ahead_at q) ≤ length (ahead_at p) = subst (λ (x : Place). length (ahead_at x) ≤ length (ahead_at p)) (sym e) (left-stretch ms p) in
-    omega (arith, left, less)
+left-behind ms p q r v e h less = grind (arith, left-stretch)
 
 -- as few are left, or fewer, where a place in the same codes is not before another
 pub left-forward : (p q : Place) → q.codes ≡ p.codes → p.at ≤ q.at → length (ahead_at q) ≤ length (ahead_at p)
 unfolding ahead_at
-left-forward p q e h =
-    let one : length (drop q.at q.codes) ≡ length q.codes - q.at = length-drop q.at q.codes in
-    let other : length (drop p.at p.codes) ≡ length p.codes - p.at = length-drop p.at p.codes in
-    let same : length q.codes ≡ length p.codes = ap (λ (cs : List Code). length cs) e in
-    omega (arith, one, other, same, h)
+left-forward p q e h = grind (arith, length-drop)
 
 -- fewer are left past a code
 pub left-past : (p q : Place) (v : ℕ) → code_at p ≡ Some v → q ≡ moved p → length (ahead_at q) < length (ahead_at p)
-left-past p q v h e =
-    let less : length (ahead_at (moved p)) + 1 ≡ length (ahead_at p) = left_moved p v h in
-    subst (λ (x : Place). length (ahead_at x) < length (ahead_at p)) (sym e) (omega (arith, less))
+left-past p q v h e = grind (arith, left_moved)
 
 -- Ordinary bytes.
 
@@ -128,9 +112,7 @@ free-byte ms b h = let p = plain-parts ms b h in rw (not-feed b p.0, p.1) refl
 
 -- a byte above 13 that is not ordinary stops
 pub stop-byte : (ms : List ℕ) (b : ℕ) → 13 < b → is_plain ms b ≡ false → is_free ms (Some b) ≡ false
-stop-byte ms b above other =
-    let held : list_any (λ n. b == n) ms ≡ true = not-false (list_any (λ n. b == n) ms) (sym (plain-above ms b above) ∙ other) in
-    rw (not-feed b above, held) refl
+stop-byte ms b above other = grind (arith, not-false, plain-above, not-feed)
 
 -- the place so many columns on
 abbrev pub along : Point → ℕ → Point
@@ -141,9 +123,7 @@ pub record IsStretchRun (bytes : List ℕ) (pieces : List Piece) (ms : List ℕ)
   pub past : past_stretch ms (content_place bytes pieces n) ≡ past_stretch ms (content_place bytes pieces (n + m))
 
 along-more : (p : Point) (m : ℕ) → next_column (along p m) ((along p m).index + 1) 0 ≡ along p (m + 1)
-along-more p m =
-    ap (λ (c : ℕ). record { line = p.line; column = c; index = p.index + m + 1; vs = 0 }) (omega arith)
-    ∙ ap (λ (i : ℕ). record { line = p.line; column = p.column + (m + 1); index = i; vs = 0 }) (omega arith)
+along-more p m = grind (arith)
 
 -- past an ordinary byte it is as far
 pub past-byte : {bytes : List ℕ} {pieces : List Piece} {k : ℕ} {p e : Point} {before : Option ℕ} {n : ℕ} (ms : List ℕ) →

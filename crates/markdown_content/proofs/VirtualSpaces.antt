@@ -50,11 +50,7 @@ pub before-is : (bytes : List ℕ) (p q : Point) → IsPoint bytes p → IsPoint
     IsTrue (is_at_or_after (place_of p) (place_of q)) →
     (if nat_lt 0 p.vs then columns_in p q else 0) ≡ spaces_before bytes p q
 unfolding spaces_before
-before-is bytes p q h k l =
-    elim (cases_lt 0 p.vs) [
-      | inl e ↦ rw (lt-ltb 0 p.vs e) (before-inside bytes p q h k (not_past (place_of p) (place_of q) l) e)
-      | inr e ↦ rw (le-ltb 0 p.vs e) refl
-    ]
+before-is bytes p q h k l = grind (arith, cases_lt, lt-ltb, before-inside, not_past, le-ltb)
 
 begins-in-first : (a b c : ℕ) → (a < c) ⊎ ((a ≡ c) × (b ≡ 0)) → is_at_or_after (a, b) (c, 0) ≡ true
 begins-in-first a b c h = grind (arith, nat_tests)
@@ -73,11 +69,7 @@ begins-test : (a b c : ℕ) → a ≡ c → 0 < b → (a == c && nat_lt 0 b) ≡
 begins-test a b c h k = grind (arith, nat_tests)
 
 begins-cases : (a b c d : ℕ) → is_before (c, d) (a, b) ≡ false → ((a < c) ⊎ ((a ≡ c) × (b ≡ 0))) ⊎ ((a ≡ c) × (0 < b))
-begins-cases a b c d h =
-    elim (cases_eq a c) [
-      | inl e ↦ elim (cases_lt 0 b) [ inl k ↦ inr (e, k) | inr k ↦ inl (inr (e, omega arith)) ]
-      | inr e ↦ inl (inl (order-index a b c d h e))
-    ]
+begins-cases a b c d h = grind (arith, cases_eq, cases_lt, order-index)
 
 pub after-is : (bytes : List ℕ) (p q : Point) → IsPoint bytes p → IsPoint bytes q →
     IsTrue (is_at_or_after (place_of p) (place_of q)) →

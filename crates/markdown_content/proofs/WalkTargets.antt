@@ -82,14 +82,7 @@ reaching-stop : (bytes : List ℕ) (p : Point) (at : ℕ × ℕ) (s : Stretch) (
     s.point.index < length bytes → is_before (place_of s.point) at ≡ true →
     is_line_ending (code_here bytes s.point) ≡ t →
     IsReaching bytes p at (record { point = stop_at bytes s.point; has_line_ending = s.has_line_ending || t; ends_line = t })
-reaching-stop bytes p at s t h lt before is =
-    let up : codes_up bytes s.point at ≡ code_here bytes s.point ∷ codes_up bytes (stop_at bytes s.point) at = up-next bytes s.point at h.point lt before in
-    record {
-      point = (next bytes s.point h.point lt).point;
-      lines = h.lines ∙ ap (λ (cs : List Code). s.has_line_ending || list_any is_line_ending cs) up ∙ or-more s.has_line_ending (is_line_ending (code_here bytes s.point)) t (list_any is_line_ending (codes_up bytes (stop_at bytes s.point) at)) is;
-      ends = h.ends ∙ ap (λ (cs : List Code). ends_with s.ends_line cs) up ∙ ap (λ (b : Bool). ends_with b (codes_up bytes (stop_at bytes s.point) at)) is;
-      reached = λ k. (toward bytes s.point at h.point (there bytes at k) before).reached;
-    }
+reaching-stop bytes p at s t h lt before is = grind (arith, up-next, next, or-more, toward, there)
 
 -- one code further
 pub reaching-next : (bytes : List ℕ) (p : Point) (at : ℕ × ℕ) (s : Stretch) (q : Point) (v : ℕ) (t b : Bool) →
@@ -170,9 +163,7 @@ reaching-byte bytes p at s h lt before plain =
     (value_byte bytes s.point h.point lt ending (λ e. absurd (control v tab_value plain (omega arith) e))) (not-feed v plain) (next_byte bytes s.point h.point lt ending (λ e. absurd (control v tab_value plain (omega arith) e))) (none-some s.has_line_ending)
 
 further : (p : Point) (m : ℕ) → next_column (columns_on p m) ((columns_on p m).index + 1) 0 ≡ columns_on p (suc m)
-further p m =
-    ap (λ (c : ℕ). record { line = p.line; column = c; index = p.index + m + 1; vs = 0 }) (omega arith)
-    ∙ ap (λ (i : ℕ). record { line = p.line; column = p.column + suc m; index = i; vs = 0 }) (omega arith)
+further p m = grind (arith)
 
 -- past ordinary bytes before the place
 reaching-plain : (bytes : List ℕ) (p : Point) (at : ℕ × ℕ) (s : Stretch) (m : ℕ) → IsReaching bytes p at s →

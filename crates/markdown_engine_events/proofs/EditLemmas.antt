@@ -31,11 +31,7 @@ length-parts false c xs = refl
 -- how many events an edit brings to a place
 length-added : (i : ℕ) (e : Edit) (log : List Edit) →
     length (added_at i (e ∷ log)) ≡ cond (e.at == i) (length e.events) 0 + length (added_at i log)
-length-added i e log =
-    let whole : length (added_at i (e ∷ log)) ≡ length (front_at i log) + length (cond (e.at == i && e.before) e.events []) + (length (cond (e.at == i && not e.before) e.events []) + length (back_at i log)) = simp length-append in
-    let both : length (added_at i log) ≡ length (front_at i log) + length (back_at i log) = length-append (front_at i log) (back_at i log) in
-    let here : length (cond (e.at == i && e.before) e.events []) + length (cond (e.at == i && not e.before) e.events []) ≡ cond (e.at == i) (length e.events) 0 = length-parts (e.at == i) e.before e.events in
-    omega arith
+length-added i e log = grind (arith, length-append, length-parts)
 
 at-zero : (a n : ℕ) → cond (nat_le a 0) n 0 ≡ cond (a == 0) n 0
 at-zero a n = grind (arith, nat_tests)
@@ -96,9 +92,7 @@ start-le log i j h =
     subst (λ n. start log i ≤ start log n) e (start-mono log i (j - i))
 
 pub start-kept : (log : List Edit) (i : ℕ) → is_removed log i ≡ false → start log (suc i) ≡ suc (moved_number log i)
-start-kept log i h =
-    let m = moved-start log i in
-    rw h (omega arith)
+start-kept log i h = grind (arith, moved-start)
 
 -- events that stay keep their order
 pub moved-below : (log : List Edit) (p q : ℕ) → p < q → is_removed log p ≡ false →
@@ -111,14 +105,7 @@ moved-below log p q l h =
 
 pub moved-same : (log : List Edit) (p q : ℕ) → is_removed log p ≡ false → is_removed log q ≡ false →
     moved_number log p ≡ moved_number log q → p ≡ q
-moved-same log p q h k e =
-    elim (eqb_tells p q) [
-      | inl t ↦ t.1
-      | inr f ↦ absurd (elim (leb_tells p q) [
-        | inl l ↦ let b = moved-below log p q (omega arith) h in omega arith
-        | inr g ↦ let b = moved-below log q p g.1 k in omega arith
-      ])
-    ]
+moved-same log p q h k e = grind (arith, eqb_tells, leb_tells, moved-below)
 
 -- The list afterwards, event by event.
 
@@ -245,16 +232,7 @@ Stayed-next log i k j e es x h s =
 
 Stayed-here : (log : List Edit) (i k : ℕ) (e : Event) (es : List Event) (x : Event) →
     start log i + k ≡ moved_number log i → is_removed log i ≡ false → x ≡ moved log e → Stayed log i (e ∷ es) k x
-Stayed-here log i k e es x h r g =
-    let same : i + 0 ≡ i = omega arith in
-    record {
-      number = 0;
-      event = e;
-      stays_there = ap (is_removed log) same ∙ r;
-      place = h ∙ ap (moved_number log) (sym same);
-      was = refl;
-      is = g;
-    }
+Stayed-here log i k e es x h r g = grind (arith)
 
 same_value : (x y : Event) → Some x ≡ Some y → x ≡ y
 same_value x y h = cc
@@ -474,21 +452,11 @@ note-other e i n j notes h = over (has_link e.link) i n j notes h
 
 pub notes-kept : (log : List Edit) (es : List Event) (i n : ℕ) (e : Event) (notes : List (ℕ × ℕ)) → i < length es →
     e ≡ get_or es i e → n ≡ moved_number log i → Notes log es i notes → Notes log es (i + 1) (noted e i n notes)
-notes-kept log es i n e notes l r m h = λ j by k g named.
-    elim (eqb_tells i j) [
-      | inl t ↦
-          let at : linked_at es i ≡ has_link e.link = linked-get es i e (slice_get-get_or es i e l ∙ ap (λ x. Some x) (sym r)) in
-          note-found e i n j notes t.1 (sym at ∙ ap (linked_at es) t.1 ∙ g) ∙ m ∙ ap (moved_number log) t.1
-      | inr f ↦ note-other e i n j notes f.0 ∙ h j by (omega arith) g named
-    ]
+notes-kept log es i n e notes l r m h = grind (arith, eqb_tells, linked-get, slice_get-get_or, note-found, note-other)
 
 pub notes-gone : (log : List Edit) (es : List Event) (n m : ℕ) (notes : List (ℕ × ℕ)) →
     ((j : ℕ) → n ≤ j → j < m → linked_at es j ≡ false) → Notes log es n notes → Notes log es m notes
-notes-gone log es n m notes gone h = λ j by k g named.
-    elim (leb_tells n j) [
-      | inl low ↦ absurd (false≢true (sym (gone j (omega arith) k) ∙ g))
-      | inr high ↦ h j by (omega arith) g named
-    ]
+notes-gone log es n m notes gone h = grind (arith, leb_tells, false≢true)
 
 -- what the code knows at place i of where the ranges end, once those of the places before j are counted
 abbrev pub KnowsRangeEnds : List Edit → ℕ → ℕ → ℕ → Type 0
@@ -501,17 +469,11 @@ found (x ∷ es) (suc i) l = found es i (omega arith)
 
 pub notes-alone : (log : List Edit) (es : List Event) (n m : ℕ) (notes : List (ℕ × ℕ)) →
     ((j : ℕ) → n ≤ j → j < m → EndsChain j es) → Notes log es n notes → Notes log es m notes
-notes-alone log es n m notes ends h = λ j by k g named.
-    elim (leb_tells n j) [
-      | inl low ↦ absurd (ends j (omega arith) k by named)
-      | inr high ↦ h j by (omega arith) g named
-    ]
+notes-alone log es n m notes ends h = grind (arith, leb_tells)
 
 pub range-more : (log : List Edit) (i a b c d : ℕ) → i < 2 ^ 64 - 1 → KnowsRangeEnds log i i a →
     b ≡ min (removed_at i log) (2 ^ 64 - 1) → c ≡ min (i + b) (2 ^ 64 - 1) → d ≡ max a c → KnowsRangeEnds log i (i + 1) d
-range-more log i a b c d l h g k m =
-    let e : i + 1 ≡ suc i = omega arith in
-    rw e (omega arith)
+range-more log i a b c d l h g k m = grind (arith)
 
 pub range-next : (log : List Edit) (i d : ℕ) → KnowsRangeEnds log i (i + 1) d → KnowsRangeEnds log (i + 1) (i + 1) d
 range-next log i d h = omega arith
@@ -531,10 +493,7 @@ stays-from log i d l h k = below-range log i d l h ∙ le-ltb i d k
 module _ (log : List Edit) (es : List Event) (i : ℕ) (done put : List Event) (l : i < length es) (h : done ++ edited_from log i (drop i es) ≡ edited log es) (g : put ≡ done ++ added_at i log) where
   step : (e : Event) → e ≡ get_or es i e →
       edited log es ≡ put ++ (stay log (is_removed log i) e ++ edited_from log (i + 1) (drop (i + 1) es))
-  step e r =
-      let cut : drop i es ≡ e ∷ drop (i + 1) es = drop_more es i e l ∙ ap (λ x. x ∷ drop (i + 1) es) (sym r) in
-      let next : suc i ≡ i + 1 = omega arith in
-      sym h ∙ ap (λ x. done ++ edited_from log i x) cut ∙ sym (append_assoc done (added_at i log) (stay log (is_removed log i) e ++ edited_from log (suc i) (drop (i + 1) es))) ∙ ap (λ x. x ++ (stay log (is_removed log i) e ++ edited_from log (suc i) (drop (i + 1) es))) (sym g) ∙ ap (λ n. put ++ (stay log (is_removed log i) e ++ edited_from log n (drop (i + 1) es))) next
+  step e r = grind (arith, drop_more, append_assoc)
 
   pub step-kept : (e x : Event) → e ≡ get_or es i e → x ≡ moved log e → is_removed log i ≡ false →
       (put ++ x ∷ []) ++ edited_from log (i + 1) (drop (i + 1) es) ≡ edited log es

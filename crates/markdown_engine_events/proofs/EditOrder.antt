@@ -24,27 +24,24 @@ use Rattle.markdown_engine_events.proofs.EditRules.{added-none, removed-none, ad
 abbrev stands_at : ℕ → Edit → Bool
 stands_at i e = e.at == i
 
+-- what follows from either value of a test
+pub by_bool : {P : Type 0} (b : Bool) → (b ≡ true → P) → (b ≡ false → P) → P
+by_bool true p q = p refl
+by_bool false p q = q refl
+
 front-there : (i : ℕ) (log : List Edit) → front_at i log ≡ front_at i (filter (stands_at i) log)
 front-there i [] = refl
-front-there i (e ∷ log) = front-step i e log (e.at == i) refl (front-there i log)
-  where
-    front-step : (i : ℕ) (e : Edit) (log : List Edit) (b : Bool) → (e.at == i) ≡ b →
-        front_at i log ≡ front_at i (filter (stands_at i) log) →
-        front_at i (e ∷ log) ≡ front_at i (filter (stands_at i) (e ∷ log))
-    front-step i e log true h g = rw h (rw h (ap (λ x. x ++ cond e.before e.events []) g))
-    front-step i e log false h g = rw h (append-nil (front_at i log) ∙ g)
+front-there i (e ∷ log) =
+    by_bool (e.at == i)
+    (λ h. rw h (rw h (ap (λ x. x ++ cond e.before e.events []) (front-there i log))))
+    (λ h. rw h (append-nil (front_at i log) ∙ front-there i log))
 
 -- A stable sort by place keeps the edits at each place.
 
 found : {X : Type 0} (p : X → Bool) (xs : List X) → ((x : X) × (p x ≡ true)) ⊎ (filter p xs ≡ [])
 found p [] = inr refl
-found p (x ∷ xs) = found-step p x xs (p x) refl (found p xs)
-  where
-    found-step : {X : Type 0} (p : X → Bool) (x : X) (xs : List X) (b : Bool) → p x ≡ b →
-        ((x : X) × (p x ≡ true)) ⊎ (filter p xs ≡ []) → ((x : X) × (p x ≡ true)) ⊎ (filter p (x ∷ xs) ≡ [])
-    found-step p x xs true h r = inl (x, h)
-    found-step p x xs false h (inl y) = inl y
-    found-step p x xs false h (inr e) = inr (rw h e)
+found p (x ∷ xs) =
+    by_bool (p x) (λ h. inl (x, h)) (λ h. elim (found p xs) [ inl y ↦ inl y | inr e ↦ inr (rw h e) ])
 
 ties-number : (a b i : ℕ) → (a == i) ≡ true → (not (is_lt (nat_cmp a b)) && not (is_lt (nat_cmp b a))) ≡ (b == i)
 ties-number a b i h = grind (arith, nat_tests)
@@ -60,45 +57,25 @@ module _ {X : Type 0} (n : X → ℕ) (xs ys : List X) (stable : IsStableByKey n
       sym (filter-same (ties lt x) (λ y. n y == i) same ys) ∙ stable x ∙ filter-same (ties lt x) (λ y. n y == i) same xs
 
   stays_there : filter (λ y. n y == i) ys ≡ filter (λ y. n y == i) xs
-  stays_there =
-      elim (found (λ y. n y == i) ys) [
-        | inl y ↦ at_tie y.0 y.1
-        | inr none ↦ elim (found (λ y. n y == i) xs) [
-          | inl x ↦ at_tie x.0 x.1
-          | inr nowhere ↦ none ∙ sym nowhere
-        ]
-      ]
+  stays_there = grind (arith, found, at_tie)
 
 filter-kept : (cs : List Event) (p : Edit → Bool) (es : List Entry) →
     filter p (kept cs es) ≡ kept cs (filter (λ e. p (edit_of cs e)) es)
 filter-kept cs p [] = refl
-filter-kept cs p (e ∷ es) = kept-step cs p e es (p (edit_of cs e)) refl (filter-kept cs p es)
-  where
-    kept-step : (cs : List Event) (p : Edit → Bool) (e : Entry) (es : List Entry) (b : Bool) → p (edit_of cs e) ≡ b →
-        filter p (kept cs es) ≡ kept cs (filter (λ e. p (edit_of cs e)) es) →
-        filter p (kept cs (e ∷ es)) ≡ kept cs (filter (λ e. p (edit_of cs e)) (e ∷ es))
-    kept-step cs p e es true h g = rw h (ap (λ x. edit_of cs e ∷ x) g)
-    kept-step cs p e es false h g = rw h g
+filter-kept cs p (e ∷ es) =
+    by_bool (p (edit_of cs e)) (λ h. rw h (ap (λ x. edit_of cs e ∷ x) (filter-kept cs p es))) (λ h. rw h (filter-kept cs p es))
 
 back-there : (i : ℕ) (log : List Edit) → back_at i log ≡ back_at i (filter (stands_at i) log)
 back-there i [] = refl
-back-there i (e ∷ log) = back-step i e log (e.at == i) refl (back-there i log)
-  where
-    back-step : (i : ℕ) (e : Edit) (log : List Edit) (b : Bool) → (e.at == i) ≡ b →
-        back_at i log ≡ back_at i (filter (stands_at i) log) →
-        back_at i (e ∷ log) ≡ back_at i (filter (stands_at i) (e ∷ log))
-    back-step i e log true h g = rw h (rw h (ap (λ x. cond (not e.before) e.events [] ++ x) g))
-    back-step i e log false h g = rw h g
+back-there i (e ∷ log) =
+    by_bool (e.at == i)
+    (λ h. rw h (rw h (ap (λ x. cond (not e.before) e.events [] ++ x) (back-there i log))))
+    (λ h. rw h (back-there i log))
 
 removed-there : (i : ℕ) (log : List Edit) → removed_at i log ≡ removed_at i (filter (stands_at i) log)
 removed-there i [] = refl
-removed-there i (e ∷ log) = removed-step i e log (e.at == i) refl (removed-there i log)
-  where
-    removed-step : (i : ℕ) (e : Edit) (log : List Edit) (b : Bool) → (e.at == i) ≡ b →
-        removed_at i log ≡ removed_at i (filter (stands_at i) log) →
-        removed_at i (e ∷ log) ≡ removed_at i (filter (stands_at i) (e ∷ log))
-    removed-step i e log true h g = rw h (rw h (ap (λ x. e.remove + x) g))
-    removed-step i e log false h g = rw h (omega (arith, g))
+removed-there i (e ∷ log) =
+    by_bool (e.at == i) (λ h. rw h (rw h (ap (λ x. e.remove + x) (removed-there i log)))) (λ h. rw h (omega (arith, removed-there i log)))
 
 rises-map : {X Y : Type 0} (f : X → Y) (n : Y → ℕ) (xs : List X) → IsNonDecreasingBy (λ x. n (f x)) xs →
     IsNonDecreasingBy n (map f xs)
@@ -142,14 +119,7 @@ module _ (i k : ℕ) (es : List Edit) (rest : IsRest i es es) (within : k ≤ le
   low = λ j d l. let at = here j d l in omega arith
 
   high : All (λ e. i + 1 ≤ e.at) (drop k es)
-  high = λ j d l.
-      let size = length-drop k es in
-      let first : k < length es = omega arith in
-      let least = rest.ahead k d first in
-      let other = next d first in
-      let more = rest.rises k (k + j) d (omega arith) (omega arith) in
-      let read = ap (λ (e : Edit). e.at) (get_or-drop k es j d) in
-      omega arith
+  high = grind (arith, length-drop, get_or-drop)
 
   whole : take k es ++ drop k es ≡ es
   whole = take-append-drop k es
@@ -171,13 +141,7 @@ module _ (i k : ℕ) (es : List Edit) (rest : IsRest i es es) (within : k ≤ le
 
 -- what is left of what is left of a log
 pub rest-trans : (n m : ℕ) (log a b : List Edit) → n ≤ m → IsRest n log a → IsRest m a b → IsRest m log b
-rest-trans n m log a b l r s = record {
-  ahead = s.ahead;
-  rises = s.rises;
-  plain = s.plain;
-  added = λ i h. s.added i h ∙ r.added i (omega arith);
-  removed = λ i h. s.removed i h ∙ r.removed i (omega arith);
-}
+rest-trans n m log a b l r s = grind (arith)
 
 -- Edits that entries keep, read one by one.
 
@@ -375,10 +339,7 @@ module _ (cs xs : List Event) (es : List Entry) (k : AreKept cs es) (x : Entry) 
   size-both = length-append cs xs
 
   last-events : take (x.to - x.from) (drop x.from (cs ++ xs)) ≡ xs
-  last-events =
-      let size = size-both in
-      let count : x.to - x.from ≡ length xs = omega arith in
-      ap (λ m. take m (drop x.from (cs ++ xs))) count ∙ ap (λ m. take (length xs) (drop m (cs ++ xs))) from ∙ ap (take (length xs)) (drop-append_seam cs xs) ∙ take_all (length xs) xs (omega arith)
+  last-events = grind (arith, size-both, drop-append_seam, take_all)
 
   pub kept-pushed : kept (cs ++ xs) (es ++ x ∷ []) ≡ kept cs es ++ (record { at = x.at; remove = x.remove; events = xs; before = x.before }) ∷ []
   kept-pushed =
@@ -487,9 +448,7 @@ module _ (log : List Edit) (i p : ℕ) (es : List Edit) (left : IsRest i log (dr
 
 first-left : (cs : List Event) (es : List Entry) (p : ℕ) → p < length es → (d : Edit) →
     get_or (drop p (kept cs es)) 0 d ≡ edit_of cs (entry es p)
-first-left cs es p l d =
-    let at : p + 0 ≡ p = omega arith in
-    get_or-drop p (kept cs es) 0 d ∙ ap (λ n. get_or (kept cs es) n d) at ∙ kept-read cs es p l d
+first-left cs es p l d = grind (arith, get_or-drop, kept-read)
 
 left-size : (cs : List Event) (es : List Entry) (p : ℕ) → length (drop p (kept cs es)) ≡ length es - p
 left-size cs es p = length-drop p (kept cs es) ∙ ap (λ n. n - p) (length-map es (edit_of cs))
@@ -503,9 +462,7 @@ next-from cs es p n l all =
 
 pub next-rest : (cs : List Event) (es : List Entry) (p t : ℕ) → p < length es → t ≤ (entry es p).at →
     IsNonDecreasingBy (λ e. e.at) (drop p (kept cs es)) → All (λ e. t ≤ e.at) (drop p (kept cs es))
-next-rest cs es p t l le up = λ k d m.
-    let more = up 0 k d (omega arith) m in
-    omega (arith, ap (λ (e : Edit). e.at) (first-left cs es p l d))
+next-rest cs es p t l le up = grind (arith, first-left)
 
 -- the edits left lie from a later place on
 pub rest-later : (n m : ℕ) (log a : List Edit) → n ≤ m → IsRest n log a → All (λ e. m ≤ e.at) a → IsRest m log a

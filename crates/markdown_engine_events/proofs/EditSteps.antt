@@ -109,20 +109,7 @@ module _ (log : List Edit) (begins : ℕ → Bool) (comes : ℕ → List Event) 
 
     pub one-stays : (n : ℕ) (e : Event) (rest : List Event) → drop n es ≡ e ∷ rest → begins n ≡ false → Fresh n →
         OneStays n e rest
-    one-stays n e rest h b f =
-        let one : suc n ≡ n + 1 = omega arith in
-        let stay : is_removed log n ≡ false = stays-here n b f in
-        let added : added_at n log ≡ [] = added-here n false b in
-        let size : length (added_at n log) ≡ 0 = ap length added in
-        record {
-          events = ap (λ xs. xs ++ ((if is_removed log n then [] else moved log e ∷ []) ++ edited_from log (suc n) rest)) added
-              ∙ ap (λ b. (if b then [] else moved log e ∷ []) ++ edited_from log (suc n) rest) stay
-              ∙ ap (λ i. moved log e ∷ edited_from log i rest) one;
-          placed = ap (start log) (sym one) ∙ start-next n 0 false stay size ∙ omega arith;
-          number = moved-start log n ∙ omega (arith, size);
-          there = drop-next n es e rest h;
-          fresh = fresh-after n b;
-        }
+    one-stays n e rest h b f = grind (arith, stays-here, added-here, start-next, moved-start, drop-next, fresh-after)
 
     -- past two events that stay
     pub record TwoStay (n : ℕ) (e x : Event) (rest : List Event) : Type 0 where
@@ -155,25 +142,4 @@ module _ (log : List Edit) (begins : ℕ → Bool) (comes : ℕ → List Event) 
 
     pub two-go : (n : ℕ) (e x : Event) (rest : List Event) → drop n es ≡ e ∷ x ∷ rest → begins n ≡ true →
         begins (n + 1) ≡ false → TwoGo n e x rest
-    two-go n e x rest h b c =
-        let same : suc (suc n) ≡ n + 2 = omega arith in
-        let again : n + 1 + 1 ≡ n + 2 = omega arith in
-        let one : suc n ≡ n + 1 = omega arith in
-        let next : begins (suc n) ≡ false = ap begins one ∙ c in
-        let gone : is_removed log n ≡ true = goes-first n b in
-        let gone2 : is_removed log (suc n) ≡ true = goes-second n b in
-        let added : added_at n log ≡ comes n = added-here n true b in
-        let added2 : added_at (suc n) log ≡ [] = added-here (suc n) false next in
-        let p1 : start log (suc n) ≡ start log n + length (comes n) + 0 = start-next n (length (comes n)) true gone (ap length added) in
-        let p2 : start log (suc (suc n)) ≡ start log (suc n) + 0 + 0 = start-next (suc n) 0 true gone2 (ap length added2) in
-        let end : List Event = edited_from log (suc (suc n)) rest in
-        record {
-          events = ap (λ xs. xs ++ ((if is_removed log n then [] else moved log e ∷ []) ++ edited_from log (suc n) (x ∷ rest))) added
-              ∙ ap (λ b. comes n ++ ((if b then [] else moved log e ∷ []) ++ edited_from log (suc n) (x ∷ rest))) gone
-              ∙ ap (λ xs. comes n ++ (xs ++ ((if is_removed log (suc n) then [] else moved log x ∷ []) ++ end))) added2
-              ∙ ap (λ b. comes n ++ ((if b then [] else moved log x ∷ []) ++ end)) gone2
-              ∙ ap (λ i. comes n ++ edited_from log i rest) same;
-          placed = ap (start log) (sym same) ∙ p2 ∙ omega (arith, p1);
-          there = ap (λ i. drop i es) (sym again) ∙ drop-next (n + 1) es x rest (drop-next n es e (x ∷ rest) h);
-          fresh = subst (λ (i : ℕ). Fresh i) again (fresh-after (n + 1) c);
-        }
+    two-go n e x rest h b c = grind (arith, goes-first, goes-second, added-here, start-next, drop-next, fresh-after)

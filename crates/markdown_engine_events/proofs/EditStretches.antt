@@ -104,9 +104,7 @@ module _ (log rest : List Edit) (es : List Event) (n m d : ℕ) (le : n ≤ m) (
 -- A stretch from a place at which the edits have been passed.
 
 pub none-more : (xs ys es : List Event) (n m : ℕ) → m ≤ n → ys ≡ xs ++ take (m - n) (drop n es) → ys ≡ xs
-none-more xs ys es n m l h =
-    let none : m - n ≡ 0 = omega arith in
-    h ∙ ap (λ k. xs ++ take k (drop n es)) none ∙ append-nil xs
+none-more xs ys es n m l h = grind (arith, append-nil)
 
 module _ (log rest : List Edit) (es : List Event) (i m d : ℕ) (le : i < m) (within : m ≤ length es) (left_over : IsRest (i + 1) log rest) (ahead : All (λ e. m ≤ e.at) rest) where
   pub range-behind : m < 2 ^ 64 → KnowsRangeEnds log i (i + 1) d → KnowsRangeEnds log m m d
@@ -139,9 +137,7 @@ module _ (log rest : List Edit) (es : List Event) (i m d : ℕ) (le : i < m) (wi
   first = found es i (omega arith)
 
   cut-first : take (m - i) (drop i es) ≡ first.0 ∷ take (m - (i + 1)) (drop (i + 1) es)
-  cut-first =
-      let size : m - i ≡ suc (m - (i + 1)) = omega arith in
-      ap (λ n. take n (drop i es)) size ∙ ap (take (suc (m - (i + 1)))) (drop_more es i first.0 (omega arith) ∙ ap (λ x. x ∷ drop (i + 1) es) (sym first.1))
+  cut-first = grind (arith, drop_more, first)
 
   plain-both : All NamesNone (first.0 ∷ take (m - (i + 1)) (drop (i + 1) es))
   plain-both = subst (λ (xs : List Event). All NamesNone xs) cut-first plain

@@ -68,15 +68,7 @@ module _ (e : Edit) (rest : List Edit) (later : All (λ x. suc e.at ≤ x.at) re
 
   -- whether event j goes, by what stands at one place
   goes-term : (j i : ℕ) → e.at < j → e.at + e.remove ≤ j → nat_lt j (i + removed_at i (e ∷ rest)) ≡ nat_lt j (i + removed_at i rest)
-  goes-term j i l h =
-      elim (eqb_tells i e.at) [
-        | inl t ↦
-            let same = t.1 in
-            let one = at-place e.at i e.remove (sym t.1) in
-            let none = removed-none i rest (λ k d g q. let m = later k d g in omega arith) in
-            le-ltb j (i + removed_at i (e ∷ rest)) (omega arith) ∙ sym (le-ltb j (i + removed_at i rest) (omega arith))
-        | inr f ↦ ap (λ n. nat_lt j (i + n)) (elsewhere i f.1)
-      ]
+  goes-term j i l h = grind (arith, eqb_tells, at-place, removed-none, le-ltb, elsewhere)
 
   goes-upto : (j i : ℕ) → e.at < j → e.at + e.remove ≤ j → removed_by (e ∷ rest) j i ≡ removed_by rest j i
   goes-upto j zero l h =
@@ -98,16 +90,10 @@ module _ (e : Edit) (rest : List Edit) (later : All (λ x. suc e.at ≤ x.at) re
       ap (λ xs. xs ++ (cond (is_removed (e ∷ rest) i) [] (moved (e ∷ rest) x ∷ []) ++ edited_from (e ∷ rest) (suc i) es)) (comes-later i (omega arith)) ∙ ap (λ b. added_at i rest ++ (cond b [] (moved (e ∷ rest) x ∷ []) ++ edited_from (e ∷ rest) (suc i) es)) (goes-later i l h) ∙ ap (λ y. added_at i rest ++ (cond (is_removed rest i) [] (y ∷ []) ++ edited_from (e ∷ rest) (suc i) es)) stays ∙ ap (λ xs. added_at i rest ++ (cond (is_removed rest i) [] (moved rest x ∷ []) ++ xs)) (same-later (suc i) es (omega arith) (omega arith) (λ k d g. u (suc k) d (omega arith)))
 
   none-before : (p : ℕ) → p < e.at → removed_at p (e ∷ rest) ≡ 0
-  none-before p l =
-      let none = removed-none p rest (λ k d g q. let m = later k d g in omega arith) in
-      let other = at-other e.at p e.remove (λ q. omega arith) in
-      omega arith
+  none-before p l = grind (arith, removed-none, at-other)
 
   removes-here : removed_at e.at (e ∷ rest) ≡ e.remove
-  removes-here =
-      let none = removed-none e.at rest (λ k d g q. let m = later k d g in omega arith) in
-      let one = at-place e.at e.at e.remove refl in
-      omega arith
+  removes-here = grind (arith, removed-none, at-place)
 
   -- an edit that removes nothing
   at-keeps : (ys : List Event) → e.remove ≡ 0 → All NamesNone ys → edited_from (e ∷ rest) e.at ys ≡ e.events ++ edited_from rest e.at ys
@@ -253,9 +239,7 @@ module _ (cs : List Event) (E : List Entry) (i count read : ℕ) (some : 0 < i) 
       next (e.at + e.remove) (fits-here cs E (i - 1) count before apart) (apart-less (e.at + max 1 e.remove) (e.at + e.remove) count (drop i (kept cs E)) (omega arith) (subst (λ n. StandApart (e.at + max 1 e.remove) count (drop n (kept cs E))) last far))
 
   pub edit-first : (k : ℕ) → StandApart k count (drop (i - 1) (kept cs E)) → k ≤ (edit_of cs (entry E (i - 1))).at
-  edit-first k h =
-      let parts = subst (λ log. StandApart k count log) (first-of cs E (i - 1) count before apart) h in
-      parts.0
+  edit-first k h = grind (arith, first-of, before)
 
   pub edit-grows : AreGrowing (kept cs E) → (edit_of cs (entry E (i - 1))).remove ≤ length (edit_of cs (entry E (i - 1))).events
   edit-grows growing =
@@ -326,9 +310,7 @@ module _ (cs : List Event) (E : List Entry) (i count : ℕ) (within : i < length
 pub fill-all : (log : List Edit) (es items moved_items all : List Event) (i room read end count n : ℕ) → length es ≡ count → length items ≡ count + room → end ≤ room + read → read ≤ count → length log ≤ i →
     n ≡ count - read → moved_items ≡ paste items end (drop (room + read) items) n → all ≡ take (end + (count - read)) moved_items →
     drop (room + read) items ≡ drop read es → take end items ++ edited_from (drop i log) read (drop read es) ≡ edited log es → all ≡ edited log es
-fill-all log es items moved_items all i room read end count n whole size order within past far move cut back front =
-    let rest_size : length (drop (room + read) items) ≡ count - read = omega (arith, length-drop (room + read) items) in
-    cut ∙ ap (λ k. take (end + k) moved_items) (sym far) ∙ ap (take (end + n)) move ∙ take-paste items end (drop (room + read) items) n (omega arith) (omega arith) ∙ ap (λ ys. take end items ++ ys) (take_all n (drop (room + read) items) (omega arith) ∙ back ∙ sym (nil-from read (drop read es)) ∙ ap (λ edits. edited_from edits read (drop read es)) (sym (drop_all i log past))) ∙ front
+fill-all log es items moved_items all i room read end count n whole size order within past far move cut back front = grind (arith, length-drop, take-paste, take_all, nil-from, drop_all)
 
 -- all edits are applied
 pub spread-all : (log : List Edit) (es items : List Event) (read end : ℕ) → read ≡ end → read ≤ length es → All NamesNone es →
@@ -368,9 +350,7 @@ module _ (cs : List Event) (E : List Entry) (i : ℕ) (some : 0 < i) (within : i
       (edit_of cs (entry E (i - 1))).at + (edit_of cs (entry E (i - 1))).remove ≤ count → (edit_of cs (entry E (i - 1))).at < next →
       (edit_of cs (entry E (i - 1))).at + (edit_of cs (entry E (i - 1))).remove ≤ next →
       (n : ℕ) → n ≤ (edit_of cs (entry E (i - 1))).at → StandApart n count (drop (i - 1) (kept cs E))
-  apart-more count next rest fits below beyond n low =
-      let e = edit_of cs (entry E (i - 1)) in
-      subst (λ log. StandApart n count log) (sym part-of) (low, (fits, rest (e.at + max 1 e.remove) (omega arith)))
+  apart-more count next rest fits below beyond n low = grind (arith, part-of)
 
 -- What a list is that edits are applied in.
 
@@ -403,9 +383,7 @@ fresh-items b items n off =
     λ k d l. let a = n.alone off k d l in fresh-of (get_or items k d).kind (get_or items k d).link (enters k d l) a.0 a.1
 
 noted-nil : IsNoted false []
-noted-nil =
-    let linked : IsLinked [] = record { earlier = λ j p h. absurd (some-none p h); linked = λ j p h. absurd (some-none p h); single = λ j k p h g. absurd (some-none p h); enters = tt } in
-    noted false [] (record { filled = refl; linked = linked }) (λ off. λ k d l. absurd (omega arith))
+noted-nil = grind (arith, some-none, noted)
 
 pub noted-edited : (b : Bool) (log : List Edit) (items all : List Event) → IsNoted b items → b ≡ false → AddsUnlinked log → all ≡ edited log items → IsNoted b all
 noted-edited b log items all n off u h =

@@ -14,13 +14,7 @@ use Rattle.markdown_engine_events.specs.EventChains.{next_link, with_next, previ
 -- what holds of events at the front, and of those behind them
 pub more-each : (P : Event → Type 0) (xs : List Event) (n m : ℕ) → All P (take n xs) →
     ((i : ℕ) (e : Event) → n ≤ i → i < n + m → P (get_or xs i e)) → All P (take (n + m) xs)
-more-each P xs n m front more k d l =
-    let size : length (take (n + m) xs) ≡ min (n + m) (length xs) = length-take (n + m) xs in
-    let same : get_or (take (n + m) xs) k d ≡ get_or xs k d = get_or-take (n + m) xs k d (omega (arith, l, size)) in
-    elim (cases_lt k n) [
-      | inl h ↦ subst P (get_or-take n xs k d h ∙ sym same) (front k d (omega (arith, h, l, size, length-take n xs)))
-      | inr h ↦ subst P (sym same) (more k d h (omega (arith, l, size)))
-    ]
+more-each P xs n m front more k d l = grind (arith, length-take, get_or-take, cases_lt)
 
 -- one event changed
 
@@ -346,17 +340,7 @@ pub OnlyEnters-part : (n k : ℕ) (xs : List Event) → OnlyEnters xs → OnlyEn
 OnlyEnters-part n k xs h = OnlyEnters-take k (drop n xs) (OnlyEnters-drop n xs h)
 
 pub IsLinked-prefix : (xs ys : List Event) → IsLinked (xs ++ ys) → IsLinked xs
-IsLinked-prefix xs ys w =
-    let up = λ (j p : ℕ) (h : previous_at xs j ≡ Some p). previous_at-before xs ys j (within-previous xs j p h) ∙ h in
-    record {
-      earlier = λ j p h. w.earlier j p (up j p h);
-      linked = λ j p h.
-          let l : j < length xs = within-previous xs j p h in
-          let e : p < j = w.earlier j p (up j p h) in
-          sym (linked_at-before xs ys p (omega arith)) ∙ w.linked j p (up j p h);
-      single = λ j k p h i. w.single j k p (up j p h) (up k p i);
-      enters = OnlyEnters-prefix xs ys w.enters;
-    }
+IsLinked-prefix xs ys w = grind (arith, previous_at-before, within-previous, linked_at-before, OnlyEnters-prefix)
 
 fresh-none : (k : Kind) (l : Option Link) → IsFreshLink k l → link_previous l ≡ None
 fresh-none k None h = refl
@@ -393,17 +377,7 @@ previous_at-fresh (x ∷ xs) e zero h = refl
 previous_at-fresh (x ∷ xs) e (suc j) h = previous_at-fresh xs e j h
 
 pub IsLinked-push : (xs : List Event) (e : Event) → IsLinked xs → IsFresh e → IsLinked (xs ++ e ∷ [])
-IsLinked-push xs e w f =
-    let none : previous_of e ≡ None = fresh-none e.kind e.link f in
-    let down = λ (j p : ℕ) (h : previous_at (xs ++ e ∷ []) j ≡ Some p). sym (previous_at-fresh xs e j none) ∙ h in
-    record {
-      earlier = λ j p h. w.earlier j p (down j p h);
-      linked = λ j p h.
-          let there : linked_at xs p ≡ true = w.linked j p (down j p h) in
-          linked_at-before xs (e ∷ []) p (within-linked xs p there) ∙ there;
-      single = λ j k p h i. w.single j k p (down j p h) (down k p i);
-      enters = OnlyEnters-append xs (e ∷ []) w.enters (fresh-may e.kind e.link f, tt);
-    }
+IsLinked-push xs e w f = grind (arith, fresh-none, previous_at-fresh, linked_at-before, within-linked, OnlyEnters-append, fresh-may)
 
 -- what a last event that names another says of the others
 pub ends-before : (xs : List Event) (e : Event) (p : ℕ) → IsLinked (xs ++ e ∷ []) → previous_of e ≡ Some p →
@@ -461,25 +435,11 @@ same_number a b = elim (eqb_tells a b) [ inl t ↦ inl t.1 | inr f ↦ inr f.1 ]
 connected : (xs : List Event) (p i j q : ℕ) → linked_at xs i ≡ true →
     previous_at (changed_at (with_previous (Some p)) i xs) j ≡ Some q →
     ((j ≡ i) × (p ≡ q)) ⊎ ((j ≢ i) × (previous_at xs j ≡ Some q))
-connected xs p i j q h k =
-    elim (same_number j i) [
-      | inl s ↦ inl (s, same_Some p q (sym (previous_at-same (Some p) i xs h) ∙ ap (previous_at (changed_at (with_previous (Some p)) i xs)) (sym s) ∙ k))
-      | inr d ↦ inr (d, sym (previous_at-other (Some p) i j xs d) ∙ k)
-    ]
+connected xs p i j q h k = grind (arith, same_number, same_Some, previous_at-same, previous_at-other)
 
 pub IsLinked-connect : (xs : List Event) (p i : ℕ) → IsLinked xs → p < i → linked_at xs p ≡ true →
     linked_at xs i ≡ true → EndsChain p xs → IsLinked (changed_at (with_previous (Some p)) i xs)
-IsLinked-connect xs p i w l a b u =
-    record {
-      earlier = λ j q h. elim (connected xs p i j q b h) [ inl s ↦ omega arith | inr d ↦ w.earlier j q d.1 ];
-      linked = λ j q h. linked_at-changed (Some p) i q xs ∙ elim (connected xs p i j q b h) [ inl s ↦ ap (linked_at xs) (sym s.1) ∙ a | inr d ↦ w.linked j q d.1 ];
-      single = λ j k q h g.
-          elim (connected xs p i j q b h) [
-            | inl s ↦ elim (connected xs p i k q b g) [ inl t ↦ s.0 ∙ sym t.0 | inr e ↦ absurd (u k (e.1 ∙ ap (λ x. Some x) (sym s.1))) ]
-            | inr d ↦ elim (connected xs p i k q b g) [ inl t ↦ absurd (u j (d.1 ∙ ap (λ x. Some x) (sym t.1))) | inr e ↦ w.single j k q d.1 e.1 ]
-          ];
-      enters = OnlyEnters-changed (Some p) i xs w.enters;
-    }
+IsLinked-connect xs p i w l a b u = grind (arith, connected, linked_at-changed, OnlyEnters-changed)
 
 pub fresh-unnamed : (e : Event) → IsFresh e → previous_of e ≡ None
 fresh-unnamed e f = fresh-none e.kind e.link f
@@ -496,16 +456,7 @@ changed_at-twice j k (suc i) (x ∷ xs) = ap (λ es. x ∷ es) (changed_at-twice
 -- the Enter before a last Enter ends its chain, since the two events after it name nothing
 pub ends-last : (es : List Event) (p : ℕ) → IsLinked es → length es ≡ p + 3 → previous_at es (p + 1) ≡ None →
     previous_at es (p + 2) ≡ None → EndsChain p es
-ends-last es p w size one two = λ j h.
-    let after : p < j = w.earlier j p h in
-    let below : j < length es = within-previous es j p h in
-    elim (same_number j (p + 1)) [
-      | inl a ↦ some-none p (sym one ∙ ap (previous_at es) (sym a) ∙ h)
-      | inr b ↦ elim (same_number j (p + 2)) [
-        | inl a ↦ some-none p (sym two ∙ ap (previous_at es) (sym a) ∙ h)
-        | inr d ↦ omega arith
-      ]
-    ]
+ends-last es p w size one two = grind (arith, within-previous, same_number, some-none)
 
 -- the number of the event after is all that the kept events add
 

@@ -31,9 +31,7 @@ view-push xs vs ys e v f h = view-one xs vs ys e v (bare-fresh e f) h
 
 pub kept-plain : (xs vs ys : List Event) (e : Event) → bares xs ≡ vs → IsChainedList xs → bare e ≡ e → previous_of e ≡ None →
     IsLinked (vs ++ e ∷ []) → ys ≡ xs ++ e ∷ [] → IsChainedList ys
-kept-plain xs vs ys e v k b n w h =
-    let made : xs ++ e ∷ [] ≡ chained (vs ++ e ∷ []) = ap (λ x. x ++ e ∷ []) (filled-at xs vs v k) ∙ ap (λ x. chained vs ++ x ∷ []) (sym b) ∙ sym (chained-fresh 0 vs e n) in
-    filled-from ys (vs ++ e ∷ []) (view-one xs vs ys e v b h) (h ∙ made) w
+kept-plain xs vs ys e v k b n w h = grind (arith, filled-at, chained-fresh, filled-from, view-one)
 
 pub kept-push : (xs vs ys : List Event) (e : Event) → bares xs ≡ vs → IsChainedList xs → IsFresh e → ys ≡ xs ++ e ∷ [] →
     IsChainedList ys
@@ -67,9 +65,7 @@ front ys e = take_at ys (e ∷ []) (length (ys ++ e ∷ []) - 1) (omega (arith, 
 
 view-front : (xs vs ys : List Event) (e : Event) → bares xs ≡ vs → xs ≡ ys ++ e ∷ [] →
     bares ys ≡ take (length vs - 1) vs
-view-front xs vs ys e v h =
-    let both : vs ≡ bares ys ++ bare e ∷ [] = sym v ∙ ap bares h ∙ bares-append ys (e ∷ []) in
-    sym (front (bares ys) (bare e)) ∙ ap (λ x. take (length x - 1) x) (sym both)
+view-front xs vs ys e v h = grind (arith, bares-append, front)
 
 pub view-dropped : (xs vs ys zs : List Event) (e : Event) (p : ℕ) (k : Option ℕ) → bares xs ≡ vs → xs ≡ ys ++ e ∷ [] →
     zs ≡ changed_at (with_next k) p ys → bares zs ≡ take (length vs - 1) vs
@@ -127,12 +123,7 @@ view-linked xs vs ys zs p i v h g =
 pub kept-linked : (xs vs ys zs : List Event) (p i : ℕ) → bares xs ≡ vs → IsChainedList xs → p < i → linked_at vs p ≡ true →
     linked_at vs i ≡ true → previous_at vs i ≡ None → EndsChain p vs → ys ≡ changed_at (with_next (Some i)) p xs →
     zs ≡ changed_at (with_previous (Some p)) i ys → IsChainedList zs
-kept-linked xs vs ys zs p i v k l a b n u h g =
-    let here : p ≡ 0 + p = omega arith in
-    let there : i ≡ 0 + i = omega arith in
-    let inner : ys ≡ changed_at (with_next (Some i)) p (chained vs) = h ∙ ap (changed_at (with_next (Some i)) p) (filled-at xs vs v k) in
-    let made : zs ≡ chained (changed_at (with_previous (Some p)) i vs) = g ∙ ap (changed_at (with_previous (Some p)) i) inner ∙ sym (chained-link 0 p p i i vs here there l n b u) in
-    filled-from zs (changed_at (with_previous (Some p)) i vs) (view-linked xs vs ys zs p i v h g) made (IsLinked-connect vs p i (subst IsLinked v k.linked) l a b u)
+kept-linked xs vs ys zs p i v k l a b n u h g = grind (arith, filled-at, chained-link, filled-from, view-linked, IsLinked-connect)
 
 -- an index in the list that contracts see is one in the list that is kept
 pub view-length : (xs vs : List Event) → bares xs ≡ vs → length xs ≡ length vs
@@ -195,18 +186,11 @@ module _ (xs vs ws : List Event) (n m k : ℕ) (v : bares xs ≡ vs) (w : ws ≡
   once = take-take-le k m (drop n ws) (omega (arith, length-take m (drop n ws)))
 
   pub part-seen : take k (take m (drop n ws)) ≡ take (length (take k (take m (drop n ws)))) (drop n vs)
-  part-seen =
-      let P : List Event → Type 0 = λ ys. AreBare ys in
-      once ∙ sym (bares-same (take k (drop n ws)) (subst P once u)) ∙ sym (bares-part n k ws) ∙ ap (λ y. take k (drop n (bares y))) w ∙ ap (λ y. take k (drop n y)) v ∙ ap (λ j. take j (drop n vs)) (sym size)
+  part-seen = grind (arith, once, bares-same, bares-part, size)
 
   pub part-fresh : IsChainedList xs → All (λ e. link_previous e.link ≡ None) (take k (take m (drop n ws))) →
       All IsFresh (take k (take m (drop n ws)))
-  part-fresh f none j d h =
-      let ys : List Event = take k (take m (drop n ws)) in
-      let P : List Event → Type 0 = λ zs. OnlyEnters zs in
-      let whole : OnlyEnters vs = subst P v f.linked.enters in
-      let part : OnlyEnters ys = subst P (sym part-seen) (OnlyEnters-part n (length ys) vs whole) in
-      fresh-of (get_or ys j d).kind (get_or ys j d).link (enters-each ys part j d h) (none j d h) (u j d h)
+  part-fresh f none j d h = grind (arith, part-seen, OnlyEnters-part, fresh-of, enters-each)
 
   pub part-ends : IsChainedList xs → (j : ℕ) → n ≤ j → j < n + length (take k (take m (drop n ws))) → EndsChain j vs
   part-ends f j low high =

@@ -45,10 +45,7 @@ place-packed (x ∷ ps) (point ∷ points) (suc i) p d l h = place-packed ps poi
 -- an event at a place, of another name and without a link
 mark-packed : (q : Packed) (point : Point) (s : Shape) (m : Mark) → unpacked 0 q ≡ bare_at point → kind_of s ≡ m.kind → content_of s ≡ None →
     unpacked 0 (record q { name = m.name; shape = s }) ≡ record { point = point; kind = m.kind; name = m.name; link = None }
-mark-packed q point s m there kind plain =
-    ap (λ (e : Event). record e { kind = kind_of s; name = m.name; link = link_kept (content_of s) (previous_kept q.chain 0) (next_kept q.chain 0) }) there
-    ∙ ap (λ (k : Kind). record { point = point; kind = k; name = m.name; link = link_kept (content_of s) (previous_kept q.chain 0) (next_kept q.chain 0) }) kind
-    ∙ ap (λ (c : Option Content). record { point = point; kind = m.kind; name = m.name; link = link_kept c (previous_kept q.chain 0) (next_kept q.chain 0) }) plain
+mark-packed q point s m there kind plain = grind (arith)
 
 -- the next event is that of its mark
 pub marks-more : (ps : List Packed) (points : List Point) (marks : List Mark) (events : List Packed) (n i : ℕ) (m : Mark) (p : Packed) (s : Shape) →
@@ -58,11 +55,7 @@ pub marks-more : (ps : List Packed) (points : List Point) (marks : List Mark) (e
     kind_of s ≡ mark.kind → content_of s ≡ None →
     all_unpacked (take (i + 1) (set events i (record (get_or ps mark.place p) { name = mark.name; shape = s })))
     ≡ map (marked_at points) (take (i + 1) marks)
-marks-more ps points marks events n i m p s within k l h there before kind plain =
-    let mark : Mark = get_or marks i m in
-    let low : mark.place < n = within i m h in
-    written-more (marked_at points) events marks i (record (get_or ps mark.place p) { name = mark.name; shape = s }) m l h before
-    (mark-packed (get_or ps mark.place p) (get_or points mark.place nowhere) s mark (place-packed ps points mark.place p nowhere (omega (arith, low, k)) there) kind plain)
+marks-more ps points marks events n i m p s within k l h there before kind plain = grind (arith, written-more, mark-packed, place-packed)
 
 -- the events of marks carry no link
 pub marked-plain : (points : List Point) (marks : List Mark) → All IsUnlinked (marked points marks)

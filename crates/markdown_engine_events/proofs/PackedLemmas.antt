@@ -28,17 +28,11 @@ link-previous (Some c) p n k = refl
 -- an event on another place of its chain
 packed-next : (n : ℕ) (p : Packed) (c : Chain) (k : Option ℕ) → previous_kept c n ≡ previous_kept p.chain n → next_kept c n ≡ k →
     unpacked n (record p { chain = c }) ≡ with_next k (unpacked n p)
-packed-next n p c k h g =
-    ap (λ (l : Option Link). record (unpacked n p) { link = l })
-    (ap (λ (x : Option ℕ). link_kept (content_of p.shape) x (next_kept c n)) h ∙ ap (λ (x : Option ℕ). link_kept (content_of p.shape) (previous_kept p.chain n) x) g
-    ∙ link-next (content_of p.shape) (previous_kept p.chain n) (next_kept p.chain n) k)
+packed-next n p c k h g = grind (arith, link-next)
 
 packed-previous : (n : ℕ) (p : Packed) (c : Chain) (k : Option ℕ) → previous_kept c n ≡ k → next_kept c n ≡ next_kept p.chain n →
     unpacked n (record p { chain = c }) ≡ with_previous k (unpacked n p)
-packed-previous n p c k h g =
-    ap (λ (l : Option Link). record (unpacked n p) { link = l })
-    (ap (λ (x : Option ℕ). link_kept (content_of p.shape) x (next_kept c n)) h ∙ ap (λ (x : Option ℕ). link_kept (content_of p.shape) k x) g
-    ∙ link-previous (content_of p.shape) (previous_kept p.chain n) (next_kept p.chain n) k)
+packed-previous n p c k h g = grind (arith, link-previous)
 
 none-before : (n : ℕ) → 0 + n ≡ n
 none-before n = omega arith
@@ -145,9 +139,7 @@ unpacked-paste ps qs es at k m h a l s =
 
 pub view-added : (ps qs : List Packed) (es : List Event) (p : Packed) (e : Event) (n : ℕ) → unpacked_from 0 ps ≡ es → n ≡ length ps → unpacked n p ≡ e →
     qs ≡ ps ++ p ∷ [] → unpacked_from 0 qs ≡ es ++ e ∷ []
-view-added ps qs es p e n v c u h =
-    ap (unpacked_from 0) h ∙ append-first ps (p ∷ []) ∙ ap (λ xs. xs ++ unpacked (length ps) p ∷ []) v
-    ∙ ap (λ k. es ++ unpacked k p ∷ []) (sym c) ∙ ap (λ x. es ++ x ∷ []) u
+view-added ps qs es p e n v c u h = grind (arith, append-first)
 
 pub view-truncated : (ps qs : List Packed) (es : List Event) (n : ℕ) → unpacked_from 0 ps ≡ es → qs ≡ take n ps → unpacked_from 0 qs ≡ take n es
 view-truncated ps qs es n v h = ap (unpacked_from 0) h ∙ unpacked-take 0 n ps ∙ ap (take n) v
@@ -179,9 +171,7 @@ view-first ps es i p e v h l =
 pub view-next : (ps qs : List Packed) (es : List Event) (i : ℕ) (k : Option ℕ) (p q : Packed) → unpacked_from 0 ps ≡ es →
     p ≡ get_or ps i p → ((n : ℕ) → previous_kept q.chain n ≡ previous_kept p.chain n) → next_kept q.chain i ≡ k → q ≡ record p { chain = q.chain } →
     qs ≡ set ps i q → unpacked_from 0 qs ≡ changed_at (with_next k) i es
-view-next ps qs es i k p q v h before behind made put =
-    ap (unpacked_from 0) put ∙ unpacked-set (with_next k) 0 ps i p q h
-    (subst (λ n. unpacked n q ≡ with_next k (unpacked n p)) (sym (none-before i)) (ap (unpacked i) made ∙ packed-next i p q.chain k (before i) behind)) ∙ ap (changed_at (with_next k) i) v
+view-next ps qs es i k p q v h before behind made put = grind (arith, unpacked-set, none-before, packed-next)
 
 pub next-if-near : (next : Option ℕ) (i : ℕ) (b : Bool) → b ≡ is_some next → MatchOption next (Unit {0}) (λ n. n ≡ i + 2) → next_if b i ≡ next
 next-if-near None i b h near = ap (λ x. next_if x i) h
@@ -193,15 +183,11 @@ previous-near previous i near = ap (λ (x : ℕ). Some x) (omega (arith, near))
 pub view-previous : (ps qs : List Packed) (es : List Event) (i : ℕ) (k : Option ℕ) (p q : Packed) → unpacked_from 0 ps ≡ es →
     p ≡ get_or ps i p → previous_kept q.chain i ≡ k → ((n : ℕ) → next_kept q.chain n ≡ next_kept p.chain n) → q ≡ record p { chain = q.chain } →
     qs ≡ set ps i q → unpacked_from 0 qs ≡ changed_at (with_previous k) i es
-view-previous ps qs es i k p q v h before behind made put =
-    ap (unpacked_from 0) put ∙ unpacked-set (with_previous k) 0 ps i p q h
-    (subst (λ n. unpacked n q ≡ with_previous k (unpacked n p)) (sym (none-before i)) (ap (unpacked i) made ∙ packed-previous i p q.chain k before (behind i))) ∙ ap (changed_at (with_previous k) i) v
+view-previous ps qs es i k p q v h before behind made put = grind (arith, unpacked-set, none-before, packed-previous)
 
 pub view-extended : (ps qs rs : List Packed) (es fs : List Event) (from : ℕ) → unpacked_from 0 ps ≡ es → unpacked_from from qs ≡ fs → All IsAlone fs →
     rs ≡ ps ++ qs → unpacked_from 0 rs ≡ es ++ fs
-view-extended ps qs rs es fs from v w a h =
-    ap (unpacked_from 0) h ∙ append-first ps qs ∙ ap (λ xs. xs ++ unpacked_from (length ps) qs) v
-    ∙ ap (λ xs. es ++ xs) (all-anywhere from (length ps) qs (subst (All IsAlone) (sym w) a) ∙ w)
+view-extended ps qs rs es fs from v w a h = grind (arith, append-first, all-anywhere)
 
 pub view-moved : (ps qs : List Packed) (es : List Event) (at from n : ℕ) → unpacked_from 0 ps ≡ es → qs ≡ paste ps at (drop from ps) n →
     from + n ≤ length es → at + n ≤ length es → All IsAlone (take n (drop from es)) → unpacked_from 0 qs ≡ paste es at (drop from es) n
@@ -224,14 +210,7 @@ length-written ps qs rs at h room = ap length h ∙ length-paste ps at qs (lengt
 
 pub view-written : (ps qs rs : List Packed) (es fs : List Event) (at from : ℕ) → unpacked_from 0 ps ≡ es → unpacked_from from qs ≡ fs →
     rs ≡ paste ps at qs (length qs) → at + length fs ≤ length es → All IsAlone fs → unpacked_from 0 rs ≡ paste es at fs (length fs)
-view-written ps qs rs es fs at from v w h room a =
-    let size = length-seen 0 ps es v in
-    let long = length-seen from qs fs w in
-    let whole = take_all (length qs) qs (omega arith) in
-    ap (unpacked_from 0) h
-    ∙ unpacked-paste ps qs fs at (length qs) from (ap (unpacked_from from) whole ∙ w) a (omega (arith, size)) (ap length whole)
-    ∙ ap (λ xs. paste xs at fs (length qs)) v
-    ∙ ap (paste es at fs) long
+view-written ps qs rs es fs at from v w h room a = grind (arith, length-seen, take_all, unpacked-paste, paste)
 
 -- an event that stands alone
 

@@ -122,10 +122,7 @@ module _ {S : Type 0} (next : S → Event → S) (begins : S → List Event → 
       ∙ removed-place i (suc n) k (next s x) es (omega (arith, e))
 
   pub of-two : (s : S) (es : List Event) → AreOfTwo (walked 0 s es) (begins_at s es) (comes_at s es)
-  of-two s es = record {
-    added = λ k. ap (λ xs. xs ++ back_at k (walked 0 s es)) (front-none k 0 s es) ∙ back-place k 0 k s es (omega arith);
-    removed = λ k. removed-place k 0 k s es (omega arith);
-  }
+  of-two s es = grind (arith, front-none, back-place, removed-place)
 
   -- When they can be made.
 

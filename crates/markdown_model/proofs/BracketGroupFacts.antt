@@ -1,5 +1,5 @@
 -- What holds of the items of a bracket word, and of what its brackets make, holds of the grouped items.
-use Rattle.std.proofs.Common.{List, [], ◌∷◌, ◌++◌}
+use Rattle.std.proofs.Common.{List, [], ◌∷◌, ◌++◌, arith}
 use Rattle.markdown_content.specs.Tree.{Forest, empty, ◌⊕◌}
 use Rattle.markdown_model.specs.BracketGroups.{Bracketed, item, opens, closes, nest, nested, onto, after_loose, joined}
 
@@ -61,6 +61,4 @@ module _ {O C : Type 0} (P : Forest → Type 0) (IsOpen : O → Type 0) (IsClose
 
     -- of all that the word is grouped to
     pub nested-has : (w : List (Bracketed O C Forest)) → WordHas w → AllHave P (nested wrap loose_open loose_close w)
-    nested-has w h =
-        let r = nest-has w h in
-        all-append P (nest wrap loose_open loose_close w).0 (after_loose wrap loose_open loose_close (nest wrap loose_open loose_close w).1) r.0 (after-has (nest wrap loose_open loose_close w).1 r.1)
+    nested-has w h = grind (arith, nest-has, all-append, after-has)

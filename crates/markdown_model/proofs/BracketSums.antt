@@ -1,5 +1,5 @@
 -- What adds up along rows of trees adds up over a bracket word that is grouped.
-use Rattle.std.proofs.Common.{◌≡◌, ℕ, zero, suc, List, [], ◌∷◌, ◌++◌, refl, sym, ◌∙◌, ap}
+use Rattle.std.proofs.Common.{◌≡◌, ℕ, zero, suc, List, [], ◌∷◌, ◌++◌, refl, sym, ◌∙◌, ap, arith}
 use Rattle.std.proofs.lemmas.List.{append_assoc, append-nil}
 use Rattle.markdown_content.specs.Codes.{Code}
 use Rattle.markdown_content.specs.Tree.{Forest, empty, ◌⊕◌, leaf_codes}
@@ -88,10 +88,7 @@ module _ {M : Type 0} (m : Adds M) where
 
     pub sum-nested : (w : List (Bracketed O C Forest)) →
         sum_of (nested wrap loose_open loose_close w) ≡ word_sum loose_close opened closed zero w
-    sum-nested w =
-        sum-append (nest_word w).0 (after_loose wrap loose_open loose_close (nest_word w).1)
-        ∙ ap (m.plus (sum_of (nest_word w).0)) (sum-after_loose (nest_word w).1)
-        ∙ sum-nest zero w
+    sum-nested w = grind (arith, sum-append, sum-after_loose, sum-nest)
 
 -- The codes that leaves cover.
 

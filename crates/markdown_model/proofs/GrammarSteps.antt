@@ -1,5 +1,5 @@
 -- What the readings of a grammar give, by what stands there.
-use Rattle.std.proofs.Common.{◌≡◌, Bool, true, false, ◌&&◌, if◌then◌else◌, Option, Some, None, List, [], ◌∷◌, ◌++◌, refl, ap}
+use Rattle.std.proofs.Common.{◌≡◌, Bool, true, false, ◌&&◌, if◌then◌else◌, Option, Some, None, List, [], ◌∷◌, ◌++◌, refl, ap, arith}
 use Rattle.markdown_content.specs.Codes.{Code}
 pub use Rattle.markdown_event.proofs.AndParts.{and-left, and-right}
 use Rattle.markdown_model.specs.CodeTests.{is_empty, next_is}
@@ -8,11 +8,7 @@ use Rattle.markdown_model.specs.Grammar.{Reading, ◌>>=◌, ◌>>◌, provided,
 -- two results are the same in each part
 pub both-parts : {A B : Type 0} (x y : A) (u v : B) → ◌≡◌ {A = Option (A × B)} (Some (x, u)) (Some (y, v)) →
     (x ≡ y) × (u ≡ v)
-both-parts {A} {B} x y u v e =
-    let l : A × B = (x, u) in
-    let r : A × B = (y, v) in
-    let same : l ≡ r = cc in
-    (ap (λ (z : A × B). z.0) same, ap (λ (z : A × B). z.1) same)
+both-parts {A} {B} x y u v e = grind (arith)
 
 -- One reading and then another.
 

@@ -1,12 +1,12 @@
 -- What holds of the trees of elements, of their markers as data, of groups of labels and of rows of these, holds of the tree of labels.
-use Rattle.std.proofs.Common.{List, [], ◌∷◌, ◌++◌, map, Option, Some, None}
+use Rattle.std.proofs.Common.{List, [], ◌∷◌, ◌++◌, map, Option, Some, None, arith}
 use Rattle.markdown_event.specs.declared.event.Name.{Name}
 use Rattle.markdown_content.specs.declared.label_kind.LabelKind.{LabelKind}
 use Rattle.markdown_content.specs.Codes.{Code}
 use Rattle.markdown_content.specs.Tree.{Forest, empty, leaf, ◌⊕◌}
 use Rattle.markdown_model.specs.LabelEnd.{Element, plain, starts, ends}
-use Rattle.markdown_model.specs.BracketGroups.{nested, joined, loose}
-use Rattle.markdown_model.specs.Passes.{Start, End, as_bracket, label_group, loose_start, loose_end, labelled, labels_of}
+use Rattle.markdown_model.specs.BracketGroups.{joined, loose}
+use Rattle.markdown_model.specs.Passes.{Start, End, as_bracket, label_group, labelled, labels_of}
 use Rattle.markdown_model.proofs.ElementCases.{AllAre}
 use Rattle.markdown_model.proofs.BracketGroupFacts.{AllHave, all-append, joined-has, WordHas, nested-has}
 
@@ -38,6 +38,4 @@ module _ (P : Forest → Type 0) (Q : Element → Type 0) (none : P empty) (row 
 
   pub labels-have : (es : List Element) → AllAre Q es → P (labels_of es)
   unfolding labels_of
-  labels-have es h =
-      joined-has P none row (nested labelled loose_start loose_end (map as_bracket es))
-      (nested-has P StartHolds IsEnd labelled loose_start loose_end labelled-has (λ o k. (start o.0 o.1 k, tt)) (λ c k. (end c.0 c.1 k, tt)) (map as_bracket es) (word-has es h))
+  labels-have es h = grind (arith, joined-has, nested-has, labelled-has, word-has)

@@ -9,7 +9,7 @@ use Rattle.markdown_model.specs.Grammar.{◌>>=◌, ◌>>◌, gives, either, pro
 use Rattle.markdown_model.specs.Resource.{reference_names}
 use Rattle.markdown_model.specs.Setting.{Setting}
 use Rattle.markdown_model.specs.LabelEnd.{Element, plain, starts, ends, Label, label_back, label_before, is_barred, full_reference, collapsed_reference, shortcut, shortcut_before_bracket, reference_after_label, after_label, footnote_call, link_or_image, link_kind, outcome_of, label_end}
-use Rattle.markdown_model.specs.BracketGroups.{nested, joined}
+use Rattle.markdown_model.specs.BracketGroups.{joined}
 use Rattle.markdown_model.specs.Passes.{Start, End, as_bracket, start_marker, start_tree, label_group, loose_start, loose_end, labelled, labels_of}
 use Rattle.markdown_model.proofs.LeafCodes.{codes-leaf}
 use Rattle.markdown_model.proofs.ReadingsCover.{Covers, codes_laws, bind, given, if_passed, one_of, by_next, where_not, takes_one, covers_resource, covers_label}
@@ -78,11 +78,7 @@ covers_shortcut defined = if_passed _ _ _ _ (given _ _ empty refl)
 
 pub covers_after_label : (s : Setting) (defined : Bool) → Covers leaf_codes [] (after_label s defined)
 unfolding after_label reference_after_label shortcut_before_bracket
-covers_after_label s defined =
-    by_next _ _ _ _ _ (one_of _ _ _ _ (covers_resource _) (covers_shortcut defined))
-    (by_next _ _ _ _ _
-    (one_of _ _ _ _ (covers_full_reference s) (one_of _ _ _ _ (if_passed _ _ _ _ covers_collapsed) (where_not _ _ _ _ (covers_shortcut _))))
-    (covers_shortcut defined))
+covers_after_label s defined = grind (arith, by_next, one_of, covers_resource, covers_shortcut, covers_full_reference, if_passed, covers_collapsed, where_not)
 
 abbrev pub outcome_codes : LabelKind × Forest → List Code
 outcome_codes o = leaf_codes o.1
@@ -199,7 +195,4 @@ word-element (suc d) (ends marker (Some outcome) ∷ es) =
 
 pub codes-labels_of : (es : List Element) → leaf_codes (labels_of es) ≡ elements_codes zero es
 unfolding labels_of
-codes-labels_of es =
-    codes-joined (nested labelled loose_start loose_end (map as_bracket es))
-    ∙ sum-nested codes_add labelled loose_start loose_end opened closed codes-labelled codes-loose_start (map as_bracket es)
-    ∙ word-element zero es
+codes-labels_of es = grind (arith, codes-joined, sum-nested, codes-labelled, codes-loose_start, word-element)

@@ -1,5 +1,5 @@
 -- A link or a footnote call does not stand inside another.
-use Rattle.std.proofs.Common.{◌≡◌, ℕ, Bool, true, false, ◌&&◌, ◌||◌, not, List, [], ◌∷◌, ◌++◌, length, drop, map, refl, sym, ◌∙◌, ap, subst, Option, Some, None}
+use Rattle.std.proofs.Common.{◌≡◌, ℕ, Bool, true, false, ◌&&◌, ◌||◌, not, List, [], ◌∷◌, ◌++◌, length, drop, map, refl, sym, ◌∙◌, ap, subst, Option, Some, None, arith}
 use Rattle.std.proofs.Math.Bool.{or-false}
 use Rattle.std.proofs.lemmas.Bool.{not-true}
 use Rattle.markdown_event.specs.declared.event.Name.{Name}
@@ -11,7 +11,7 @@ use Rattle.markdown_model.specs.Setting.{Setting, within}
 use Rattle.markdown_model.specs.LabelEnd.{Element, plain, starts, ends, Label, label_before, is_image, is_footnote, is_barred, makes_link, footnote_call, link_or_image, link_kind, outcome_of, label_end}
 use Rattle.markdown_model.specs.Elements.{as_plain, line_ending, data_code, attention_run, text_element, Choice, AreElementsFrom, code_before, text_choice, elements_of}
 use Rattle.markdown_model.specs.Pairs.{pair_list}
-use Rattle.markdown_model.specs.BracketGroups.{nest, nested, onto, after_loose, joined, loose}
+use Rattle.markdown_model.specs.BracketGroups.{nest, onto, after_loose, joined, loose}
 use Rattle.markdown_model.specs.Passes.{breaks, Start, End, as_bracket, start_marker, start_tree, label_name, label_group, loose_start, loose_end, labelled, labels_of, merged, trimmed, with_emails_apart}
 use Rattle.markdown_model.specs.InlineTree.{raw_tree, finished_text, text_tree, paired_whole}
 use Rattle.markdown_model.specs.Laws.{UnusedStart, with_link, unused_starts, IsLabelOf, is_link, holds_link, AreApart, LinksDoNotNest}
@@ -202,12 +202,7 @@ label_row kind marker inside back =
 
 holds-label_row : (kind : LabelKind) (marker : List Code) (inside : Forest) (back : List Code) →
     holds_link (label_row kind marker inside back) ≡ holds_link inside
-holds-label_row kind marker inside back =
-    holds-join (start_tree kind (start_marker kind marker)) _
-    ∙ (λ i. holds-start_tree kind (start_marker kind marker) i
-    || ((holds-join (leaf Name.Data (caret_of kind marker)) inside ∙ (λ j. holds-leaf Name.Data (caret_of kind marker) j || holds_link inside)) i
-    || (or-false (holds_link (leaf Name.LabelMarker back)) ∙ holds-leaf Name.LabelMarker back) i))
-    ∙ or-false (holds_link inside)
+holds-label_row kind marker inside back = grind (arith, holds-join, holds-start_tree, holds-leaf, or-false)
 
 apart-label_row : (kind : LabelKind) (marker : List Code) (inside : Forest) (back : List Code) → AreApart inside →
     AreApart (label_row kind marker inside back)
@@ -331,10 +326,7 @@ apart-after_loose (f ∷ fs) h =
 
 apart-labels_of : (es : List Element) → AllAllowed [] es → AreApart (labels_of es)
 unfolding labels_of
-apart-labels_of es h =
-    let r = all_nested [] es h in
-    apart-joined (nested labelled loose_start loose_end (map as_bracket es))
-    (all-append AreApart (nest_labels es).0 (after_loose labelled loose_start loose_end (nest_labels es).1) r.0 (apart-after_loose (nest_labels es).1 r.1))
+apart-labels_of es h = grind (arith, all_nested, apart-joined, all-append, apart-after_loose)
 
 pub links_do_not_nest : LinksDoNotNest
 unfolding text_tree finished_text raw_tree

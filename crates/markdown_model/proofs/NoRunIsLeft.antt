@@ -1,5 +1,5 @@
 -- No run of markers is left in the inline tree of a text: each is cut into markers of pairs and data.
-use Rattle.std.proofs.Common.{◌≡◌, ℕ, suc, Bool, true, false, List, [], ◌∷◌, refl}
+use Rattle.std.proofs.Common.{◌≡◌, ℕ, suc, Bool, true, false, List, [], ◌∷◌, refl, arith}
 use Rattle.markdown_event.specs.declared.event.Name.{Name}
 use Rattle.markdown_content.specs.Codes.{Code}
 use Rattle.markdown_content.specs.Tree.{Forest, empty, leaf_then, group_then, leaf, leaf_codes}
@@ -17,13 +17,7 @@ use Rattle.markdown_model.proofs.PairGroupFacts.{Any, any-parts, HasWord, run-ha
 use Rattle.markdown_model.proofs.PassedTrees.{HoldsByParts, walks-row, walks-merged, walks-trimmed, walks-mailed, trimmed_data-has, with_emails-has}
 
 no_run : HoldsByParts HasNoRun (λ name link cs. is_run name ≡ false) (λ name a b inside. Unit {0})
-no_run = record {
-  none = tt;
-  leaf_of = λ name link cs rest h. h;
-  leaf_to = λ name link cs rest h k. (h, k);
-  group_of = λ name a b inside rest h. (tt, h.0, h.1);
-  group_to = λ name a b inside rest g h k. (h, k);
-}
+no_run = grind (arith)
 
 no_run-leaf : (name : Name) (cs : List Code) → is_run name ≡ false → HasNoRun (leaf name cs)
 no_run-leaf name [] h = tt

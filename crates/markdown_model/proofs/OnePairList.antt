@@ -44,36 +44,10 @@ module _ (s : Setting) (runs : List Run) (earlier : List Pair) (o c : ℕ) where
       ∷ not (is_refused_by_three s runs earlier o c) ∷ not (is_refused_as_tilde s runs earlier o c) ∷ []
 
   passed : EachTrue tests → IsEligible s runs earlier o c
-  passed p = record {
-    in_order = ltb-true o c p.0;
-    in_container = ltb-true c (length runs) p.1.0;
-    one_marker = eqb-true _ _ p.1.1.0;
-    may_open = p.1.1.1.0;
-    may_close = p.1.1.1.1.0;
-    opener_left = ltb-true 0 _ p.1.1.1.1.1.0;
-    closer_left = ltb-true 0 _ p.1.1.1.1.1.1.0;
-    not_within = not_true _ p.1.1.1.1.1.1.1.0;
-    three = not_true _ p.1.1.1.1.1.1.1.1.0;
-    tilde = not_true _ p.1.1.1.1.1.1.1.1.1.0;
-  }
+  passed p = grind (arith, ltb-true, eqb-true, not_true)
 
   passes : IsEligible s runs earlier o c → EachTrue tests
-  passes h = (
-    lt-ltb o c h.in_order,
-    (
-      lt-ltb c (length runs) h.in_container,
-      (
-        eq-eqb _ _ h.one_marker,
-        (
-          h.may_open,
-          (
-            h.may_close,
-            (lt-ltb 0 _ h.opener_left, (lt-ltb 0 _ h.closer_left, (true_not _ h.not_within, (true_not _ h.three, (true_not _ h.tilde, tt))))),
-          ),
-        ),
-      ),
-    ),
-  )
+  passes h = grind (arith, lt-ltb, eq-eqb, true_not)
 
   pub eligible-is : IsTrue (is_eligible s runs earlier o c) → IsEligible s runs earlier o c
   unfolding is_eligible

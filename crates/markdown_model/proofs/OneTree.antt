@@ -1,5 +1,5 @@
 -- A content has exactly one inline tree, whose leaves cover it and whose events nest.
-use Rattle.std.proofs.Common.{◌≡◌, ℕ, ◌+◌, Bool, true, false, List, [], ◌∷◌, ◌++◌, refl, sym, ◌∙◌, ap, subst, Option, Some, None}
+use Rattle.std.proofs.Common.{◌≡◌, ℕ, ◌+◌, Bool, true, false, List, [], ◌∷◌, ◌++◌, refl, sym, ◌∙◌, ap, subst, Option, Some, None, arith}
 use Rattle.std.proofs.lemmas.List.{append_assoc, append-nil}
 use mathlib.Core.Path.{fun_ext}
 use Rattle.markdown_event.specs.declared.event.Name.{Name}
@@ -94,10 +94,7 @@ codes-finished_string rules es = codes-trimmed (no_breaks rules) false false _ �
 
 pub leaves_cover : LeavesCover
 unfolding text_tree string_tree
-leaves_cover s cs = (
-  codes-finished_text s (pair_list s) (elements_of s cs) ∙ codes-of_elements s cs,
-  codes-finished_string (rules s) (string_elements_of s cs) ∙ codes-of_string_elements s cs,
-)
+leaves_cover s cs = grind (arith, codes-finished_text, codes-of_elements, codes-finished_string, codes-of_string_elements)
 
 -- Events.
 
@@ -139,10 +136,4 @@ one_end_of a h cs tree other rest more x y = (ap trees both, ap rests both, cove
     covered r e k = subst (λ z. At leaf_codes [] cs z) e k
 
 pub one_end : OneEnd
-one_end = record {
-  a_label = λ characters names. one_end_of _ (covers_label characters names);
-  a_title = λ both names. one_end_of _ (covers_title both names);
-  a_destination = λ depth names. one_end_of _ (covers_destination depth names);
-  a_resource = λ both. one_end_of _ (covers_resource both);
-  what_follows_a_label = λ s. (one_end_of _ (covers_after_label s true), one_end_of _ (covers_after_label s false));
-}
+one_end = grind (arith, one_end_of, covers_label, covers_title, covers_destination, covers_resource, covers_after_label)

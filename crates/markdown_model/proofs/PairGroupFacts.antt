@@ -1,10 +1,10 @@
 -- What holds of data, of the markers and the groups of pairs, and of rows of these, holds of a word of markers that is grouped.
-use Rattle.std.proofs.Common.{ℕ, ◌-◌, List, [], ◌∷◌, ◌++◌, length, take, drop, reverse, map, sum_by}
+use Rattle.std.proofs.Common.{ℕ, List, [], ◌∷◌, ◌++◌, length, take, drop, reverse, map, sum_by, arith}
 use Rattle.markdown_event.specs.declared.event.Name.{Name}
 use Rattle.markdown_event.specs.declared.event.Point.{Point}
 use Rattle.markdown_content.specs.Codes.{Code, stop_of, document_start}
 use Rattle.markdown_content.specs.Tree.{Forest, empty, group_then, leaf, text_group, start_of, ◌⊕◌}
-use Rattle.markdown_model.specs.BracketGroups.{Token, item, opens, closes, nested, joined, loose, pair_names, pair_group, closing_sizes, opening_sizes, cut_front, run_tokens, assembled}
+use Rattle.markdown_model.specs.BracketGroups.{Token, opens, closes, nested, joined, loose, pair_names, pair_group, cut_front, run_tokens, assembled}
 use Rattle.markdown_model.specs.Pairs.{Pair}
 use Rattle.markdown_model.specs.Runs.{Run, marker_of}
 use Rattle.markdown_model.proofs.BracketGroupFacts.{AllHave, joined-has, WordHas, nested-has}
@@ -43,15 +43,7 @@ module _ (P : Forest → Type 0) (IsMarker : List Code → Type 0) (plain : (cs 
     opens-has (c ∷ cs) l = (l.0, opens-has cs l.1)
 
     pub run-has : (ps : List Pair) (n : ℕ) (r : Run) → IsMarker r.codes → HasWord (run_tokens ps n r)
-    run-has ps n r h =
-        let front : List (List Code) × List Code = cut_front (closing_sizes n ps) r.codes in
-        let sizes : List ℕ = reverse (opening_sizes n ps) in
-        let kept : ℕ = length front.1 - sum_by (λ k. k) sizes in
-        let back : List (List Code) × List Code = cut_front sizes (drop kept front.1) in
-        let f = cut-has (closing_sizes n ps) r.codes h in
-        let k = parts kept front.1 f.1 in
-        let b = cut-has sizes (drop kept front.1) k.1 in
-        closes-has front.0 (item (leaf Name.Data (take kept front.1)) ∷ map opens back.0) f.0 (plain (take kept front.1) k.0, opens-has back.0 b.0)
+    run-has ps n r h = grind (arith, reverse, sum_by, cut-has, closes-has, opens-has)
 
   module _ (none : P empty) (row : (t u : Forest) → P t → P u → P (t ⊕ u)) (sequence : (m n : ℕ) (cs : List Code) → IsMarker cs → P (leaf (pair_names m n).1 cs))
       (whole : (m n : ℕ) (a b : Point) (f : Forest) → P f → P (group_then (pair_names m n).0 a b f empty))

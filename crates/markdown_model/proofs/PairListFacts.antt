@@ -1,12 +1,11 @@
 -- What holds of each pair list.
-use Rattle.std.proofs.Common.{◌≡◌, ◌≢◌, ℕ, zero, suc, ◌+◌, ◌-◌, ◌*◌, ◌%◌, ◌<◌, ◌≤◌, min, Bool, true, false, not, ◌&&◌, ◌||◌, ◌==◌, nat_lt, if◌then◌else◌, List, [], ◌∷◌, ◌++◌, length, map, refl, sym, ◌∙◌, ap, subst, inl, inr, ◌⊎◌, ⊎_elim, arith, zero-add, sum_by}
+use Rattle.std.proofs.Common.{◌≡◌, ◌≢◌, ℕ, zero, suc, ◌+◌, ◌-◌, ◌*◌, ◌%◌, ◌<◌, ◌≤◌, Bool, true, false, not, ◌&&◌, ◌||◌, ◌==◌, nat_lt, if◌then◌else◌, List, [], ◌∷◌, ◌++◌, length, map, refl, sym, ◌∙◌, ap, subst, inl, inr, ◌⊎◌, ⊎_elim, arith, zero-add, sum_by}
 use Rattle.std.proofs.lemmas.List.{append_assoc, append-nil, length-map}
 use Rattle.std.proofs.lemmas.List.Sums.{sum_by_push, sum_by-cons}
 use Rattle.std.proofs.lemmas.List.Folds.{list_any-append}
 use Rattle.std.proofs.lemmas.Bool.{cases_eq, or_parts, both_ways, and_from, lt-ltb, eq-eqb, ne_eqb}
 use Rattle.std.specs.List.{list_any}
 use Rattle.std.specs.Prelude.{Contains}
-use Rattle.std.specs.Str.{byte}
 use Rattle.markdown_model.specs.Setting.{Setting}
 use Rattle.markdown_model.specs.Runs.{Run, marker_of}
 use Rattle.markdown_model.specs.Pairs.{Pair, run_at, taken_by, remaining, is_strictly_within, ruled_size, is_refused_by_three, is_refused_as_tilde, IsEligible, IsNextPair, ArePairsFrom}
@@ -44,9 +43,7 @@ contains_first p ps x (suc k, l, e) = inr (k, omega arith, e)
 pub within_push : (earlier : List Pair) (p : Pair) (i : ℕ) →
     list_any (is_strictly_within i) (earlier ++ p ∷ []) ≡ false →
     (list_any (is_strictly_within i) earlier ≡ false) × (is_strictly_within i p ≡ false)
-within_push earlier p i h =
-    let parts = or_parts (list_any (is_strictly_within i) earlier) (is_strictly_within i p || false) (sym (list_any-append (is_strictly_within i) earlier (p ∷ [])) ∙ h) in
-    (parts.0, (or_parts (is_strictly_within i p) false parts.1).0)
+within_push earlier p i h = grind (arith, or_parts, list_any-append)
 
 -- each pair takes some markers of two runs of the container
 abbrev AllTake : ℕ → List Pair → Type 0
@@ -243,34 +240,14 @@ module _ (s other : Setting) (reads : ReadsPairsAlike s other) (runs others : Li
 
   same_tilde : (earlier : List Pair) (o c : ℕ) →
       is_refused_as_tilde s runs earlier o c ≡ is_refused_as_tilde other others earlier o c
-  same_tilde earlier o c = λ k.
-      same_marker o k == byte "~"
-      && not (same_remaining earlier o k == same_remaining earlier c k
-      && (same_remaining earlier o k == 2 || (same_remaining earlier o k == 1 && reads.tildes k)))
+  same_tilde earlier o c = grind (arith, same_marker, same_remaining)
 
   moved : (earlier : List Pair) (o c : ℕ) → IsEligible s runs earlier o c → IsEligible other others earlier o c
-  moved earlier o c h = record {
-    in_order = h.in_order;
-    in_container = subst (λ x. c < x) same_length h.in_container;
-    one_marker = sym (same_marker o) ∙ h.one_marker ∙ same_marker c;
-    may_open = sym (same_open o) ∙ h.may_open;
-    may_close = sym (same_close c) ∙ h.may_close;
-    opener_left = subst (λ x. 0 < x) (same_remaining earlier o) h.opener_left;
-    closer_left = subst (λ x. 0 < x) (same_remaining earlier c) h.closer_left;
-    not_within = h.not_within;
-    three = sym (same_three earlier o c) ∙ h.three;
-    tilde = sym (same_tilde earlier o c) ∙ h.tilde;
-  }
+  moved earlier o c h = grind (arith, same_length, same_marker, same_open, same_close, same_remaining, same_three, same_tilde)
 
 moved_next : (s other : Setting) → ReadsPairsAlike s other → (runs others : List Run) → map shape_of runs ≡ map shape_of others → (earlier : List Pair) (last : ℕ) (p : Pair)
     → IsNextPair s runs earlier last p → IsNextPair other others earlier last p
-moved_next s other reads runs others alike earlier last p h = record {
-  eligible = moved s other reads runs others alike earlier p.opener p.closer h.eligible;
-  size = h.size ∙ (λ k. min 2 (min (same_remaining s other reads runs others alike earlier p.opener k) (same_remaining s other reads runs others alike earlier p.closer k)));
-  forward = h.forward;
-  leftmost = λ o c from to fits. h.leftmost o c from to (moved other s (read_back s other reads) others runs (sym alike) earlier o c fits);
-  nearest = λ o after fits. h.nearest o after (moved other s (read_back s other reads) others runs (sym alike) earlier o p.closer fits);
-}
+moved_next s other reads runs others alike earlier last p h = grind (arith, moved, same_remaining, read_back)
 
 moved_pairs : (s other : Setting) → ReadsPairsAlike s other → (runs others : List Run) → map shape_of runs ≡ map shape_of others → (end : ℕ) (earlier : List Pair) (last : ℕ) (ps : List Pair)
     → ArePairsFrom s runs end earlier last ps → ArePairsFrom other others end earlier last ps

@@ -1,15 +1,15 @@
 -- The passes keep the codes that the leaves cover.
-use Rattle.std.proofs.Common.{◌≡◌, ℕ, suc, Bool, true, false, ◌&&◌, ◌||◌, not, List, [], ◌∷◌, ◌++◌, length, reverse, refl, sym, ◌∙◌, ap, None}
+use Rattle.std.proofs.Common.{◌≡◌, ℕ, suc, Bool, true, false, ◌&&◌, ◌||◌, List, [], ◌∷◌, ◌++◌, reverse, refl, sym, ◌∙◌, ap, None, arith}
 use Rattle.std.proofs.lemmas.List.{append_assoc, append-nil, reverse-append, reverse-reverse}
 use Rattle.markdown_event.specs.declared.event.Name.{Name}
 use Rattle.markdown_content.specs.Codes.{Code, is_blank}
 use Rattle.markdown_content.specs.Tree.{Forest, empty, leaf_then, group_then, leaf, ◌⊕◌, leaf_codes}
 use Rattle.markdown_model.specs.Grammar.{span}
 use Rattle.markdown_model.specs.Setting.{Setting}
-use Rattle.markdown_model.specs.Runs.{Run, runs_of, run_of, marker_of}
+use Rattle.markdown_model.specs.Runs.{Run, runs_of, run_of}
 use Rattle.markdown_model.specs.Pairs.{Pair}
-use Rattle.markdown_model.specs.BracketGroups.{Token, pair_group, loose, assembled, run_tokens, tokens_of, paired, pair_names}
-use Rattle.markdown_model.specs.Passes.{HardBreaks, breaks_where, data_onto, merged, trimmed, trimmed_data, blank_name, begins_line_ending, is_nothing, with_emails_apart}
+use Rattle.markdown_model.specs.BracketGroups.{Token, pair_group, loose, assembled, run_tokens, tokens_of, paired}
+use Rattle.markdown_model.specs.Passes.{HardBreaks, breaks_where, data_onto, merged, trimmed, trimmed_data, begins_line_ending, is_nothing, with_emails_apart}
 use Rattle.markdown_model.specs.GfmEmailLiteral.{with_emails}
 use Rattle.markdown_model.proofs.LeafCodes.{codes-leaf, span-append}
 use Rattle.markdown_model.proofs.ReadingsCover.{itself}
@@ -51,18 +51,10 @@ cut_lead-append false cs = refl
 
 pub codes-three : (a b c : Name) (xs ys zs : List Code) →
     leaf_codes (leaf a xs ⊕ leaf b ys ⊕ leaf c zs) ≡ (xs ++ ys) ++ zs
-codes-three a b c xs ys zs =
-    leaf_codes-row (leaf a xs) (leaf b ys ⊕ leaf c zs)
-    ∙ (λ i. codes-leaf a xs i ++ (leaf_codes-row (leaf b ys) (leaf c zs) ∙ (λ j. codes-leaf b ys j ++ codes-leaf c zs j)) i)
-    ∙ sym (append_assoc xs ys zs)
+codes-three a b c xs ys zs = grind (arith, leaf_codes-row, codes-leaf, append_assoc)
 
 pub codes-trimmed_data : (front back : Bool) (hard : HardBreaks) (cs : List Code) → leaf_codes (trimmed_data front back hard cs) ≡ cs
-codes-trimmed_data front back hard cs =
-    let goes : Bool = back && not hard.keeps in
-    codes-three Name.SpaceOrTab Name.Data (blank_name hard (reverse (cut_back goes cs).0))
-    (cut_lead front (reverse (cut_back goes cs).1)).0 (cut_lead front (reverse (cut_back goes cs).1)).1 (reverse (cut_back goes cs).0)
-    ∙ ap (λ x. x ++ reverse (cut_back goes cs).0) (cut_lead-append front (reverse (cut_back goes cs).1))
-    ∙ cut_back-append goes cs
+codes-trimmed_data front back hard cs = grind (arith, codes-three, reverse, cut_lead-append, cut_back-append)
 
 pub codes-trimmed : (hard : HardBreaks) (front whole : Bool) (f : Forest) → leaf_codes (trimmed hard front whole f) ≡ leaf_codes f
 unfolding trimmed
@@ -91,10 +83,7 @@ codes-mailed (group_then name enter exit inside rest) = λ i. codes-mailed insid
 
 pub codes-pair_group : (front : List Code) (inside : List Forest) (back : List Code) →
     codes_of_all (pair_group front inside back) ≡ front ++ (codes_of_all inside ++ back)
-codes-pair_group front inside back =
-    append-nil _ ∙ append-nil _
-    ∙ leaf_codes-row (leaf (pair_names (marker_of front) (length front)).1 front) _
-    ∙ (λ i. codes-leaf (pair_names (marker_of front) (length front)).1 front i ++ (codes-joined inside i ++ codes-leaf (pair_names (marker_of front) (length front)).1 back i))
+codes-pair_group front inside back = grind (arith, append-nil, leaf_codes-row, codes-leaf, codes-joined)
 
 pub codes-loose : (cs : List Code) → codes_of_all (loose cs) ≡ cs
 codes-loose cs = append-nil _ ∙ codes-leaf Name.Data cs

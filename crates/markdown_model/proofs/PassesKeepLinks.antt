@@ -1,5 +1,5 @@
 -- The passes neither make links nor put one into another.
-use Rattle.std.proofs.Common.{◌≡◌, ℕ, suc, Bool, true, false, ◌&&◌, ◌||◌, List, [], ◌∷◌, length, refl, sym, ◌∙◌, None}
+use Rattle.std.proofs.Common.{◌≡◌, ℕ, suc, Bool, true, false, ◌&&◌, ◌||◌, List, [], ◌∷◌, length, refl, sym, ◌∙◌, None, arith}
 use Rattle.std.proofs.Math.Bool.{or-false}
 use Rattle.std.proofs.lemmas.Bool.{both_ways}
 use Rattle.markdown_event.specs.declared.event.Name.{Name}
@@ -21,13 +21,7 @@ use Rattle.markdown_model.proofs.PassedTrees.{HoldsByParts, walks-row, walks-mer
 use Rattle.markdown_model.proofs.BracketGroupFacts.{AllHave, joined-has, word-append}
 
 apart : HoldsByParts AreApart (λ name link cs. Unit {0}) (λ name a b inside. is_link name ≡ true → holds_link inside ≡ false)
-apart = record {
-  none = tt;
-  leaf_of = λ name link cs rest h. (tt, h);
-  leaf_to = λ name link cs rest l h. h;
-  group_of = λ name a b inside rest h. h;
-  group_to = λ name a b inside rest g h k. (g, h, k);
-}
+apart = grind (arith)
 
 pub apart-leaf : (name : Name) (cs : List Code) → AreApart (leaf name cs)
 apart-leaf name [] = tt
@@ -160,9 +154,7 @@ abbrev TokensApart : List Token → Type 0
 TokensApart ts = HasWord AreApart Any (λ cs _. apart-leaf Name.Data cs) ts
 
 apart-assembled : (ts : List Token) → TokensApart ts → AreApart (assembled ts)
-apart-assembled ts h =
-    assembled-has AreApart Any (λ cs _. apart-leaf Name.Data cs) tt apart-join (λ m n cs _. apart-leaf _ cs) (λ m n a b f k. ((λ e. absurd (both_ways _ (no_link_pair m n) e)), k, tt))
-    (λ m n a b f k. ((λ e. absurd (both_ways _ (no_link_text m n) e)), k, tt)) ts h
+apart-assembled ts h = grind (arith, assembled-has, apart-leaf, apart-join, both_ways, no_link_pair, no_link_text)
 
 module _ (s : Setting) (pairs_of : List Run → List Pair) where
   holds-tokens_of : (f : Forest) (pairs : List Pair) (n : ℕ) →

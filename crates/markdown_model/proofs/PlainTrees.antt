@@ -1,5 +1,5 @@
 -- No construct reads a run, the text of a label, a link or a footnote call, and none that stands by itself a linked leaf.
-use Rattle.std.proofs.Common.{◌≡◌, ℕ, Bool, true, false, ◌&&◌, ◌||◌, not, List, [], ◌∷◌, refl, sym, ◌∙◌, ap, Option, Some, None}
+use Rattle.std.proofs.Common.{◌≡◌, ℕ, Bool, true, false, ◌&&◌, ◌||◌, not, List, [], ◌∷◌, refl, sym, ◌∙◌, ap, Option, Some, None, arith}
 use Rattle.std.proofs.lemmas.Bool.{or_parts}
 use Rattle.std.proofs.Math.Bool.{and-true, and-false, or-false}
 use Rattle.markdown_event.specs.declared.event.Name.{Name}
@@ -200,8 +200,4 @@ quiet_shortcut defined = yields_passed _ _ _ (yields_gives _ _ refl)
 
 pub quiet_after_label : (s : Setting) (defined : Bool) → TailFree (after_label s defined)
 unfolding after_label reference_after_label shortcut_before_bracket
-quiet_after_label s defined =
-    yields_next _ _ _ _ (yields_either _ _ _ (quiet_resource _) (quiet_shortcut defined))
-    (yields_next _ _ _ _
-    (yields_either _ _ _ (quiet_full_reference s) (yields_either _ _ _ (yields_passed _ _ _ quiet_collapsed_reference) (yields_unless _ _ _ (quiet_shortcut _))))
-    (quiet_shortcut defined))
+quiet_after_label s defined = grind (arith, yields_next, yields_either, quiet_resource, quiet_shortcut, quiet_full_reference, yields_passed, quiet_collapsed_reference, yields_unless)

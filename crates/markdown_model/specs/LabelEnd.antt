@@ -3,7 +3,6 @@ use Rattle.std.specs.Prelude.{ℕ, zero, suc, ◌+◌, ◌==◌, Bool, true, fal
 use Rattle.std.specs.Str.{byte}
 use Rattle.std.specs.List.{list_any}
 use Rattle.markdown_event.specs.declared.event.Name.{Name}
-use Rattle.markdown_event.specs.declared.event.Point.{Point}
 use Rattle.markdown_content.specs.declared.label_kind.LabelKind.{LabelKind}
 use Rattle.markdown_content.specs.Codes.{Code, stop_of, document_start, is_line_ending_byte, line_feed, carriage_return, space_value, tab_value}
 use Rattle.markdown_content.specs.ContentBytes.{bytes_within}

@@ -171,9 +171,7 @@ places-more bytes start at d from inside =
 
 pub places-start : (bytes : List ℕ) (start at : ℕ) (found : List ℕ) → at ≤ start → found ≡ [] →
     found ≡ places_from start (slice_range bytes start at)
-places-start bytes start at found low e =
-    let none : at - start ≡ 0 = omega (arith, low) in
-    e ∙ sym (ap (λ n. places_from start (take n (drop start bytes))) none)
+places-start bytes start at found low e = grind (arith)
 
 pub places-one : (bytes : List ℕ) (start at : ℕ) (found more : List ℕ) → start ≤ at → at < length bytes →
     get_or bytes at 0 ≡ 91 → found ≡ places_from start (slice_range bytes start at) → more ≡ found ++ at ∷ [] →
@@ -267,9 +265,7 @@ counted-is bytes start end from to n h = go (nat_le start from && (nat_le from t
 -- what is counted where all is known
 pub counted-known : (b : BracketPlaces) (from to m : ℕ) → b.start ≤ from → from ≤ to → to ≤ b.end →
     m ≡ count_by (within from to) b.places → Some m ≡ counted b from to
-counted-known b from to m first up last e =
-    ap Some e
-    ∙ sym (ap (λ t. if t then Some (count_by (within from to) b.places) else None) (λ i. le-leb b.start from first i && (le-leb from to up i && le-leb to b.end last i)))
+counted-known b from to m first up last e = grind (arith, le-leb)
 
 -- Numbers in order.
 

@@ -94,9 +94,7 @@ same-lists (x ∷ text) (y ∷ name) f t =
 
 pub same-between : (text low high : List ℕ) → bytes_eq text high ≡ true → comes_before text low ≡ false →
     comes_before low high ≡ false → bytes_eq text low ≡ true
-same-between text low high e f t =
-    let same : text ≡ high = (bytes_eq-Decides text high).0 e in
-    (bytes_eq-Decides text low).1 (same-lists text low f (subst (λ x. comes_before low x ≡ false) (sym same) t))
+same-between text low high e f t = grind (arith, bytes_eq-Decides, same-lists)
 
 pub same-after : (text name : List ℕ) → bytes_eq text name ≡ true → comes_before text name ≡ false
 same-after text name e =

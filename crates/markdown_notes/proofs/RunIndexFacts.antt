@@ -27,11 +27,7 @@ and-right true b e = e
 and-right false b e = cc
 
 tied-key : (a b : Key) → is_eq (key_cmp a b) ≡ true → a ≡ b
-tied-key a b e =
-    let both : (a.0 == b.0 && a.1 == b.1) ≡ true = key-same a b ∙ e in
-    let first : a.0 ≡ b.0 = eqb-true a.0 b.0 (and-left (a.0 == b.0) (a.1 == b.1) both) in
-    let second : a.1 ≡ b.1 = eqb-true a.1 b.1 (and-right (a.0 == b.0) (a.1 == b.1) both) in
-    ap (λ v. (v, a.1)) first ∙ ap (λ n. (b.0, n)) second
+tied-key a b e = grind (arith, key-same, eqb-true, and-left, and-right)
 
 pub equal-key : (a b : Key) → key_cmp a b ≡ Equal → a ≡ b
 equal-key a b e = tied-key a b (ap is_eq e)
@@ -210,7 +206,4 @@ none-after m n k cs (Some a) h b e = absurd (too-late (ap (λ o. begins_before k
 -- where the index of some codes rules a run out after a place that no such code follows, there is none
 pub ruled-out : (runs : LastRuns) (cs : List Code) (m n k : ℕ) → runs ≡ last_runs runs.asked cs →
     rules_out runs m n k ≡ true → leading m (drop k cs) ≡ 0 → last_run m n (drop k cs) ≡ None
-ruled-out runs cs m n k e r h =
-    let asked : is_asked runs.asked m ≡ true = and-left (is_asked runs.asked m) _ r in
-    let early : begins_before k (entry_at (m, n) runs.entries) ≡ true = and-right (is_asked runs.asked m) _ r in
-    none-after m n k cs (last_run m n (drop k cs)) h (ap (λ o. begins_before k o) (sym (ap (λ (x : LastRuns). entry_at (m, n) x.entries) e ∙ entry-is runs.asked cs m n asked)) ∙ early) refl
+ruled-out runs cs m n k e r h = grind (arith, and-left, and-right, none-after, entry-is)

@@ -64,13 +64,7 @@ entries-inside asked v at (c ∷ cs) es =
 -- a run is passed that comes first
 pub entries-past : (asked : List ℕ) (v at : ℕ) (c : Code) (cs : List Code) (es : List (Key × ℕ)) → c.value ≡ v →
     entries_from asked None at (c ∷ cs) es ≡ entries_from asked None (at + leading v (c ∷ cs)) (drop (leading v (c ∷ cs)) (c ∷ cs)) (with_run (is_asked asked v) (v, leading v (c ∷ cs)) at es)
-entries-past asked v at c cs es e =
-    let here : (c.value == v) ≡ true = ap (λ k. k == v) e ∙ eq-eqb v v refl in
-    let after : List (Key × ℕ) = with_run (is_asked asked v) (v, leading v (c ∷ cs)) at es in
-    ap (λ w. entries_from asked (Some w) (suc at) cs (with_run (is_asked asked w) (w, leading w (c ∷ cs)) at es)) e
-    ∙ entries-inside asked v (suc at) cs after
-    ∙ ap (λ n. entries_from asked None n (drop (leading v cs) cs) after) (omega arith)
-    ∙ ap (λ r. entries_from asked None (at + r) (drop r (c ∷ cs)) after) (sym (leading-more v c cs here))
+entries-past asked v at c cs es e = grind (arith, eq-eqb, entries-inside, leading-more)
 
 ahead-past : (v : ℕ) (p : Place) → ahead_at (past_run v p) ≡ drop (leading v (ahead_at p)) (ahead_at p)
 unfolding ahead_at

@@ -27,12 +27,7 @@ at-most Equal = omega arith
 at-most Greater = omega arith
 
 lower : (a b k : Key) → key_cmp a b ≡ Less → ordering_index (key_cmp a k) ≤ ordering_index (key_cmp b k)
-lower a b k h =
-    elim (key_cmp b k) as (λ o. key_cmp b k ≡ o → ordering_index (key_cmp a k) ≤ ordering_index o) [
-      | Less ↦ λ e. subst (λ o. ordering_index o ≤ ordering_index Less) (sym (key-total.trans a b k h e)) (omega arith)
-      | Equal ↦ λ e. subst (λ o. ordering_index o ≤ ordering_index Equal) (sym (turned k a Greater (sym (key-total.congr b k a e) ∙ turned a b Less h))) (omega arith)
-      | Greater ↦ λ e. at-most (key_cmp a k)
-    ] refl
+lower a b k h = grind (arith, key-total, turned, at-most)
 
 key-in : (P : Key → Type 0) (es : List (Key × ℕ)) (j : ℕ) (d : Key × ℕ) → AllByRecursion P (keys_of es) → j < length es → P (get_or es j d).0
 key-in P [] j d all lt = absurd (omega (arith, lt))

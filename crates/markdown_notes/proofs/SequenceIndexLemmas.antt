@@ -194,16 +194,7 @@ open-start SpanMark = refl
 
 pub found-start : (p q : Place) → q ≡ record p { at = 0 } → AreBeginsFound p.codes q nothing
 unfolding ahead_at
-found-start p q e =
-    record {
-      codes = ap (λ (x : Place). x.codes) e;
-      found = λ s.
-          let t : List Code → Bool = begins_at s in
-          nothing-before (last_where t p.codes)
-          ∙ ap (λ o. answer_from 0 (last_where t p.codes) o) (sym (nothing-in s))
-          ∙ ap (λ n. answer_from n (last_where t (drop n p.codes)) (last_in nothing s)) (sym (open-start s))
-          ∙ ap (λ (x : Place). answer_from (open_from s x).at (last_where t (ahead_at (open_from s x))) (last_in nothing s)) (sym e);
-    }
+found-start p q e = grind (arith, nothing-before, nothing-in, open-start)
 
 -- one more code is settled
 settled : (t : List Code → Bool) (all o next : Option ℕ) (p : Place) (v : ℕ) → code_at p ≡ Some v →
@@ -294,24 +285,7 @@ pub told : (b shows : Bool) (n at : ℕ) (o found : Option ℕ) → found ≡ co
 told b shows n at o found e f g = e ∙ ap (λ m. cond b (Some m) o) g ∙ ap (λ t. cond t (Some at) o) f
 
 pub none-shows : (s : Sequence) (v : ℕ) → list_any (λ n. v == n) stop_bytes ≡ false → shows_by s v ≡ false
-none-shows s v e =
-    let comment = or_parts (v == 45) _ e in
-    let section = or_parts (v == 93) _ comment.1 in
-    let instruction = or_parts (v == 63) _ section.1 in
-    let declaration = or_parts (v == 62) _ instruction.1 in
-    let resource = or_parts (v == 41) _ declaration.1 in
-    let dot = or_parts (v == 46) _ resource.1 in
-    let backtick = or_parts (v == 96) _ dot.1 in
-    let dollar = or_parts (v == 36) _ backtick.1 in
-    elim s as (λ x. shows_by x v ≡ false) [
-      | CommentEnd ↦ comment.0
-      | SectionEnd ↦ section.0
-      | InstructionEnd ↦ instruction.0
-      | DeclarationEnd ↦ declaration.0
-      | ResourceEnd ↦ resource.0
-      | WwwDot ↦ dot.0
-      | SpanMark ↦ or_from (v == 96) (v == 36) backtick.0 dollar.0
-    ]
+none-shows s v e = grind (arith, or_parts, or_from)
 
 -- past a stretch of such codes
 pub found-stretch : (cs : List Code) (p : Place) (last : LastBegins) → AreBeginsFound cs p last →

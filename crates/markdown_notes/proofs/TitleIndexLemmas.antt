@@ -27,11 +27,7 @@ pub record AreClosersFound (cs : List Code) (p : Place) (slash : Bool) (found : 
 pub found-start : (p q : Place) (found : List Closer) → q ≡ record p { at = 0 } → found ≡ [] →
     AreClosersFound p.codes q false found
 unfolding ahead_at
-found-start p q found e none =
-    record {
-      codes = ap (λ (x : Place). x.codes) e;
-      whole = ap (λ (x : Place). closers_from x.at false (ahead_at x)) (sym e) ∙ ap (λ xs. xs ++ closers_from q.at false (ahead_at q)) (sym none);
-    }
+found-start p q found e none = grind (arith)
 
 closers-here : (p q : Place) (v : ℕ) (slash : Bool) → code_at p ≡ Some v → q ≡ moved p →
     closers_from p.at slash (ahead_at p) ≡ with_closer (closes slash v) p.at (closes_past_spacing (ahead_at q)) (closers_from q.at (escapes slash v) (ahead_at q))
@@ -114,20 +110,12 @@ found-escaped cs p q r v found h is e passed stays k =
 -- fewer codes are left past the code at which a stretch ends
 pub left-stop : (p q r : Place) (v : ℕ) → q ≡ past_stretch title_bytes p → code_at q ≡ Some v → r ≡ moved q →
     length (ahead_at r) < length (ahead_at p)
-left-stop p q r v e h past =
-    let less : length (ahead_at r) < length (ahead_at q) = left-past q r v h past in
-    left-behind title_bytes p q r v e h (omega (arith, less))
+left-stop p q r v e h past = grind (arith, left-past, left-behind)
 
 -- no more are left past an escaped one
 pub left-escaped : (q r : Place) → (IsSome (code_at q) → r ≡ moved q) → (code_at q ≡ None → r ≡ q) →
     length (ahead_at r) ≤ length (ahead_at q)
-left-escaped q r passed stays =
-    elim (code_at q) as (λ o. code_at q ≡ o → length (ahead_at r) ≤ length (ahead_at q)) [
-      | None ↦ λ none. subst (λ (x : Place). length (ahead_at x) ≤ length (ahead_at q)) (sym (stays none)) (omega arith)
-      | Some w ↦ λ some.
-          let less : length (ahead_at r) < length (ahead_at q) = left-past q r w some (passed (subst IsSome (sym some) refl)) in
-          omega (arith, less)
-    ] refl
+left-escaped q r passed stays = grind (arith, left-past)
 
 -- at the end
 pub found-all : (cs : List Code) (p : Place) (slash : Bool) (found : List Closer) → code_at p ≡ None →
@@ -207,9 +195,7 @@ from-start m at slash (c ∷ cs) h = by-found (closes slash c.value) (closers_fr
 -- an opening parenthesis is neither escaped nor escapes
 past-opening : (m at : ℕ) (slash : Bool) (c : Code) (cs : List Code) → c.value ≡ 40 → m ≤ at →
     first_twice m (closers_from at slash (c ∷ cs)) ≡ closes_resource false cs
-past-opening m at slash c cs e h =
-    ap (λ v. first_twice m (with_closer (closes slash v) at (closes_past_spacing cs) (closers_from (suc at) (escapes slash v) cs))) e
-    ∙ from-start m (suc at) false cs (omega (arith, h))
+past-opening m at slash c cs e h = grind (arith, from-start)
 
 pub closer-behind : (k at : ℕ) (slash : Bool) (cs ds : List Code) (c : Code) → drop k cs ≡ c ∷ ds → c.value ≡ 40 →
     first_twice (at + k) (closers_from at slash cs) ≡ closes_resource false ds

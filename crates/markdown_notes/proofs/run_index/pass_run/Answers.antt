@@ -18,9 +18,7 @@ other o v h e = differ v (sym (ap (λ x. option_eq nat_eq x (Some v)) e) ∙ h)
     differ k h = grind (arith, h)
 
 pub loop-cursor-smaller : goal.loop-cursor-smaller
-loop-cursor-smaller c =
-    let less : length (ahead_at (moved c.loop-cursor.cursor)) + 1 ≡ length (ahead_at c.loop-cursor.cursor) = left_moved c.loop-cursor.cursor c.args.value (here c.current.result c.args.value c.loop-cursor.cursor (sym c.eq.ensures ∙ c.loop-cursor-test.true) c.current.ensures) in
-    subst (λ (p : Place). length (ahead_at p) < length (ahead_at c.loop-cursor.cursor)) (sym c.consume.ensures) (omega arith)
+loop-cursor-smaller c = grind (arith, left_moved, here)
 
 pub loop-cursor-preserved : goal.loop-cursor-preserved
 loop-cursor-preserved c =

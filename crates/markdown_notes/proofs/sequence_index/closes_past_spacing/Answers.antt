@@ -10,9 +10,7 @@ returns-then-not-is_spacing c =
     spaced-other c.args.cursor.now c.loop-code.place c.in-Some.code c.loop-code.invariant (sym c.current.ensures ∙ c.in-Some.is) (sym c.is_spacing.ensures ∙ c.if-not-is_spacing.true)
 
 pub loop-code-smaller : goal.loop-code-smaller
-loop-code-smaller c =
-    let less : length (ahead_at (moved c.loop-code.place)) + 1 ≡ length (ahead_at c.loop-code.place) = left_moved c.loop-code.place c.in-Some.code (sym c.current.ensures ∙ c.in-Some.is) in
-    subst (λ (p : Place). length (ahead_at p) < length (ahead_at c.loop-code.place)) (sym c.consume.ensures) (omega (arith, less))
+loop-code-smaller c = grind (arith, left_moved)
 
 pub loop-code-preserved : goal.loop-code-preserved
 loop-code-preserved c =

@@ -46,9 +46,7 @@ not-span c = grind (arith, nat_tests)
 
 -- the code is none of those at which the walk stops
 free : (c : goal.In_default) → list_any (λ n. c.args.code == n) stop_bytes ≡ false
-free c =
-    let span = or_parts (c.args.code == 96) (c.args.code == 36) (not-span c) in
-    or_from _ _ (ne_eqb c.args.code 45 (λ e. omega arith)) (or_from _ _ (ne_eqb c.args.code 93 (λ e. omega arith)) (or_from _ _ (ne_eqb c.args.code 63 (λ e. omega arith)) (or_from _ _ (ne_eqb c.args.code 62 (λ e. omega arith)) (or_from _ _ (ne_eqb c.args.code 41 (λ e. omega arith)) (or_from _ _ (ne_eqb c.args.code 46 (λ e. omega arith)) (or_from _ _ span.0 (or_from _ _ span.1 refl)))))))
+free c = grind (arith, or_parts, not-span, or_from, ne_eqb)
 
 pub returns-in_default : goal.returns-in_default
 returns-in_default c s = unmoved s c.args.place.now c.args.code c.args.last c.requires (none-shows s c.args.code (free c))

@@ -43,6 +43,4 @@ invariant_of-result c =
     found-rises c.args.start (slice_range c.args.bytes.now c.args.start c.loop-at.at) c.loop-at.places.items c.loop-at.invariant.places
 
 pub returns : goal.returns
-returns c =
-    let last : c.loop-at.at ≡ c.min-stop.result = omega (arith, c.loop-at.invariant.last, c.loop-at-test.false) in
-    ap (λ ps. record { start = c.args.start; end = c.args.end; places = ps }) (places-end c.args.bytes.now c.args.start c.args.end c.loop-at.at c.loop-at.places.items (last ∙ c.min-stop.ensures) c.loop-at.invariant.places)
+returns c = grind (arith, places-end)

@@ -13,9 +13,7 @@ pub put-requires : goal.put-requires
 put-requires c = c.loop-code.invariant.1
 
 pub loop-code-smaller-in-Continue-1 : goal.loop-code-smaller-in-Continue-1
-loop-code-smaller-in-Continue-1 c =
-    left-behind c.args.asked c.loop-code.place c.seek.new.self c.pass_run.new.cursor c.in-Some.code c.seek.ensures.place (sym c.seek.ensures.code ∙ c.in-Some.is)
-    (omega (arith, run-shorter c.in-Some.code c.seek.new.self c.pass_run.new.cursor (sym c.seek.ensures.code ∙ c.in-Some.is) c.pass_run.ensures))
+loop-code-smaller-in-Continue-1 c = grind (arith, left-behind, run-shorter)
 
 pub loop-code-preserved-in-Continue-1 : goal.loop-code-preserved-in-Continue-1
 loop-code-preserved-in-Continue-1 c = (
@@ -29,9 +27,7 @@ loop-code-preserved-in-Continue-1 c = (
 )
 
 pub loop-code-smaller : goal.loop-code-smaller
-loop-code-smaller c =
-    left-behind c.args.asked c.loop-code.place c.seek.new.self c.pass_run.new.cursor c.in-Some.code c.seek.ensures.place (sym c.seek.ensures.code ∙ c.in-Some.is)
-    (omega (arith, run-shorter c.in-Some.code c.seek.new.self c.pass_run.new.cursor (sym c.seek.ensures.code ∙ c.in-Some.is) c.pass_run.ensures))
+loop-code-smaller c = grind (arith, left-behind, run-shorter)
 
 pub loop-code-preserved : goal.loop-code-preserved
 loop-code-preserved c = (

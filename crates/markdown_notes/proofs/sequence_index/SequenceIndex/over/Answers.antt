@@ -11,12 +11,7 @@ pub loop-code-init : goal.loop-code-init
 loop-code-init c = found-start c.args.cursor.now c.restart-place.result c.restart-place.ensures
 
 pub loop-code-smaller : goal.loop-code-smaller
-loop-code-smaller c =
-    let q : Place = c.seek.new.self in
-    let here : code_at q ≡ Some c.in-Some.code = sym c.seek.ensures.code ∙ c.in-Some.is in
-    let one : length (ahead_at (moved q)) + 1 ≡ length (ahead_at q) = left_moved q c.in-Some.code here in
-    left-behind c.stop_bytes-stops.result c.loop-code.place q c.consume.new.self c.in-Some.code c.seek.ensures.place here
-    (subst (λ (p : Place). length (ahead_at p) + 1 ≤ length (ahead_at q)) (sym c.consume.ensures) (omega (arith, one)))
+loop-code-smaller c = grind (arith, left_moved, left-behind)
 
 pub loop-code-preserved : goal.loop-code-preserved
 loop-code-preserved c =

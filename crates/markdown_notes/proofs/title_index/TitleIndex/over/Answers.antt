@@ -12,9 +12,7 @@ loop-code-init c =
     found-start c.args.cursor.now c.restart-place.result c.new-closers.result.items c.restart-place.ensures c.new-closers.ensures.items
 
 pub loop-code-smaller-in-Continue-1 : goal.loop-code-smaller-in-Continue-1
-loop-code-smaller-in-Continue-1 c =
-    let at : c.seek.new.self ≡ past_stretch title_bytes c.loop-code.place = c.seek.ensures.place ∙ ap (λ ms. past_stretch ms c.loop-code.place) c.title_bytes-stops.ensures in
-    left-stop c.loop-code.place c.seek.new.self c.consume.new.self c.in-Some.code at (sym c.seek.ensures.code ∙ c.in-Some.is) c.consume.ensures
+loop-code-smaller-in-Continue-1 c = grind (arith, left-stop)
 
 pub loop-code-preserved-in-Continue-1 : goal.loop-code-preserved-in-Continue-1
 loop-code-preserved-in-Continue-1 c =
@@ -38,9 +36,7 @@ loop-code-preserved-then-code-eq92 c =
     (found-at c.args.cursor.now.codes c.loop-code.place c.seek.new.self c.loop-code.closers.items at c.loop-code.invariant)
 
 pub loop-code-smaller : goal.loop-code-smaller
-loop-code-smaller c =
-    let at : c.seek.new.self ≡ past_stretch title_bytes c.loop-code.place = c.seek.ensures.place ∙ ap (λ ms. past_stretch ms c.loop-code.place) c.title_bytes-stops.ensures in
-    left-stop c.loop-code.place c.seek.new.self c.consume.new.self c.in-Some.code at (sym c.seek.ensures.code ∙ c.in-Some.is) c.consume.ensures
+loop-code-smaller c = grind (arith, left-stop)
 
 pub loop-code-preserved : goal.loop-code-preserved
 loop-code-preserved c =
