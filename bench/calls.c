@@ -63,7 +63,7 @@ static size_t room;
 
 static int read_one(const char *text, size_t len) {
     markdown_inline_piece piece = {0, 0, 0, 0};
-    markdown_inline_input input = {(const uint8_t *)text, len, &piece, 1, NULL, 0, NULL, 0, NULL, 0, MARKDOWN_INLINE_COMMONMARK};
+    markdown_inline_input input = {(const uint8_t *)text, len, &piece, 1, NULL, 0, NULL, 0, NULL, 0, MARKDOWN_INLINE_CRATE};
     size_t count;
     uint32_t status;
     piece.end = len;
@@ -81,7 +81,7 @@ static int write_html(const char *text, size_t len, const content *contents, siz
     static markdown_inline_content texts[1 << 12];
     static size_t ends[1 << 12];
     static uint8_t html[1 << 22];
-    markdown_inline_input input = {(const uint8_t *)text, len, pieces, count, NULL, 0, NULL, 0, NULL, 0, MARKDOWN_INLINE_COMMONMARK};
+    markdown_inline_input input = {(const uint8_t *)text, len, pieces, count, NULL, 0, NULL, 0, NULL, 0, MARKDOWN_INLINE_CRATE};
     markdown_inline_outcome outcome;
     for (size_t at = 0; at < count; at++) {
         pieces[at] = (markdown_inline_piece){contents[at].from, 0, contents[at].from + contents[at].len, 0};

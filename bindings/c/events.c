@@ -42,7 +42,7 @@ static uint32_t bit_of(const char *word) {
         {"cm-lengths", MARKDOWN_INLINE_OPTION_ATTENTION_FIRST_LENGTHS},
         {"cm-shortcut", MARKDOWN_INLINE_OPTION_LABEL_SHORTCUT_BEFORE_BRACKET},
         {"html-references", MARKDOWN_INLINE_OPTION_HTML_REFERENCES},
-        {"commonmark", MARKDOWN_INLINE_OPTION_COMMONMARK_RULES}};
+        {"commonmark", MARKDOWN_INLINE_OPTION_STANDARD_RULES}};
     for (size_t at = 0; at < sizeof bits / sizeof *bits; at++)
         if (!strcmp(bits[at].word, word)) return bits[at].bits;
     return 0;
@@ -100,7 +100,7 @@ int main(int argc, char **argv) {
     if (!bytes || !labels || !ranges) return MARKDOWN_INLINE_NO_MEMORY;
     len = without_line_ending(bytes, len);
     markdown_inline_piece whole = {0, 0, len, 0};
-    markdown_inline_input input = {bytes, len, &whole, 1, labels, 0, ranges, 0, ranges + argc, 0, MARKDOWN_INLINE_COMMONMARK};
+    markdown_inline_input input = {bytes, len, &whole, 1, labels, 0, ranges, 0, ranges + argc, 0, MARKDOWN_INLINE_CRATE};
     int is_known = argc > 1 && (!strcmp(argv[1], "text") || !strcmp(argv[1], "string"));
     for (int at = 2; at < argc && is_known; at++) {
         is_known = bit_of(argv[at]) != 0 || define(argv[at], "label=", labels, &input, ranges, &input.definitions_len)

@@ -89,7 +89,7 @@ extern "C" {
     /* Whether the text is the first of a list item, where the check of a task may stand. */ \
     X(FIRST_OF_ITEM, "first_of_item", 0x100000) \
     /* Whether CommonMark's rule holds in each point that `Rules` names, in which the crate that is ported departs from it. The two options above and the one below are implied. */ \
-    X(COMMONMARK_RULES, "commonmark", 0x200000) \
+    X(STANDARD_RULES, "standard_rules", 0x200000) \
     /* Whether a reference may have any of the 2,125 names of HTML that end in a semicolon, as CommonMark says, and not only the 294 of a shorter table. */ \
     X(HTML_REFERENCES, "html_references", 0x400000)
 
@@ -243,8 +243,10 @@ enum {
 #define MARKDOWN_INLINE_OPTION(name, words, bit) MARKDOWN_INLINE_OPTION_##name = bit,
     MARKDOWN_INLINE_EACH_OPTION(MARKDOWN_INLINE_OPTION)
 #undef MARKDOWN_INLINE_OPTION
-    /* CommonMark's constructs, and each setting by default. */
-    MARKDOWN_INLINE_COMMONMARK = 0x37e1f,
+    /* CommonMark 0.31.2: its constructs, read by its rules. Take this one, unless you want another set. */
+    MARKDOWN_INLINE_COMMONMARK = 0x237e1f,
+    /* CommonMark's constructs, read by the rules of the crate `markdown`, which departs from the standard in places. */
+    MARKDOWN_INLINE_CRATE = 0x37e1f,
     /* What GitHub adds to them: autolink literals, footnote calls, strikethrough, task list checks. */
     MARKDOWN_INLINE_GFM = 0x1e0,
     /* Math spans. */
@@ -383,7 +385,7 @@ uint32_t markdown_inline_leaves(const markdown_inline_input *input, markdown_inl
 uint32_t markdown_inline_identifier(const uint8_t *label, size_t label_len, uint8_t *identifier, size_t identifier_len, size_t *count);
 
 /* Finds the text that a character reference stands for, in UTF-8. The bytes are the whole reference, with its `&` and its `;`. The options are those of
- * an input: MARKDOWN_INLINE_OPTION_HTML_REFERENCES and MARKDOWN_INLINE_OPTION_COMMONMARK_RULES say that each name of HTML is known, and the latter says
+ * an input: MARKDOWN_INLINE_OPTION_HTML_REFERENCES and MARKDOWN_INLINE_OPTION_STANDARD_RULES say that each name of HTML is known, and the latter says
  * too that a number stands for a control or a noncharacter; the other bits change nothing. DONE: the text stands at the front of the array, and
  * `*count` is how many bytes it has. NO_REFERENCE: they are none, or its name is not known. UNKNOWN_OPTION, TOO_SMALL and NO_MEMORY are as above. */
 uint32_t markdown_inline_reference(uint32_t options, const uint8_t *reference, size_t reference_len, uint8_t *text, size_t text_len, size_t *count);

@@ -121,7 +121,7 @@ fn lists(header: &str) -> (String, String) {
     }
     names += "}\n";
     let mut options = String::new();
-    for set in ["COMMONMARK", "GFM"] {
+    for set in ["COMMONMARK", "CRATE", "GFM"] {
         let bits = number(header, &format!("MARKDOWN_INLINE_{set} ="));
         let _ = writeln!(options, "const {set}_BITS: u32 = {bits};");
     }

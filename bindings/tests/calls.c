@@ -196,10 +196,10 @@ static void test_references_by_options(void) {
     static const struct {
         uint32_t options;
         const char *reference, *text;
-    } rows[] = {{MARKDOWN_INLINE_COMMONMARK, "&check;", NULL}, {0, "&check;", NULL}, {MARKDOWN_INLINE_OPTION_HTML_REFERENCES, "&check;", "\xe2\x9c\x93"},
-        {MARKDOWN_INLINE_OPTION_COMMONMARK_RULES, "&check;", "\xe2\x9c\x93"}, {MARKDOWN_INLINE_OPTION_HTML_REFERENCES, "&nosuch;", NULL},
-        {0, "&#1;", "\xef\xbf\xbd"}, {MARKDOWN_INLINE_OPTION_HTML_REFERENCES, "&#1;", "\xef\xbf\xbd"}, {MARKDOWN_INLINE_OPTION_COMMONMARK_RULES, "&#1;", "\x01"},
-        {MARKDOWN_INLINE_OPTION_COMMONMARK_RULES, "&#xfffe;", "\xef\xbf\xbe"}, {MARKDOWN_INLINE_OPTION_COMMONMARK_RULES, "&#0;", "\xef\xbf\xbd"}, {0, "&amp;", "&"}};
+    } rows[] = {{MARKDOWN_INLINE_COMMONMARK, "&check;", "\xe2\x9c\x93"}, {MARKDOWN_INLINE_CRATE, "&check;", NULL}, {0, "&check;", NULL}, {MARKDOWN_INLINE_OPTION_HTML_REFERENCES, "&check;", "\xe2\x9c\x93"},
+        {MARKDOWN_INLINE_OPTION_STANDARD_RULES, "&check;", "\xe2\x9c\x93"}, {MARKDOWN_INLINE_OPTION_HTML_REFERENCES, "&nosuch;", NULL},
+        {0, "&#1;", "\xef\xbf\xbd"}, {MARKDOWN_INLINE_OPTION_HTML_REFERENCES, "&#1;", "\xef\xbf\xbd"}, {MARKDOWN_INLINE_OPTION_STANDARD_RULES, "&#1;", "\x01"},
+        {MARKDOWN_INLINE_OPTION_STANDARD_RULES, "&#xfffe;", "\xef\xbf\xbe"}, {MARKDOWN_INLINE_OPTION_STANDARD_RULES, "&#0;", "\xef\xbf\xbd"}, {0, "&amp;", "&"}};
     for (size_t at = 0; at < sizeof rows / sizeof *rows; at++) {
         uint8_t found[16];
         size_t count = 77, len = rows[at].text ? strlen(rows[at].text) : 77;

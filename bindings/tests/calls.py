@@ -10,7 +10,7 @@ from markdown_inline import (
     OPTIONS, BlankLine, Content, DefinitionError, Error, Kind, Name, NoContent, NoReference, NoString, NotUtf8, Piece, References, ShortTexts, TooLong,
     UnknownOption, _library, html, htmls, identifier, is_content, is_text, leaves, reference, short_texts, string, strings, text, texts)
 
-COMMONMARK = sum(OPTIONS[it] for it in (
+CRATE = sum(OPTIONS[it] for it in (
     'attention', 'autolink', 'character_escape', 'character_reference', 'code_text', 'hard_break_escape', 'hard_break_trailing', 'html_text', 'label_start_image',
     'label_start_link', 'label_end', 'gfm_strikethrough_single_tilde', 'math_text_single_dollar'))
 
@@ -75,10 +75,10 @@ class Calls(unittest.TestCase):
             self.assertRaises(NoReference, reference, given)
 
     def test_references_are_decoded_by_options(self):
-        names, rules = OPTIONS['html_references'], OPTIONS['commonmark']
+        names, rules = OPTIONS['html_references'], OPTIONS['standard_rules']
         self.assertRaises(NoReference, reference, '&check;')
         self.assertEqual([reference('&check;', options=it) for it in (names, rules)], ['\u2713', '\u2713'])
-        self.assertEqual([reference('&#1;', options=it) for it in (COMMONMARK, names, rules)], ['\ufffd', '\ufffd', '\x01'])
+        self.assertEqual([reference('&#1;', options=it) for it in (CRATE, names, rules)], ['\ufffd', '\ufffd', '\x01'])
         self.assertEqual([strings('&check;', [[(0, 7)]], options=it) for it in (None, 0, names)], [['&check;'], ['&check;'], ['\u2713']])
         self.assertEqual(strings('&nGt;' * 500, [[(0, 2500)]], options=rules), ['\u226b\u20d2' * 500])
 
@@ -89,7 +89,7 @@ class Calls(unittest.TestCase):
             ('~a~ www.b.c [^d] e@f.g', {'gfm': True}, gfm), ('a $b$ $$c$$', {'math': True}, OPTIONS['math_text']),
             ('[x] a', {'gfm': True, 'task': True}, gfm | OPTIONS['first_of_item']), ('*a***a* b', {'cm_lengths': True}, OPTIONS['attention_first_lengths']),
             ('[a][', {'cm_shortcut': True}, OPTIONS['label_shortcut_before_bracket']),
-            ('&check;', {'html_references': True}, OPTIONS['html_references']), ('a*_b_*', {'commonmark': True}, OPTIONS['commonmark']),
+            ('&check;', {'html_references': True}, OPTIONS['html_references']), ('a*_b_*', {'commonmark': True}, OPTIONS['standard_rules']),
         ):
             last = list(asked)[-1]
             without = {name: it for name, it in asked.items() if name != last}
@@ -99,11 +99,11 @@ class Calls(unittest.TestCase):
             if last != 'task':
                 calls.append(lambda **them: texts(document, one, **both, **them))
             for call in calls:
-                self.assertEqual(call(**asked), call(options=COMMONMARK | bits))
+                self.assertEqual(call(**asked), call(options=CRATE | bits))
                 self.assertNotEqual(call(**asked), call(**without))
-                self.assertEqual(call(), call(options=COMMONMARK))
+                self.assertEqual(call(), call(options=CRATE))
                 self.assertEqual(call(), call(**dict.fromkeys(asked, False)))
-                self.assertRaises(TypeError, call, options=COMMONMARK, **{last: True})
+                self.assertRaises(TypeError, call, options=CRATE, **{last: True})
             found = texts(document, one, **both, **{name: it for name, it in asked.items() if name != 'task'})
             self.assertEqual(found, [text(document, **both, **asked)])
 

@@ -12,7 +12,7 @@ from markdown_inline import OPTIONS, Content, Error, Kind, Piece, _tables, html,
 
 SWITCHES = {
     'gfm': _tables.GFM, 'math': _tables.MATH, 'task': OPTIONS['first_of_item'], 'cm_lengths': OPTIONS['attention_first_lengths'],
-    'cm_shortcut': OPTIONS['label_shortcut_before_bracket'], 'html_references': OPTIONS['html_references'], 'commonmark': OPTIONS['commonmark'],
+    'cm_shortcut': OPTIONS['label_shortcut_before_bracket'], 'html_references': OPTIONS['html_references'], 'commonmark': OPTIONS['standard_rules'],
 }
 # How many cases come at least in all, of each kind, and by switches. A file has kinds of one of these rows.
 LEAST, KINDS = 600, ({'text': 400, 'string': 40}, {'leaves': 300, 'html': 300, 'texts': 60, 'shorts': 60, 'htmls': 60})
@@ -79,7 +79,7 @@ def content(word, spans):
 def asked(bits, how):
     """The switches that say these bits, or else the bits."""
     words = {name: True for name, its_bits in SWITCHES.items() if bits & its_bits == its_bits}
-    if how == 'string' or _tables.COMMONMARK | sum(SWITCHES[it] for it in words) != bits:
+    if how == 'string' or _tables.CRATE | sum(SWITCHES[it] for it in words) != bits:
         return {'options': bits}
     seen['by switches'] += 1
     return words

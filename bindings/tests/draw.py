@@ -14,12 +14,13 @@ import re
 import sys
 
 sys.path.insert(0, os.path.join(os.path.dirname(os.path.abspath(__file__)), '..', 'python', 'markdown_inline'))
-from _tables import COMMONMARK, GFM, MATH, OPTIONS  # noqa: E402
+from _tables import CRATE, GFM, MATH, OPTIONS  # noqa: E402
 
-CONSTRUCTS = list(OPTIONS)
+# What the program calls the options.
+CONSTRUCTS = ['commonmark' if name == 'standard_rules' else name for name in OPTIONS]
 FIRST_OF_ITEM = OPTIONS['first_of_item']
 # Off by default, and drawn as often as not.
-RARE = sum(OPTIONS[name] for name in ('attention_first_lengths', 'label_shortcut_before_bracket', 'first_of_item', 'html_references', 'commonmark'))
+RARE = sum(OPTIONS[name] for name in ('attention_first_lengths', 'label_shortcut_before_bracket', 'first_of_item', 'html_references', 'standard_rules'))
 PARTS = ['a', 'bc', 'é', '漢', '😀', ' ', '  ', '\t', '*', '**', '_', '~', '~~', '`', '``', '$', '$$', '[', ']', '![', '](', ')', '(', '<', '>', '"', "'",
          '\\', '&', ';', '!', '#', '@', ':', '.', '/', '[x] ', '[a]', '[^n]', '[b c][]', '[d](e "f")', '![g](<h i>)', '&amp;', '&#65;', '&#x1f4a9;', '&copy;',
          '&nosuch;', '&check;', '<https://j.k>', '<l@m.n>', 'https://o.p/q', 'www.r.s', 't@u.v', '<w x="y">', '</z>', '<!-- c -->', '<?p?>', '\\*', '\\\n', '  \n', '\n',
@@ -58,7 +59,7 @@ def case(draw):
         document, pieces = pieces_of(draw, text)
     else:
         document, pieces = text.encode(), [((0, 0), (len(text.encode()), 0))]
-    bits = COMMONMARK | GFM * draw.randrange(2) | MATH * draw.randrange(2) | RARE & draw.getrandbits(len(OPTIONS))
+    bits = CRATE | GFM * draw.randrange(2) | MATH * draw.randrange(2) | RARE & draw.getrandbits(len(OPTIONS))
     bits ^= sum(bit for bit in OPTIONS.values() if not bit & RARE and draw.random() < 0.04)
     how = 'string' if draw.random() < 0.15 else 'text'
     labels = [] if how == 'string' else draw.sample(LABELS, draw.randrange(4))
@@ -70,7 +71,7 @@ def row(how, bits, pieces, labels, notes, document):
     """The case for the program. Its rows name identifiers, which these labels are."""
     fields = [how]
     for at, name in enumerate(CONSTRUCTS):
-        if (bits ^ COMMONMARK) >> at & 1:
+        if (bits ^ CRATE) >> at & 1:
             fields.append(('+' if bits >> at & 1 else '-') + name)
     fields += ['definition=' + it for it in labels] + ['footnote=' + it for it in notes]
     fields += ['piece=%d.%d-%d.%d' % (start + end) for start, end in pieces]

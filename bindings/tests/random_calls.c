@@ -227,7 +227,7 @@ static void draw_case(drawn *it) {
     draw_pieces(it);
     draw_definitions(it);
     draw_contents(it);
-    it->options = MARKDOWN_INLINE_COMMONMARK | (one_in(2) ? MARKDOWN_INLINE_GFM : 0) | (one_in(2) ? MARKDOWN_INLINE_MATH : 0);
+    it->options = (one_in(2) ? MARKDOWN_INLINE_COMMONMARK : MARKDOWN_INLINE_CRATE) | (one_in(2) ? MARKDOWN_INLINE_GFM : 0) | (one_in(2) ? MARKDOWN_INLINE_MATH : 0);
     if (one_in(3)) it->options ^= (uint32_t)draw() & 0x7fffff;
     if (one_in(40)) it->options |= 0x800000u << below(9);
     it->html_options = (uint32_t)below(4);
@@ -764,10 +764,10 @@ static void look_at_htmls(const drawn *all) {
 
 /* The text of a string by its events: what stands in it but for backslashes of escapes, and what references stand for by these options. */
 static size_t text_by_events(uint32_t options, const uint8_t *bytes, size_t len, uint8_t *text) {
-    const uint32_t how = options & (MARKDOWN_INLINE_OPTION_HTML_REFERENCES | MARKDOWN_INLINE_OPTION_COMMONMARK_RULES);
+    const uint32_t how = options & (MARKDOWN_INLINE_OPTION_HTML_REFERENCES | MARKDOWN_INLINE_OPTION_STANDARD_RULES);
     static markdown_inline_event events[16 * PARTS_MOST * BYTES];
     markdown_inline_piece piece = {0, 0, 0, 0};
-    markdown_inline_input one = {bytes, len, &piece, 1, NULL, 0, NULL, 0, NULL, 0, MARKDOWN_INLINE_COMMONMARK | how};
+    markdown_inline_input one = {bytes, len, &piece, 1, NULL, 0, NULL, 0, NULL, 0, MARKDOWN_INLINE_CRATE | how};
     size_t events_len = 0, written = 0, more = 0;
     piece.end = len;
     want("a string of UTF-8 has events", markdown_inline_string(&one, events, sizeof events / sizeof *events, &events_len) == MARKDOWN_INLINE_DONE);
@@ -836,7 +836,7 @@ static void try_strings(drawn *it) {
     int is_known = it->options < 0x800000;
     for (model_reads = 0; is_known && model_reads < it->contents_len && is_joined(it, drawn_parts, drawn_strings[model_reads], joined, &len); model_reads++) {
         size_t text_len = text_by_events(it->options, joined, len, wanted + wanted_len);
-        int has_all_names = (it->options & (MARKDOWN_INLINE_OPTION_HTML_REFERENCES | MARKDOWN_INLINE_OPTION_COMMONMARK_RULES)) != 0;
+        int has_all_names = (it->options & (MARKDOWN_INLINE_OPTION_HTML_REFERENCES | MARKDOWN_INLINE_OPTION_STANDARD_RULES)) != 0;
         want("a text is no longer than its parts, or by a fifth where all names are known", text_len <= len + (has_all_names ? len / 5 : 0));
         wanted_ends[model_reads] = wanted_len += text_len;
     }

@@ -119,14 +119,14 @@ def _characters(document: Text, bytes_given: bytes) -> Optional[Characters]:
 _REFERENCE_LIMIT = 100_000
 _GFM, _MATH, _TASK = _tables.GFM, _tables.MATH, _tables.OPTIONS['first_of_item']
 _LENGTHS, _SHORTCUT = _tables.OPTIONS['attention_first_lengths'], _tables.OPTIONS['label_shortcut_before_bracket']
-_REFERENCES, _STANDARD = _tables.OPTIONS['html_references'], _tables.OPTIONS['commonmark']
+_REFERENCES, _STANDARD = _tables.OPTIONS['html_references'], _tables.OPTIONS['standard_rules']
 
 
 def _bits(options: Optional[int], gfm: bool, math: bool, task: bool, cm_lengths: bool, cm_shortcut: bool, html_references: bool,
           commonmark: bool) -> int:
     if options is None and gfm is math is task is cm_lengths is cm_shortcut is html_references is commonmark is False:
-        return _tables.COMMONMARK
-    bits = _tables.COMMONMARK
+        return _tables.CRATE
+    bits = _tables.CRATE
     for given, what, its_bits in (
             (gfm, 'gfm', _GFM), (math, 'math', _MATH), (task, 'task', _TASK), (cm_lengths, 'cm_lengths', _LENGTHS), (cm_shortcut, 'cm_shortcut', _SHORTCUT),
             (html_references, 'html_references', _REFERENCES), (commonmark, 'commonmark', _STANDARD)):
@@ -173,7 +173,7 @@ def text(document: Text, pieces: Pieces = None, gfm: bool = False, math: bool = 
 def string(document: Text, pieces: Pieces = None, *, options: Optional[int] = None) -> Events:
     """The events of a string: of escapes, character references and data. A call tests the whole document, and passes all that stands before the pieces."""
     bytes_given = _arguments.text_of(document, 'document')
-    given = _given(bytes_given, pieces, _tables.COMMONMARK if options is None else _arguments.bits_of(options), (), ())
+    given = _given(bytes_given, pieces, _tables.CRATE if options is None else _arguments.bits_of(options), (), ())
     status, raw = _library.events('markdown_inline_string', given)
     if status:
         raise _raised(status)
@@ -320,7 +320,7 @@ def reference(reference: Text, *, options: Optional[int] = None) -> str:
 
 
 def _decoding(options: Optional[int]) -> int:
-    return _tables.COMMONMARK if options is None else _arguments.bits_of(options)
+    return _tables.CRATE if options is None else _arguments.bits_of(options)
 
 
 def _decoded(function: str, given: bytes, *before: int) -> str:

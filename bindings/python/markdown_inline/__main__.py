@@ -14,7 +14,7 @@ words: gfm math task cm-lengths cm-shortcut html-references commonmark note=TEXT
        to=DESTINATION [title=TEXT]; of HTML raw any-link'''
 SWITCHES = {
     'gfm': _tables.GFM, 'math': _tables.MATH, 'task': OPTIONS['first_of_item'], 'cm-lengths': OPTIONS['attention_first_lengths'],
-    'cm-shortcut': OPTIONS['label_shortcut_before_bracket'], 'html-references': OPTIONS['html_references'], 'commonmark': OPTIONS['commonmark'],
+    'cm-shortcut': OPTIONS['label_shortcut_before_bracket'], 'html-references': OPTIONS['html_references'], 'commonmark': OPTIONS['standard_rules'],
 }
 # Statuses: a word is not known, memory was refused, reading or writing failed.
 USAGE_STATUS, NO_MEMORY, FAILED = 2, 5, 6
@@ -32,7 +32,7 @@ class Asked:
     """What the words ask for."""
 
     def __init__(self, words):
-        self.how, self.reads, self.options, self.html = '', '', _tables.COMMONMARK, {'raw_html': False, 'any_link': False}
+        self.how, self.reads, self.options, self.html = '', '', _tables.CRATE, {'raw_html': False, 'any_link': False}
         self.labels, self.notes, self.targets = [], [], []
         words = list(words)
         if words and words[0] in ('--tree', '--html', '--links'):

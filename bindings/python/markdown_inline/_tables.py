@@ -19,4 +19,4 @@ _TEXT = _header()
 NAMES = tuple(re.findall(r'X\([A-Z_]+, "(\w+)"\)', _TEXT))
 OPTIONS = {name: int(bit, 16) for name, bit in re.findall(r'X\([A-Z_]+, "(\w+)", (0x\w+)\)', _TEXT)}
 STATUSES = {int(number): words for number, words in re.findall(r'X\([A-Z0-9_]+, (\d+), "([^"]*)"\)', _TEXT)}
-COMMONMARK, GFM, MATH = (int(re.search(r'MARKDOWN_INLINE_%s = (0x\w+)' % name, _TEXT).group(1), 16) for name in ('COMMONMARK', 'GFM', 'MATH'))
+COMMONMARK, CRATE, GFM, MATH = (int(re.search(r'MARKDOWN_INLINE_%s = (0x\w+)' % name, _TEXT).group(1), 16) for name in ('COMMONMARK', 'CRATE', 'GFM', 'MATH'))

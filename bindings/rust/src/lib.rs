@@ -75,7 +75,7 @@ pub use short::{ShortEvent, ShortTexts};
 pub use strings::{strings, strings_with, Strings};
 pub use texts::{TextContent, Texts};
 
-/// The events of a whole document as a text, with CommonMark's constructs.
+/// The events of a whole document as a text, read by CommonMark.
 pub fn text<D: AsRef<[u8]> + ?Sized>(document: &D) -> Result<Events, Error> {
     Input::new(document).text()
 }
@@ -98,8 +98,8 @@ pub fn identifier<L: AsRef<[u8]> + ?Sized>(label: &L) -> Result<String, Error> {
     })
 }
 
-/// The text that a character reference stands for. The bytes are the whole reference, with its `&` and its `;`. The names are those that are known without an
-/// option: [`reference_with`] takes options. The error is `NoReference` or `NoMemory`.
+/// The text that a character reference stands for. The bytes are the whole reference, with its `&` and its `;`. It is read as CommonMark says;
+/// [`reference_with`] takes options. The error is `NoReference` or `NoMemory`.
 ///
 /// ```
 /// assert_eq!(markdown_inline::reference("&amp;").unwrap(), "&");
@@ -109,13 +109,13 @@ pub fn reference<R: AsRef<[u8]> + ?Sized>(reference: &R) -> Result<String, Error
     reference_with(Options::COMMONMARK, reference)
 }
 
-/// The text that a character reference stands for, by the options with which a document is read: by `Options::HTML_REFERENCES` each name of HTML is known, and
-/// by `Options::COMMONMARK_RULES` a number stands for a control or a noncharacter too. The error is `UnknownOption`, `NoReference` or `NoMemory`.
+/// The text that a character reference stands for, by the options with which a document is read: by `Options::STANDARD_RULES`, which
+/// `Options::COMMONMARK` has, each name of HTML is known, and a number stands for a control or a noncharacter too. By `Options::HTML_REFERENCES` each name is known. The error is `UnknownOption`, `NoReference` or `NoMemory`.
 ///
 /// ```
 /// use markdown_inline::{reference_with, Options};
-/// assert_eq!(reference_with(Options::HTML_REFERENCES, "&check;").unwrap(), "\u{2713}");
-/// assert!(reference_with(Options::COMMONMARK, "&check;").is_err());
+/// assert_eq!(reference_with(Options::COMMONMARK, "&check;").unwrap(), "\u{2713}");
+/// assert!(reference_with(Options::CRATE, "&check;").is_err());
 /// ```
 pub fn reference_with<R: AsRef<[u8]> + ?Sized>(
     options: Options,

@@ -20,8 +20,10 @@ macro_rules! options {
 include!(concat!(env!("OUT_DIR"), "/options.rs"));
 
 impl Options {
-    /// CommonMark's constructs, and each setting by default.
+    /// CommonMark 0.31.2: its constructs, read by its rules. It is the default.
     pub const COMMONMARK: Options = Options(COMMONMARK_BITS);
+    /// CommonMark's constructs, read by the rules of the crate `markdown`, which departs from the standard in places.
+    pub const CRATE: Options = Options(CRATE_BITS);
     /// What GitHub adds: autolink literals, footnote calls, strikethrough, task list checks.
     pub const GFM: Options = Options(GFM_BITS);
     /// Math spans.
@@ -54,7 +56,7 @@ impl HtmlOptions {
 }
 
 impl Default for Options {
-    /// CommonMark's constructs.
+    /// [`Options::COMMONMARK`].
     fn default() -> Options {
         Options::COMMONMARK
     }

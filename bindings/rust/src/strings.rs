@@ -49,7 +49,7 @@ fn raw_ranges(ranges: &[Range<usize>]) -> Result<Vec<RawRange>, Error> {
 /// The texts of strings, such as titles and destinations, with escapes and character references resolved. A part is a range of the bytes; a string is a range of
 /// numbers of parts, whose bytes are one text. Where a string stands in a paragraph, its parts are what `Data` and `LineEnding` cover inside it.
 ///
-/// References have the names that are known without an option: [`strings_with`] takes options. The error is `NoString` or `NoMemory`.
+/// References are read as CommonMark says: [`strings_with`] takes options. The error is `NoString` or `NoMemory`.
 ///
 /// ```
 /// # fn main() -> Result<(), markdown_inline::Refusal> {

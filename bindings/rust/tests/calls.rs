@@ -103,9 +103,10 @@ fn references_are_decoded() {
 
 #[test]
 fn references_are_decoded_by_options() {
-    let (names, rules) = (Options::HTML_REFERENCES, Options::COMMONMARK_RULES);
+    let (names, rules) = (Options::HTML_REFERENCES, Options::STANDARD_RULES);
     for (options, given, wanted) in [
-        (Options::COMMONMARK, "&check;", Err(Error::NoReference)),
+        (Options::COMMONMARK, "&check;", Ok("\u{2713}")),
+        (Options::CRATE, "&check;", Err(Error::NoReference)),
         (names, "&check;", Ok("\u{2713}")),
         (rules, "&check;", Ok("\u{2713}")),
         (names, "&#1;", Ok("\u{fffd}")),
@@ -120,7 +121,7 @@ fn references_are_decoded_by_options() {
     }
     let found = |options| strings_with(options, "&check;a", &[0..7, 7..8], &[0..1, 1..2]);
     assert_eq!(found(names).unwrap().get(0), Some("\u{2713}"));
-    assert_eq!(found(Options::COMMONMARK).unwrap().get(0), Some("&check;"));
+    assert_eq!(found(Options::CRATE).unwrap().get(0), Some("&check;"));
     let error = found(Options::from_bits(1 << 31)).unwrap_err();
     assert_eq!((error.error, error.at), (Error::UnknownOption, None));
 }

@@ -47,6 +47,7 @@ fn options_are_those_of_the_header() {
     }
     for (name, set) in [
         ("COMMONMARK", Options::COMMONMARK),
+        ("CRATE", Options::CRATE),
         ("GFM", Options::GFM),
         ("MATH", Options::MATH),
     ] {
@@ -66,6 +67,7 @@ fn sets_of_options_are_joined_and_taken_out_of_one_another() {
     assert_eq!((many - few).bits(), 0b0100);
     assert_eq!(few - few, Options::from_bits(0));
     assert_eq!(Options::default(), Options::COMMONMARK);
+    assert_eq!(Options::CRATE | Options::STANDARD_RULES, Options::COMMONMARK);
     assert_eq!(
         HtmlOptions::default().raw_html,
         HtmlOptions::default().any_link
