@@ -67,7 +67,10 @@ fn sets_of_options_are_joined_and_taken_out_of_one_another() {
     assert_eq!((many - few).bits(), 0b0100);
     assert_eq!(few - few, Options::from_bits(0));
     assert_eq!(Options::default(), Options::COMMONMARK);
-    assert_eq!(Options::CRATE | Options::STANDARD_RULES, Options::COMMONMARK);
+    assert_eq!(
+        Options::CRATE | Options::STANDARD_RULES,
+        Options::COMMONMARK
+    );
     assert_eq!(
         HtmlOptions::default().raw_html,
         HtmlOptions::default().any_link
