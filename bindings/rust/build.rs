@@ -1,12 +1,13 @@
-//! Links the static library, and reads the names of events and the options in `markdown_inline.h`. The library stands where `MARKDOWN_INLINE_LIB_DIR` says, with
-//! the header in the folder `include` beside it; else in the folder `native` of the crate, as a release packs it; else where pkg-config finds both; else where
+//! Links the static library, if its header `markdown_inline.h` describes the version of the interface that this crate calls. The library stands where
+//! `MARKDOWN_INLINE_LIB_DIR` says, with the header in the folder `include` beside it; else in the folder `native` of the crate, as a release packs it; else where pkg-config finds both; else where
 //! `bindings/build` leaves them.
 
 use std::env;
-use std::fmt::Write;
 use std::fs;
 use std::path::{Path, PathBuf};
 use std::process::{exit, Command};
+
+include!("src/version.rs");
 
 /// Where the library and its header stand.
 struct Place {
@@ -74,71 +75,15 @@ fn place() -> Place {
         .unwrap_or_else(|| Place::of(here.join("../out/lib")))
 }
 
-/// What stands in a header of a list, from this line on: the doc of each row, and its words.
-fn rows(header: &str, list: &str) -> Vec<(String, Vec<String>)> {
-    let mut found = Vec::new();
-    let mut doc = String::new();
-    for line in header
-        .lines()
-        .skip_while(|line| !line.contains(list))
-        .skip(1)
-    {
-        let row = line.trim_end_matches('\\').trim();
-        if let Some(words) = row.strip_prefix("X(").and_then(|row| row.strip_suffix(')')) {
-            let words = words.split(", ").map(str::to_string).collect();
-            found.push((std::mem::take(&mut doc), words));
-        } else if let Some(said) = row.strip_prefix("/* ") {
-            doc = said.trim_end_matches(" */").to_string();
-        } else {
-            break;
-        }
-    }
-    found
+/// The version of the interface that a header describes.
+fn version_of(header: &str) -> Option<u32> {
+    let (_, rest) = header.split_once("#define MARKDOWN_INLINE_VERSION ")?;
+    rest.lines().next()?.trim().parse().ok()
 }
 
-/// The number that the header gives a name.
-fn number(header: &str, name: &str) -> String {
-    let start = header
-        .find(name)
-        .expect("the header names a set of options");
-    let value = header[start..]
-        .split_once(" = ")
-        .expect("the set has bits")
-        .1;
-    value
-        .split(|c: char| !c.is_alphanumeric())
-        .next()
-        .unwrap_or_default()
-        .to_string()
-}
-
-/// The lists of the sources, as calls of their macros.
-fn lists(header: &str) -> (String, String) {
-    let mut names = "names! {\n".to_string();
-    for (doc, words) in rows(header, "define MARKDOWN_INLINE_EACH_NAME") {
-        let name = words[1].trim_matches('"');
-        let _ = write!(names, "    /// {doc}\n    {name},\n");
-    }
-    names += "}\n";
-    let mut options = String::new();
-    for set in ["COMMONMARK", "CRATE", "GFM"] {
-        let bits = number(header, &format!("MARKDOWN_INLINE_{set} ="));
-        let _ = writeln!(options, "const {set}_BITS: u32 = {bits};");
-    }
-    options += "options! {\n";
-    for (doc, words) in rows(header, "define MARKDOWN_INLINE_EACH_OPTION") {
-        let [constant, name, bits] = &words[..] else {
-            panic!("an option has three words")
-        };
-        let _ = write!(options, "    /// {doc}\n    {constant} {name} {bits},\n");
-    }
-    (names, options + "}\n")
-}
-
-fn written(path: &Path, text: &str) {
-    if let Err(error) = fs::write(path, text) {
-        panic!("{}: {error}", path.display());
-    }
+fn end(why: &str) -> ! {
+    eprintln!("{why}");
+    exit(1)
 }
 
 fn main() {
@@ -149,13 +94,18 @@ fn main() {
     let (archive, header) = (place.archive(), place.header());
     let text = fs::read_to_string(&header).unwrap_or_default();
     if text.is_empty() || !archive.exists() {
-        eprintln!(
+        end(&format!(
             "{} or {} is not there: set MARKDOWN_INLINE_LIB_DIR to the folder of libmarkdown_inline.a, or PKG_CONFIG_PATH to that of markdown_inline.pc; \
              bindings/build of the repository makes the library",
             archive.display(),
             header.display()
-        );
-        exit(1);
+        ));
+    }
+    if version_of(&text) != Some(VERSION) {
+        end(&format!(
+            "{} describes another version of the interface than {VERSION}, which this crate calls: take the library of the same release",
+            header.display()
+        ));
     }
     println!("cargo:rustc-link-search=native={}", place.lib.display());
     println!("cargo:rustc-link-lib=static=markdown_inline");
@@ -165,8 +115,4 @@ fn main() {
         "cargo:rustc-env=MARKDOWN_INLINE_HEADER={}",
         header.display()
     );
-    let out = PathBuf::from(env::var_os("OUT_DIR").unwrap_or_default());
-    let (names, options) = lists(&text);
-    written(&out.join("names.rs"), &names);
-    written(&out.join("options.rs"), &options);
 }

@@ -42,7 +42,8 @@
 //!
 //! # Linking
 //!
-//! The crate links the static library `libmarkdown_inline.a`, and reads names and options in `markdown_inline.h`, when it is built. They stand
+//! When the crate is built, it links the static library `libmarkdown_inline.a`, if the header `markdown_inline.h` describes the version of the interface that the
+//! crate calls. They stand
 //!
 //! 1. where the variable `MARKDOWN_INLINE_LIB_DIR` says, which is the folder of the library; the header stands in the folder `include` beside it;
 //! 2. else in the crate's folder `native`, where a release packs them for Linux with glibc on x86-64, and where `bindings/install PREFIX` leads to those of PREFIX;
@@ -62,6 +63,7 @@ mod raw;
 mod short;
 mod strings;
 mod texts;
+mod version;
 
 pub use error::{Error, Refusal};
 pub use event::{Chain, Content, Event, EventSlice, Events, Iter, Kind, Link, Point};
@@ -147,5 +149,5 @@ fn text_by(
 /// Whether the library that is linked has the version of the interface that this crate is written for.
 pub fn is_right_version() -> bool {
     // SAFETY: the function takes nothing.
-    unsafe { raw::markdown_inline_version() == raw::VERSION }
+    unsafe { raw::markdown_inline_version() == version::VERSION }
 }

@@ -7,27 +7,75 @@ use std::ops::{BitOr, Sub};
 pub struct Options(u32);
 
 macro_rules! options {
-    ($($(#[$doc:meta])* $constant:ident $name:literal $bits:literal,)*) => {
+    ($($(#[$doc:meta])* $constant:ident $name:ident $bits:literal,)*) => {
         impl Options {
             $($(#[$doc])* pub const $constant: Options = Options($bits);)*
 
             /// Each option by its name.
-            pub const ALL: &'static [(&'static str, Options)] = &[$(($name, Options::$constant),)*];
+            pub const ALL: &'static [(&'static str, Options)] = &[$((stringify!($name), Options::$constant),)*];
         }
     };
 }
 
-include!(concat!(env!("OUT_DIR"), "/options.rs"));
+// The rows, and the numbers of the sets below, are those that tools/writers/write-lists writes.
+options! {
+    /// Emphasis and strong emphasis (CommonMark 6.2).
+    ATTENTION attention 0x1,
+    /// Autolinks (CommonMark 6.5).
+    AUTOLINK autolink 0x2,
+    /// Backslash escapes (CommonMark 2.4).
+    CHARACTER_ESCAPE character_escape 0x4,
+    /// Character references (CommonMark 2.5).
+    CHARACTER_REFERENCE character_reference 0x8,
+    /// Code spans (CommonMark 6.1).
+    CODE_TEXT code_text 0x10,
+    /// Autolink literals (GFM 6.9).
+    GFM_AUTOLINK_LITERAL gfm_autolink_literal 0x20,
+    /// Starts of footnote calls.
+    GFM_LABEL_START_FOOTNOTE gfm_label_start_footnote 0x40,
+    /// Strikethrough (GFM 6.5).
+    GFM_STRIKETHROUGH gfm_strikethrough 0x80,
+    /// Checks of task list items (GFM 5.3).
+    GFM_TASK_LIST_ITEM gfm_task_list_item 0x100,
+    /// Hard line breaks by a backslash (CommonMark 6.7).
+    HARD_BREAK_ESCAPE hard_break_escape 0x200,
+    /// Hard line breaks by spaces (CommonMark 6.7).
+    HARD_BREAK_TRAILING hard_break_trailing 0x400,
+    /// Inline HTML (CommonMark 6.6).
+    HTML_TEXT html_text 0x800,
+    /// Starts of images (CommonMark 6.4).
+    LABEL_START_IMAGE label_start_image 0x1000,
+    /// Starts of links (CommonMark 6.3).
+    LABEL_START_LINK label_start_link 0x2000,
+    /// Ends of links, images and footnote calls.
+    LABEL_END label_end 0x4000,
+    /// Math spans.
+    MATH_TEXT math_text 0x8000,
+    /// Whether one tilde makes strikethrough, beside two.
+    GFM_STRIKETHROUGH_SINGLE_TILDE gfm_strikethrough_single_tilde 0x10000,
+    /// Whether one dollar opens and closes a math span, beside more.
+    MATH_TEXT_SINGLE_DOLLAR math_text_single_dollar 0x20000,
+    /// Whether the rule of three of emphasis reads the lengths of whole runs, as CommonMark says, and not what earlier pairs left of them.
+    ATTENTION_FIRST_LENGTHS attention_first_lengths 0x40000,
+    /// Whether a defined label before a `[` that begins no label of its own is a shortcut reference, as CommonMark says.
+    LABEL_SHORTCUT_BEFORE_BRACKET label_shortcut_before_bracket 0x80000,
+    /// Whether the text is the first of a list item, where the check of a task may stand.
+    FIRST_OF_ITEM first_of_item 0x100000,
+    /// Whether CommonMark's rule holds in each point that `Rules` names, in which the crate that is ported departs from it. The two options above and the one below are implied.
+    STANDARD_RULES standard_rules 0x200000,
+    /// Whether a reference may have any of the 2,125 names of HTML that end in a semicolon, as CommonMark says, and not only the 294 of a shorter table.
+    HTML_REFERENCES html_references 0x400000,
+}
 
 impl Options {
     /// CommonMark 0.31.2: its constructs, read by its rules. It is the default.
-    pub const COMMONMARK: Options = Options(COMMONMARK_BITS);
+    pub const COMMONMARK: Options = Options(0x237e1f);
     /// CommonMark's constructs, read by the rules of the crate `markdown`, which departs from the standard in places.
-    pub const CRATE: Options = Options(CRATE_BITS);
+    pub const CRATE: Options = Options(0x37e1f);
     /// What GitHub adds: autolink literals, footnote calls, strikethrough, task list checks.
-    pub const GFM: Options = Options(GFM_BITS);
+    pub const GFM: Options = Options(0x1e0);
     /// Math spans.
-    pub const MATH: Options = Options::MATH_TEXT;
+    pub const MATH: Options = Options(0x8000);
 
     /// The set with these bits, as in `markdown_inline.h`. A bit that is none of an option is an error of the calls.
     pub const fn from_bits(bits: u32) -> Options {

@@ -2,7 +2,6 @@
 
 use std::mem::size_of;
 
-pub(crate) const VERSION: u32 = 1;
 pub(crate) const DONE: u32 = 0;
 pub(crate) const TOO_SMALL: u32 = 6;
 

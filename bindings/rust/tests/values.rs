@@ -1,47 +1,38 @@
 //! Options, names, events and lists of them, by themselves.
 
 use markdown_inline::{text, Content, Error, HtmlOptions, Input, Kind, Name, Options};
-use std::collections::HashSet;
 
 const HEADER: &str = include_str!(env!("MARKDOWN_INLINE_HEADER"));
-const NAMES: &str = include_str!(concat!(env!("OUT_DIR"), "/names.rs"));
 
-/// The rows of a list of the header: the doc, and the words in the parentheses.
-fn rows(list: &str) -> Vec<(&'static str, Vec<&'static str>)> {
+/// The rows of a list of the header: the words in the parentheses, below a line with the doc.
+fn rows(list: &str) -> Vec<Vec<&'static str>> {
     let from = HEADER.find(list).unwrap() + list.len();
     let lines: Vec<_> = HEADER[from..].lines().skip(1).map(str::trim).collect();
     lines
         .chunks(2)
         .map_while(|pair| {
-            let doc = pair[0].strip_prefix("/* ")?.strip_suffix(" */ \\")?;
             let row = pair[1].trim_end_matches(" \\");
             let words = row.strip_prefix("X(")?.strip_suffix(')')?;
-            Some((doc, words.split(", ").collect()))
+            Some(words.split(", ").collect())
         })
         .collect()
 }
 
 #[test]
-fn names_are_those_of_the_header_with_their_docs() {
+fn names_are_those_of_the_header() {
     let rows = rows("MARKDOWN_INLINE_EACH_NAME(X)");
     assert_eq!(rows.len(), Name::ALL.len());
     assert!(rows.len() > 60);
-    for ((doc, words), name) in rows.iter().zip(Name::ALL) {
+    for (words, name) in rows.iter().zip(Name::ALL) {
         assert_eq!(words[1].trim_matches('"'), name.to_string());
-        assert!(
-            NAMES.contains(&format!("    /// {doc}\n    {name},\n")),
-            "{name}"
-        );
     }
-    let docs: HashSet<_> = rows.iter().map(|(doc, _)| doc).collect();
-    assert!(docs.len() > 50);
 }
 
 #[test]
 fn options_are_those_of_the_header() {
     let rows = rows("MARKDOWN_INLINE_EACH_OPTION(X)");
     assert_eq!(rows.len(), Options::ALL.len());
-    for ((_, words), (name, option)) in rows.iter().zip(Options::ALL) {
+    for (words, (name, option)) in rows.iter().zip(Options::ALL) {
         assert_eq!(words[1].trim_matches('"'), *name);
         assert_eq!(words[2], format!("{:#x}", option.bits()));
     }
