@@ -11,6 +11,8 @@
  * - Text is UTF-8. Indexes and ranges count bytes, from 0; lines and columns count from 1.
  * - Every input has an answer: nothing is required of it but that pointers and lengths are those of arrays, and that what a call writes to
  *   overlaps nothing else that the call is given.
+ * - A document that is not UTF-8 is refused whole. A copy of the same length with a NUL for each wrong byte is read, and places in it are those of the
+ *   document: CommonMark reads NUL as U+FFFD.
  * - No pointer is kept after a call, and nothing has to be freed. There is no state: calls on several threads do not meet.
  * - Memory comes from malloc, and is given back before the call ends. Where it is refused, a call answers MARKDOWN_INLINE_NO_MEMORY.
  * - The stack that a call takes does not grow with its input.
@@ -27,6 +29,15 @@ extern "C" {
 
 /* The version that this header describes; the library's is that of markdown_inline_version(). */
 #define MARKDOWN_INLINE_VERSION 1
+
+/* What stands before each declaration of a function; define it beforehand to have another there. */
+#ifndef MARKDOWN_INLINE_API
+#ifdef __GNUC__
+#define MARKDOWN_INLINE_API __attribute__((visibility("default")))
+#else
+#define MARKDOWN_INLINE_API
+#endif
+#endif
 
 /* Statuses, with what each says. A status is that of the first thing that is wrong, in the order 2, 9, 3, 7, 4, 8, but where a call says another;
  * memory may be refused at any time. But for DONE and TOO_SMALL nothing is written, except by calls for many, which have an outcome. */
@@ -276,7 +287,17 @@ enum { MARKDOWN_INLINE_HTML_RAW = 0x1, MARKDOWN_INLINE_HTML_ANY_LINK = 0x2 };
 #define MARKDOWN_INLINE_NO_DEFINITION UINT32_MAX
 
 /* A piece of a document, from a place to a place. A place is a byte, and the columns of the tab there that come before; 0 outside of tabs. Each
- * piece but the last one ends just after a line ending, and the next one starts on the line after it. */
+ * piece but the last one ends just after a line ending, and the next one starts on the line after it. So a piece is a line or several, and what comes
+ * between two pieces is the beginning of a line: of a paragraph in a block quote, "> a *b\n> c*",
+ *
+ *     {{2, 0, 7, 0}, {9, 0, 11, 0}}    are the pieces: `a *b` with its line ending, and `c*`;
+ *     {{2, 0, 6, 0}, {9, 0, 11, 0}}    are refused with MARKDOWN_INLINE_NO_CONTENT: the first ends before its line ending;
+ *     {{2, 0, 11, 0}}                  is read, with the `>` of the second line as text.
+ *
+ * - The caller leaves out the blanks that begin a line, as CommonMark does: let each piece start at the first byte of its line that is no space or tab, or
+ *   at its line's end. Blanks that are left in are set apart as SpaceOrTab in most places, but inside code, math and HTML they are part of the text.
+ * - Nothing can be left out within a line. So in a cell of GFM's tables, where `\|` stands for `|` in code too, read a copy of the cell without these
+ *   backslashes, and count them in again. */
 typedef struct markdown_inline_piece {
     size_t start, start_vs;
     size_t end, end_vs;
@@ -288,7 +309,9 @@ typedef struct markdown_inline_range {
 } markdown_inline_range;
 
 /* What a call reads. The ranges say where among `labels`, which may be `bytes`, the labels of definitions and of footnote definitions stand, as
- * they are written. */
+ * they are written, with their escapes and without their brackets. A footnote's label stands without its caret too: `a` of `[^a]: b`; the label `^a`
+ * is another, that of `[^^a]`. Set what is not used to 0, and `options` to MARKDOWN_INLINE_COMMONMARK, or to that
+ * with other sets and options by `|`. */
 typedef struct markdown_inline_input {
     const uint8_t *bytes;
     size_t bytes_len;
@@ -303,7 +326,15 @@ typedef struct markdown_inline_input {
     uint32_t options;
 } markdown_inline_input;
 
-/* The beginning or the end of something. `vs` is how many columns of the tab at `index` come before the place. `previous` and `next` are the
+/* The beginning or the end of something. An event with none inside it stands for the text between its Enter and its Exit; but text that is read
+ * otherwise than it is written has to be made of it:
+ *
+ * - The text of a code or math span is that of its CodeTextData or MathTextData, with a space for each LineEnding. Where it then begins and ends with a
+ *   space, and is not of spaces alone, one is taken off each end.
+ * - A title and a destination have escapes and references, which markdown_inline_strings takes away.
+ * - Quotes are text. Typographic ones cannot be paired from the events alone: as emphasis they pair by what stands beside them.
+ *
+ * `vs` is how many columns of the tab at `index` come before the place. `previous` and `next` are the
  * numbers of the events before and after on a chain of what is read again, or MARKDOWN_INLINE_NONE. */
 typedef struct markdown_inline_event {
     uint8_t kind, name, link;
@@ -338,7 +369,8 @@ typedef struct markdown_inline_target {
 } markdown_inline_target;
 
 /* One of many contents of a document: the numbers of its pieces among those of the input. `first_of_item` is 0 where it is not the first of a list
- * item. */
+ * item. Contents come in any order; one may come twice, and one without pieces or bytes has no events. Pieces that belong to no content are not looked
+ * at. */
 typedef struct markdown_inline_content {
     markdown_inline_range pieces;
     uint32_t first_of_item;
@@ -357,38 +389,38 @@ typedef char markdown_inline_checks_sizes[sizeof(size_t) == 8 && sizeof(void *) 
     && offsetof(markdown_inline_input, options) == 80 && offsetof(markdown_inline_event, line) == 8 ? 1 : -1];
 
 /* The version of the library. */
-uint32_t markdown_inline_version(void);
+MARKDOWN_INLINE_API uint32_t markdown_inline_version(void);
 
 /* Whether the pieces are a content of the document: DONE, or TOO_LONG, NOT_UTF8, NO_CONTENT or NO_MEMORY. */
-uint32_t markdown_inline_is_content(const uint8_t *bytes, size_t bytes_len, const markdown_inline_piece *pieces, size_t pieces_len);
+MARKDOWN_INLINE_API uint32_t markdown_inline_is_content(const uint8_t *bytes, size_t bytes_len, const markdown_inline_piece *pieces, size_t pieces_len);
 
 /* Whether the pieces are a text of the document, so a content without a blank line: DONE, or the statuses above, or BLANK_LINE. */
-uint32_t markdown_inline_is_text(const uint8_t *bytes, size_t bytes_len, const markdown_inline_piece *pieces, size_t pieces_len);
+MARKDOWN_INLINE_API uint32_t markdown_inline_is_text(const uint8_t *bytes, size_t bytes_len, const markdown_inline_piece *pieces, size_t pieces_len);
 
 /* Finds the events of the input's pieces as a string: of escapes, character references and data. Each call tests the whole document and passes all
  * that stands before the pieces, so a call for each of many pieces of one document takes time in proportion to its square; such a piece can be handed
  * over as a document of its own. Labels and definitions are not looked at. DONE: the events stand at the front of the array, and `*count` is how many
  * they are. TOO_SMALL: `*count` is how many they are, and the array is as before; call again with room for them. Else nothing is written. */
-uint32_t markdown_inline_string(const markdown_inline_input *input, markdown_inline_event *events, size_t events_len, size_t *count);
+MARKDOWN_INLINE_API uint32_t markdown_inline_string(const markdown_inline_input *input, markdown_inline_event *events, size_t events_len, size_t *count);
 
 /* Finds the events of the input's pieces as a text: of the inside of a paragraph, a heading or a table's cell. Each call tests the whole document,
  * passes all that stands before the pieces, and puts the labels in order, so a call for each paragraph of one document takes time in proportion to
  * its square: for many contents call markdown_inline_texts. The rest is as above. */
-uint32_t markdown_inline_text(const markdown_inline_input *input, markdown_inline_event *events, size_t events_len, size_t *count);
+MARKDOWN_INLINE_API uint32_t markdown_inline_text(const markdown_inline_input *input, markdown_inline_event *events, size_t events_len, size_t *count);
 
 /* Finds the leaves of the input's pieces as a text, in order: together they cover the pieces, each code once. A call costs what that for events does:
  * for many contents call markdown_inline_texts. The rest is as of events. */
-uint32_t markdown_inline_leaves(const markdown_inline_input *input, markdown_inline_leaf *leaves, size_t leaves_len, size_t *count);
+MARKDOWN_INLINE_API uint32_t markdown_inline_leaves(const markdown_inline_input *input, markdown_inline_leaf *leaves, size_t leaves_len, size_t *count);
 
 /* Finds the identifier of a label, as labels are compared: its words joined by one space and case folded, in UTF-8. DONE: it stands at the front of
  * the array, and `*count` is how many bytes it has. TOO_SMALL, NOT_UTF8 and NO_MEMORY are as above. */
-uint32_t markdown_inline_identifier(const uint8_t *label, size_t label_len, uint8_t *identifier, size_t identifier_len, size_t *count);
+MARKDOWN_INLINE_API uint32_t markdown_inline_identifier(const uint8_t *label, size_t label_len, uint8_t *identifier, size_t identifier_len, size_t *count);
 
 /* Finds the text that a character reference stands for, in UTF-8. The bytes are the whole reference, with its `&` and its `;`. The options are those of
  * an input: MARKDOWN_INLINE_OPTION_HTML_REFERENCES and MARKDOWN_INLINE_OPTION_STANDARD_RULES say that each name of HTML is known, and the latter says
  * too that a number stands for a control or a noncharacter; the other bits change nothing. DONE: the text stands at the front of the array, and
  * `*count` is how many bytes it has. NO_REFERENCE: they are none, or its name is not known. UNKNOWN_OPTION, TOO_SMALL and NO_MEMORY are as above. */
-uint32_t markdown_inline_reference(uint32_t options, const uint8_t *reference, size_t reference_len, uint8_t *text, size_t text_len, size_t *count);
+MARKDOWN_INLINE_API uint32_t markdown_inline_reference(uint32_t options, const uint8_t *reference, size_t reference_len, uint8_t *text, size_t text_len, size_t *count);
 
 /* Calls for many contents or strings read one after another, and write what they find in each at the front of an array, one behind another; at the front of
  * `ends` they write for each how many elements end with it. As many of the first are written as have room whole, with an end each: nothing else of the two
@@ -406,11 +438,11 @@ uint32_t markdown_inline_reference(uint32_t options, const uint8_t *reference, s
  * The input has the pieces of all contents; whether a text is the first of a list item is said of each content, and not by the options. Numbers of events
  * count within a content. Of what is wrong the order is 2, 9, 3, 8; then 7 or 4 for the first content that is no text.
  * Threads may share the contents of one input: each thread calls with some of them, and with arrays of its own. Each call prepares the document for itself. */
-uint32_t markdown_inline_texts(const markdown_inline_input *input, const markdown_inline_content *contents, size_t contents_len,
+MARKDOWN_INLINE_API uint32_t markdown_inline_texts(const markdown_inline_input *input, const markdown_inline_content *contents, size_t contents_len,
     markdown_inline_event *events, size_t events_len, size_t *ends, size_t ends_len, markdown_inline_outcome *outcome);
 
 /* Finds the same events in 16 bytes each, with the definitions that links, images and footnote calls refer to: all that a renderer needs that walks them. */
-uint32_t markdown_inline_short_texts(const markdown_inline_input *input, const markdown_inline_content *contents, size_t contents_len,
+MARKDOWN_INLINE_API uint32_t markdown_inline_short_texts(const markdown_inline_input *input, const markdown_inline_content *contents, size_t contents_len,
     markdown_inline_short_event *events, size_t events_len, size_t *ends, size_t ends_len, markdown_inline_outcome *outcome);
 
 /* Writes the HTML of the input's pieces as a text, in UTF-8. Each call tests the whole document, passes all that stands before the pieces, and puts
@@ -423,18 +455,19 @@ uint32_t markdown_inline_short_texts(const markdown_inline_input *input, const m
  * REFERENCES: definitions bring more than the limit. DONE: the HTML stands at the front of the array, and `*count` is how
  * many bytes it has. DEFINITION: a label or a target is no text of the labels, or there is not one target for each definition. The rest is as of
  * events. */
-uint32_t markdown_inline_html(const markdown_inline_input *input, const markdown_inline_target *targets, size_t targets_len, uint32_t options,
+MARKDOWN_INLINE_API uint32_t markdown_inline_html(const markdown_inline_input *input, const markdown_inline_target *targets, size_t targets_len, uint32_t options,
     size_t limit, uint8_t *html, size_t html_len, size_t *count);
 
 /* Writes the HTML of many contents of a document as texts, which is prepared once: each content costs what it costs by itself, wherever it stands.
  * Contents are those of markdown_inline_texts, and targets and `options` those of markdown_inline_html. Footnotes are numbered through all contents,
- * so each call of a footnote in them has an id of its own.
+ * and a second call of a footnote has another id than the first. Ids are made of labels, so two footnotes may share one: the second call of `a` has the id
+ * of the first call of `a-2`, and `a b` has that of `a%20b`.
  * `limit` is that of markdown_inline_html, for what definitions bring to all contents together.
  * The HTML is written as calls for many write. Since footnotes are numbered through the contents of one call, a call after TOO_SMALL is for all of them where
  * footnotes are called, with room for `count` bytes. Of what is wrong the order is 2, 9, 3, 8; then 7, 4 or 11 for the first content that is no text, or
  * to which with those before it definitions bring more than the limit. With 8 the definition is refused whose label or target is no text of the
  * labels; where there is not one target for each definition, none is to blame. */
-uint32_t markdown_inline_htmls(const markdown_inline_input *input, const markdown_inline_target *targets, size_t targets_len,
+MARKDOWN_INLINE_API uint32_t markdown_inline_htmls(const markdown_inline_input *input, const markdown_inline_target *targets, size_t targets_len,
     const markdown_inline_content *contents, size_t contents_len, uint32_t options, size_t limit, uint8_t *html, size_t html_len, size_t *ends,
     size_t ends_len, markdown_inline_outcome *outcome);
 
@@ -448,31 +481,14 @@ uint32_t markdown_inline_htmls(const markdown_inline_input *input, const markdow
  *
  * The texts are written as calls for many write. NO_STRING: a string has a part that is not given, or one that is no text of the bytes. By the names that are
  * known without an option, no text is longer than its parts, and by all names of HTML it is longer by a fifth at most; that is tested and not proved. */
-uint32_t markdown_inline_strings(uint32_t options, const uint8_t *bytes, size_t bytes_len, const markdown_inline_range *parts, size_t parts_len,
+MARKDOWN_INLINE_API uint32_t markdown_inline_strings(uint32_t options, const uint8_t *bytes, size_t bytes_len, const markdown_inline_range *parts, size_t parts_len,
     const markdown_inline_range *strings, size_t strings_len, uint8_t *texts, size_t texts_len, size_t *ends, size_t ends_len, markdown_inline_outcome *outcome);
 
-/* What a status says, or a null pointer for a number that is none. */
-static inline const char *markdown_inline_status_text(uint32_t status) {
-    switch (status) {
-#define MARKDOWN_INLINE_STATUS(name, number, words) \
-    case number: \
-        return words;
-        MARKDOWN_INLINE_EACH_STATUS(MARKDOWN_INLINE_STATUS)
-#undef MARKDOWN_INLINE_STATUS
-    default:
-        return NULL;
-    }
-}
+/* What a status says, or a null pointer for a number that is none. This function and the next one are not proved. */
+MARKDOWN_INLINE_API const char *markdown_inline_status_text(uint32_t status);
 
 /* The name of an event by its number, or a null pointer for a number that is none. */
-static inline const char *markdown_inline_name_text(uint8_t name) {
-    static const char *const texts[] = {
-#define MARKDOWN_INLINE_NAME(name, words) words,
-        MARKDOWN_INLINE_EACH_NAME(MARKDOWN_INLINE_NAME)
-#undef MARKDOWN_INLINE_NAME
-    };
-    return name < MARKDOWN_INLINE_NAME_COUNT ? texts[name] : NULL;
-}
+MARKDOWN_INLINE_API const char *markdown_inline_name_text(uint8_t name);
 
 #ifdef __cplusplus
 }
