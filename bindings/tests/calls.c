@@ -378,6 +378,55 @@ static void test_short_texts(void) {
     want("how many refer to a definition", met == 8);
 }
 
+/* What the header says of pieces, of contents and of ids. */
+static void test_the_header(void) {
+    static const char quote[] = "> a *b\n> c*";
+    static const markdown_inline_piece right[] = {{2, 0, 7, 0}, {9, 0, 11, 0}}, wrong[] = {{2, 0, 6, 0}, {9, 0, 11, 0}}, one[] = {{2, 0, 11, 0}};
+    markdown_inline_input input = input_of(quote, right);
+    markdown_inline_event events[64];
+    size_t count = 0;
+    input.pieces_len = 2;
+    want("two lines of a quote", markdown_inline_text(&input, events, 64, &count) == MARKDOWN_INLINE_DONE);
+    input.pieces = wrong;
+    want_status("a piece that ends before its line ending", &input, 1, MARKDOWN_INLINE_NO_CONTENT);
+    input.pieces = one;
+    input.pieces_len = 1;
+    want("one piece with the mark of a quote in it", markdown_inline_text(&input, events, 64, &count) == MARKDOWN_INLINE_DONE);
+    /* Contents in any order, twice, with no piece, with an empty piece, and beside pieces that are none. */
+    static const markdown_inline_piece pieces[] = {{0, 0, 1, 0}, {2, 0, 3, 0}, {2, 0, 2, 0}, {9, 0, 5, 0}};
+    static const markdown_inline_content contents[] = {{{1, 2}, 0}, {{0, 1}, 0}, {{0, 1}, 0}, {{0, 0}, 0}, {{2, 3}, 0}};
+    markdown_inline_outcome outcome;
+    size_t ends[5];
+    input = input_of("a\nb", pieces);
+    input.pieces_len = 4;
+    want("contents as they come", markdown_inline_texts(&input, contents, 5, events, 64, ends, 5, &outcome) == MARKDOWN_INLINE_DONE);
+    want("of each its events", ends[0] == 2 && ends[1] == 4 && ends[2] == 6 && ends[3] == 6 && ends[4] == 6 && events[0].index == 2 && events[2].index == 0);
+}
+
+/* The HTML of footnote calls: a second call has another id than the first, and two footnotes may share one. */
+static void test_ids(void) {
+    static const char text[] = "[^a] [^a] [^a-2] [^b c] [^b%20c]";
+    static const markdown_inline_range footnotes[] = {{2, 3}, {12, 15}, {19, 22}, {26, 31}};
+    static const char *const wanted[] = {"id=\"user-content-fnref-a\"", "id=\"user-content-fnref-a-2\"", "id=\"user-content-fnref-b%20c\""};
+    static const int times[] = {1, 2, 2};
+    markdown_inline_piece piece = whole(text);
+    markdown_inline_input input = input_of(text, &piece);
+    uint8_t html[2048];
+    size_t count = 0;
+    input.options |= MARKDOWN_INLINE_GFM;
+    input.labels = input.bytes;
+    input.labels_len = input.bytes_len;
+    input.footnotes = footnotes;
+    input.footnotes_len = 4;
+    want("HTML of footnotes", markdown_inline_html(&input, NULL, 0, 0, 0, html, sizeof html - 1, &count) == MARKDOWN_INLINE_DONE);
+    html[count] = 0;
+    for (size_t at = 0; at < 3; at++) {
+        int found = 0;
+        for (const char *it = (const char *)html; (it = strstr(it, wanted[at])) != NULL; it++) found++;
+        want(wanted[at], found == times[at]);
+    }
+}
+
 /* Whether a text has this HTML, and nothing is written without room for it. */
 static void want_html(const char *text, uint32_t options, const char *html) {
     /* The label `d` leads to `/e` with the title `f`, `g` to `h`. */
@@ -406,6 +455,9 @@ static void test_html(void) {
     want_html("<b>a", MARKDOWN_INLINE_HTML_RAW, "<b>a");
     want_html("[a](javascript:b)", 0, "<a href=\"\">a</a>");
     want_html("[a](javascript:b)", MARKDOWN_INLINE_HTML_ANY_LINK, "<a href=\"javascript:b\">a</a>");
+    /* Either bit asks for one thing alone. */
+    want_html("<b>[a](javascript:b)", MARKDOWN_INLINE_HTML_RAW, "<b><a href=\"\">a</a>");
+    want_html("<b>[a](javascript:b)", MARKDOWN_INLINE_HTML_ANY_LINK, "&lt;b&gt;<a href=\"javascript:b\">a</a>");
     markdown_inline_piece piece = whole("[a]"), past = {0, 0, 9, 0};
     markdown_inline_range label = {1, 2}, bad = {0, 9};
     markdown_inline_target targets[] = {{{1, 2}, {0, 9}, 1}, {{0, 9}, {0, 0}, 0}, {{1, 0}, {0, 0}, 0}, {{1, 2}, {0, 9}, 0}}, two_bytes = {{1, 3}, {0, 0}, 0};
@@ -747,6 +799,8 @@ int main(int argc, char **argv) {
     test_texts();
     test_texts_refused();
     test_short_texts();
+    test_the_header();
+    test_ids();
     test_html();
     test_htmls();
     test_limit();
