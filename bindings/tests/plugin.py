@@ -1,7 +1,11 @@
 """The plugin for markdown-it-py makes the tokens that markdown-it's own inline parser makes. Without markdown-it-py nothing of it can be tried."""
 import os
 import random
+import sys
 import unittest
+
+sys.path.insert(0, os.path.join(os.path.dirname(os.path.abspath(__file__)), '../../tools/checks'))
+import rows
 
 try:
     from markdown_it import MarkdownIt
@@ -26,25 +30,24 @@ DOCUMENTS = [
 # none; by CommonMark and the library some runs of markers.
 PARTS = ['a', ' ', ' b ', ' *r s* ', ' **t u** ', ' _v **w** x_ ', '`k`', '[l](m)', '![n *o*](p "q")', ']', '(c)', '](d)', '<e:f>', '<g>', '&amp;', '\n', '  \n', 'é', '漢', '[h]', '"', '&star;']
 
-# Rows of texts with their definitions; the examples of the CommonMark Spec 0.31 are among them.
-ROWS = os.path.join(os.path.dirname(os.path.abspath(__file__)), '../../crates/markdown_test_texts/stdin')
-SIGNS = str.maketrans('␊␍␉␀␠→', '\n\r\t\0 \t')
 # The texts that version 2.1 of markdown-it-py reads in another way. It leaves a tab at the end of a line, which cmark and the library take off. And it reads
 # symbols and comments by version 0.30.
 OTHERS = ['a\t\nb', '*£*bravo.', '*€*charlie.', 'foo <!-- this is a --\ncomment - with hyphens -->', 'foo <!--> foo -->', 'foo <!---> foo -->']
 
 
 def examples():
-    """The text of each row, and its definitions as markdown-it keeps them."""
-    with open(ROWS, encoding='utf-8') as rows:
-        for name, *fields in (row.rstrip('\n').split('\t') for row in rows):
-            if name == 'html':
-                references = {}
-                for label, _, to in (it.partition(': ') for it in fields[1:]):
-                    destination, _, title = to.partition(' ')
-                    found = {'title': title.translate(SIGNS), 'href': MarkdownIt().normalizeLink(destination.translate(SIGNS))}
-                    references.setdefault(normalizeReference(label.translate(SIGNS)), found)
-                yield fields[0].translate(SIGNS), references
+    """The text of each row of `inline_html` by CommonMark and of the examples of its specification, and its definitions as markdown-it keeps them."""
+    for line in rows.lines('inline_html', 'rows-*.txt'):
+        words, text, _, _ = rows.read(line)
+        references, found = {}, {}
+        for name, _, value in (word.decode().partition('=') for word in words):
+            if name == 'define':
+                found = {'title': '', 'href': ''}
+                references.setdefault(normalizeReference(value), found)
+            elif name in ('to', 'title'):
+                found['href' if name == 'to' else name] = MarkdownIt().normalizeLink(value) if name == 'to' else value
+        if b'gfm' not in words:
+            yield text.decode(), references
 
 
 def flat(tokens):

@@ -2,12 +2,12 @@
 """Writes stdin and stdout: the cases of this crate and the worked examples, and what has to be found in each.
 
 Run it in the crate's folder. What it reads are tools/cases.txt, tools/calls.txt, the rows of markdown_worked_examples/tools/rules, and the parts that
-texts are drawn from in markdown_test_texts/stdin; src/main.rt says what it writes."""
+texts are drawn from in tools/parts.txt; src/main.rt says what it writes."""
 import os, re, sys
 
 HERE = os.path.dirname(os.path.dirname(os.path.abspath(__file__)))
 WORKED = os.path.join(HERE, '..', 'markdown_worked_examples', 'tools')
-PARTS = os.path.join(HERE, '..', 'markdown_test_texts', 'stdin')
+PARTS = os.path.join(HERE, 'tools', 'parts.txt')
 sys.path.insert(0, WORKED)
 sys.dont_write_bytecode = True
 import examples
@@ -25,8 +25,9 @@ RUNS = ['gfm_autolink_literal', 'gfm_label_start_footnote', 'gfm_strikethrough']
 COUNTED = {'counts': ('runs', 'pairs'), 'looks': ('open', 'close')}
 DEFINED = ['definition=a', 'footnote=*a*']
 CHOICES = [[], RUNS, RUNS + ['lengths'], RUNS + ['no-single-tilde']]
-# How many texts are drawn, by which seed, of fewer than how many steps each, what they are read with, and what is drawn beside the parts.
-DRAWN, SEED, STEPS = 2_400, 1, 32
+# How many texts are drawn, by which seed, of fewer than how many steps each, what they are read with, and what is drawn beside the parts. That they are read
+# alike is proved; the rows test the two compilers.
+DRAWN, SEED, STEPS = 200, 1, 32
 DRAWN_WITH = [[], RUNS, RUNS + ['math_text'], RUNS + ['math_text', 'gfm_task_list_item', 'first'], RUNS + ['lengths']]
 DRAWN_DEFINED = ['definition=a', 'definition=é', 'footnote=a', 'footnote=é']
 WORDS = ['a_b', 'a_b_c', '_a_b', 'a_b_', 'a__b_c', '1_é', 'www.a_b']
@@ -257,9 +258,6 @@ def worked_cases(line):
     elif kind not in examples.READINGS:
         yield run_case(kind, words, document, pieces, answer)
         yield from passes_cases(kind, words, document, pieces, answer)
-        if kind != 'string':
-            fields, found = likeness_case(kind, RUNS + ['lengths'] + DEFINED, document, pieces, answer)
-            yield ['equal'] + fields[1:], found.partition(',')[0]
 
 
 def parts_to_draw():
