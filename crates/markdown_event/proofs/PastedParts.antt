@@ -18,9 +18,7 @@ part-same xs ys n m l h =
 
 module _ {X : Type 0} (d : List X) (at : ℕ) (s : List X) (n : ℕ) (within : at ≤ length d) where
   pub pasted-front : (k : ℕ) → k ≤ at → take k (paste d at s n) ≡ take k d
-  pasted-front k l =
-      let size = length-take at d in
-      ap (take k) (append_assoc (take at d) (take n s) (drop (at + n) d)) ∙ take-append-le k (take at d) (take n s ++ drop (at + n) d) (omega arith) ∙ take-take-le k at d l
+  pasted-front k l = grind (arith, length-take, append_assoc, take-append-le, take-take-le)
 
   pub pasted-back : drop at (paste d at s n) ≡ take n s ++ drop (at + n) d
   pasted-back =
@@ -60,24 +58,14 @@ pasted-before d moved all gap left n m few within move write =
 -- n items are moved down, and then the m behind them
 pub pasted-after : {X : Type 0} (d moved all : List X) (at from n m : ℕ) → at ≤ from → from + n + m ≤ length d →
     moved ≡ paste d at (drop from d) n → all ≡ paste moved (at + n) (drop (from + n) moved) m → all ≡ paste d at (drop from d) (n + m)
-pasted-after d moved all at from n m order within move write =
-    let rest = drop from d in
-    let size = length-drop from d in
-    let front : take (at + n) moved ≡ take at d ++ take n rest = ap (take (at + n)) move ∙ take-paste d at rest n (omega arith) (omega arith) in
-    let part : drop (from + n) moved ≡ drop (from + n) d = ap (drop (from + n)) move ∙ pasted-past d at rest n (omega arith) (from + n) (omega arith) (omega arith) in
-    let end : at + n + m ≡ at + (n + m) = omega arith in
-    let back : drop (at + n + m) moved ≡ drop (at + (n + m)) d = ap (drop (at + n + m)) move ∙ pasted-past d at rest n (omega arith) (at + n + m) (omega arith) (omega arith) ∙ ap (λ k. drop k d) end in
-    write ∙ ap (λ ys. ys ++ take m (drop (from + n) moved) ++ drop (at + n + m) moved) front ∙ ap (λ ys. take at d ++ take n rest ++ take m ys ++ drop (at + n + m) moved) part ∙ ap (λ ys. take at d ++ take n rest ++ take m (drop (from + n) d) ++ ys) back ∙ ap (λ ys. ys ++ drop (at + (n + m)) d) (append_assoc (take at d) (take n rest) (take m (drop (from + n) d)) ∙ ap (λ ys. take at d ++ ys) (two-parts d from n m))
+pasted-after d moved all at from n m order within move write = grind (arith, length-drop, take-paste, pasted-past, append_assoc, two-parts)
 
 -- The same, as the two loops meet them.
 
 pub pasted-up : {X : Type 0} (old items all : List X) (gap left to n : ℕ) → n ≤ gap → n ≤ left → left ≤ to → to + gap ≤ length old →
     items ≡ paste old (left + gap) (drop left old) (to - left) → all ≡ paste items (left - n + gap) (drop (left - n) items) n →
     all ≡ paste old (left - n + gap) (drop (left - n) old) (to - (left - n))
-pasted-up old items all gap left to n few low order within move write =
-    let e : left ≡ left - n + n = omega arith in
-    let count : n + (to - left) ≡ to - (left - n) = omega arith in
-    pasted-before old items all gap (left - n) n (to - left) few (omega arith) (move ∙ ap (λ k. paste old (k + gap) (drop k old) (to - left)) e) write ∙ ap (λ k. paste old (left - n + gap) (drop (left - n) old) k) count
+pasted-up old items all gap left to n few low order within move write = grind (arith, pasted-before)
 
 pub pasted-down : {X : Type 0} (old items all : List X) (gap from at to n : ℕ) → gap ≤ from → from ≤ at → at + n ≤ to → to ≤ length old →
     items ≡ paste old (from - gap) (drop from old) (at - from) → all ≡ paste items (at - gap) (drop at items) n →
