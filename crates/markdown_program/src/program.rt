@@ -54,7 +54,7 @@ impl Fault {
     fn message(self) -> &'static str {
         match self {
             Fault::Usage => {
-                "usage: mdinline text|string [gfm] [math] [task] [label=TEXT].. [note=TEXT].. [cm-lengths] [cm-shortcut] [html-references] [commonmark]"
+                "usage: mdinline text|string [gfm] [math] [task] [label=TEXT].. [note=TEXT].."
             }
             Fault::NotText => "input is not UTF-8",
             Fault::BlankLine => "blank line in text",
