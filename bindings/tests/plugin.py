@@ -38,7 +38,7 @@ OTHERS = ['a\t\nb', '*£*bravo.', '*€*charlie.', 'foo <!-- this is a --\ncomme
 def examples():
     """The text of each row of `inline_html` by CommonMark and of the examples of its specification, and its definitions as markdown-it keeps them."""
     for line in rows.lines('inline_html', 'rows-*.txt'):
-        words, text, _, _ = rows.read(line)
+        words, text, *_ = rows.read(line)
         references, found = {}, {}
         for name, _, value in (word.decode().partition('=') for word in words):
             if name == 'define':

@@ -4,8 +4,9 @@ import os
 import re
 
 CRATES = os.path.join(os.path.dirname(os.path.dirname(os.path.dirname(os.path.abspath(__file__)))), 'crates')
-ROW = re.compile(r'(?:(\S.*) )?«(.*)»: (\d+) ?(.*)')
+ROW = re.compile(r'(?:(\S.*) )?«(.*)»: (\d+)(?: (?!says )(.*?))?(?: says (.*))?')
 SIGNS = {'␊': '\n', '␍': '\r', '␉': '\t', '␠': ' '}
+BYTE = re.compile('⟦([0-9A-F]{2})⟧'.encode())
 REPEATED = re.compile(r'⟦([^⟦⟧]*)×(\d+)⟧')
 
 
@@ -15,7 +16,7 @@ def meant(text):
         text = REPEATED.sub(lambda it: it[1] * int(it[2]), text)
     for sign, character in SIGNS.items():
         text = text.replace(sign, character)
-    return b'\xff'.join(part.encode() for part in text.split('⟦FF⟧'))
+    return BYTE.sub(lambda it: bytes([int(it[1], 16)]), text.encode())
 
 
 def crates():
@@ -31,6 +32,6 @@ def lines(crate, names='rows*.txt'):
 
 
 def read(line):
-    """What a row says: the words and the input of a run, its status, and what it prints."""
-    words, given, status, wanted = ROW.fullmatch(line).groups('')
-    return [meant(word) for word in words.split(' ')] if words else [], meant(given), int(status), meant(wanted)
+    """What a row says: the words and the input of a run, its status, what it prints, and what it says on standard error."""
+    words, given, status, wanted, says = ROW.fullmatch(line).groups('')
+    return [meant(word) for word in words.split(' ')] if words else [], meant(given), int(status), meant(wanted), meant(says + '␊') if says else b''

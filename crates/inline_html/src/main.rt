@@ -1,15 +1,4 @@
-//! Writes the HTML of a paragraph that it reads from standard input.
-//!
-//! The first word is `text`. The others are those of `mdinline` but `label=`: `gfm`, `math`, `task`, `cm-lengths`, `cm-shortcut`, `html-references`,
-//! `commonmark`, `note=TEXT`; and `raw`, which writes raw HTML as it stands; `any-link`, by which links lead wherever they say; `lf` and `crlf`, which
-//! write line endings so; `define=LABEL`, which defines a label, followed by `to=DESTINATION` and perhaps `title=TEXT`; and `no-limit`. One final line
-//! ending is dropped.
-//!
-//! A definition brings the bytes of its destination and of its title to each link and image that refers to it. Definitions bring no more than 100,000
-//! bytes, or than the input has where it has more, as in cmark; the word `no-limit` lifts that.
-//!
-//! The status is 0; 2 where a word is not known; 3 where the input is not UTF-8; 4 where a line is blank; 5 where memory is refused; 6 where
-//! reading or writing fails; 7 where definitions bring more than they may.
+//! Writes the HTML of a paragraph. `words` has the page that `--help` prints.
 #![tactic(auto)]
 
 ghost use Rattle.std.specs.Prelude.{◌≡◌, ◌≤◌, [], IfOk, IfSome};
@@ -21,8 +10,10 @@ ghost use Rattle.markdown_html_model.specs.Html.{html};
 ghost use Rattle.markdown_model.specs.InlineTree.{text_tree};
 ghost use Rattle.markdown_run_text.specs.RunSetting.{text_setting_of};
 
+mod fault;
 mod words;
 
+use fault::Fault;
 use markdown_html::footnotes::FootnoteCalls;
 use markdown_html::targets::Targets;
 use markdown_html::{is_within_limit, to_html};
@@ -31,58 +22,13 @@ use markdown_inline::event_list::EventSlice;
 use markdown_inline::parser::{ParseState, Piece};
 use markdown_inline::run;
 use std::alloc::{AllocError, Global};
-use std::env;
-use std::io::{self, ErrorKind, Read, Write};
+use std::io::{ErrorKind, Read, Write};
 use std::process::ExitCode;
+use std::{env, fs};
 use words::Asked;
 
 // How many bytes definitions may bring to an input that has no more.
 const LEAST_LIMIT: usize = 100_000;
-
-/// Why the program ends without its output.
-#[derive(Clone, Copy)]
-enum Fault {
-    /// A word is not known.
-    Usage,
-    /// The input is not UTF-8.
-    NotText,
-    /// A line of the input is blank.
-    BlankLine,
-    /// Memory was refused.
-    OutOfMemory,
-    /// Reading or writing failed.
-    Io,
-    /// Definitions bring more bytes than they may.
-    References,
-}
-
-impl Fault {
-    // The status that the program ends with.
-    fn status(self) -> u8 {
-        match self {
-            Fault::Usage => 2,
-            Fault::NotText => 3,
-            Fault::BlankLine => 4,
-            Fault::OutOfMemory => 5,
-            Fault::Io => 6,
-            Fault::References => 7,
-        }
-    }
-}
-
-impl From<AllocError> for Fault {
-    fn from(_error: AllocError) -> Fault {
-        Fault::OutOfMemory
-    }
-}
-
-// Refused memory is that wherever it comes.
-fn fault_of(error: io::Error) -> Fault {
-    match error.kind() {
-        ErrorKind::OutOfMemory => Fault::OutOfMemory,
-        _ => Fault::Io,
-    }
-}
 
 // Whether definitions bring more than the limit, if there is one, to the tree of these events.
 fn check_limit(
@@ -159,6 +105,10 @@ fn html_of(
 
 // The HTML of a paragraph with what the words ask.
 fn html(alloc: Global, bytes: &[u8], asked: Asked) -> Result<Vec<u8>, Fault> {
+    if str::from_utf8(bytes).is_err() {
+        return Err(Fault::NotText);
+    }
+    let bytes = without_line_ending(bytes);
     let Asked {
         options,
         html,
@@ -166,6 +116,7 @@ fn html(alloc: Global, bytes: &[u8], asked: Asked) -> Result<Vec<u8>, Fault> {
         footnotes,
         first_of_item,
         is_limited,
+        ..
     } = asked;
     let parse_state = ParseState {
         bytes,
@@ -200,37 +151,54 @@ fn without_line_ending(bytes: &[u8]) -> &[u8] {
     bytes.strip_suffix(b"\r").unwrap_or(bytes)
 }
 
-// Reads the words and the input, and writes the HTML.
-fn run<R: Read, W: Write>(
-    alloc: Global,
-    words: &[String],
-    reader: &mut R,
-    out: &mut W,
-) -> Result<(), Fault> {
-    let Some(asked) = words::read(alloc, words)? else {
-        return Err(Fault::Usage);
-    };
-    let mut bytes = Vec::new(alloc);
-    reader.read_to_end(&mut bytes).map_err(fault_of)?;
-    if str::from_utf8(bytes.as_slice()).is_err() {
-        return Err(Fault::NotText);
+// Reads the file, or standard input where none is named.
+fn read(rt: &HostRuntime, files: &[String]) -> Result<Vec<u8>, Fault> {
+    let mut bytes = Vec::new(rt.alloc());
+    match files {
+        [] => {
+            rt.stdin().read_to_end(&mut bytes).map_err(fault::of_read)?;
+            Ok(bytes)
+        }
+        [file] => fs::read(rt, file.as_str()).map_err(fault::of_read),
+        _ => Err(Fault::Usage),
     }
-    let html = html(alloc, without_line_ending(bytes.as_slice()), asked)?;
-    out.write_all(html.as_slice()).map_err(fault_of)?;
-    out.write_all(b"\n").map_err(fault_of)?;
-    out.flush().map_err(fault_of)
 }
 
-// The words after the program's name.
-fn words_of(rt: &HostRuntime, alloc: Global) -> io::Result<Vec<String>> {
-    Ok(env::args(rt)?.skip(1).collect(alloc)?)
+fn write(rt: &HostRuntime, bytes: &[u8]) -> Result<(), Fault> {
+    let mut out = rt.stdout();
+    out.write_all(bytes).map_err(fault::of_write)?;
+    out.flush().map_err(fault::of_write)
+}
+
+// The words behind the program's name.
+fn args(rt: &HostRuntime) -> Result<Vec<String>, Fault> {
+    match env::args(rt) {
+        Ok(args) => Ok(args.skip(1).collect(rt.alloc())?),
+        Err(error) if error.kind() == ErrorKind::OutOfMemory => Err(Fault::OutOfMemory),
+        Err(_) => Err(Fault::Words),
+    }
+}
+
+// Does what the words ask.
+fn run(rt: &HostRuntime) -> Result<(), Fault> {
+    let words = args(rt)?;
+    if let Some(page) = words::page(words.as_slice()) {
+        return write(rt, page.as_bytes());
+    }
+    let (words, files) = words::split(words.as_slice());
+    let asked = words::read(rt.alloc(), words)?;
+    let bytes = read(rt, files)?;
+    let html = html(rt.alloc(), bytes.as_slice(), asked)?;
+    write(rt, html.as_slice())?;
+    write(rt, b"\n")
 }
 
 fn main(rt: HostRuntime) -> ExitCode {
-    let alloc = rt.alloc();
-    let ended = match words_of(&rt, alloc) {
-        Ok(words) => run(alloc, words.as_slice(), &mut rt.stdin(), &mut rt.stdout()),
-        Err(error) => Err(fault_of(error)),
-    };
-    ExitCode::from(ended.map_or_else(Fault::status, |()| 0))
+    match run(&rt) {
+        Ok(()) => ExitCode::SUCCESS,
+        Err(fault) => {
+            let _ = eprintln!(rt; "inline_html: {fault}");
+            ExitCode::from(fault.status())
+        }
+    }
 }

@@ -1,9 +1,44 @@
-//! The words of the program.
+//! The words behind the program's name.
+use crate::fault::Fault;
 use markdown_html::targets::Targets;
 use markdown_html_model::options::{Definition, HtmlOptions, LineEnds};
 use markdown_inline::configuration::ParseOptions;
 use markdown_inline::util::normalize_identifier::normalize_identifier;
 use std::alloc::{AllocError, Global};
+
+const VERSION: &str = "inline_html 1.0.0\n";
+
+const HELP: &str = "inline_html writes the HTML of one paragraph of Markdown.
+
+    inline_html text [WORD].. < FILE
+    inline_html text [WORD].. -- FILE
+    inline_html --help | --version       this page, or the version
+
+A paragraph has no blank line; one final line ending is dropped. No text becomes markup, and no link leads to a script, unless a word says otherwise.
+
+Words
+    gfm              strikethrough, task checks, footnote calls, autolink literals
+    math             math spans
+    task             the text is the first of a list item, where the check of a task may stand
+    cm-lengths, cm-shortcut, html-references, commonmark
+                     follow CommonMark in one rule each, and the last in all, as mdinline's words do
+    note=TEXT        there is a footnote definition with this label
+    define=LABEL to=DESTINATION [title=TEXT]
+                     there is a definition with this label
+    raw              raw HTML is written as it stands
+    any-link         links lead wherever they say
+    lf, crlf         line endings are written so
+    no-limit         definitions may bring any number of bytes; else 100,000, or as many as the input has where it has more
+
+Statuses; where it is not 0, a line on standard error says why
+    0  the HTML was written
+    2  the first word is not text, or a word is not known, stands where it may not, or is not UTF-8
+    3  the input is not UTF-8
+    4  a line is blank, or the text ends with a line ending
+    5  memory was refused
+    6  reading or writing failed
+    7  definitions bring more than they may
+";
 
 /// What the words ask.
 #[derive(Drop)]
@@ -16,6 +51,8 @@ pub(crate) struct Asked {
     pub(crate) first_of_item: bool,
     /// Whether there is a limit on what definitions bring.
     pub(crate) is_limited: bool,
+    /// Whether the label that was defined last still lacks its destination.
+    lacks_target: bool,
 }
 
 impl Asked {
@@ -28,6 +65,7 @@ impl Asked {
             footnotes: Vec::new(alloc),
             first_of_item: false,
             is_limited: true,
+            lacks_target: false,
         }
     }
 
@@ -64,11 +102,15 @@ impl Asked {
     fn take_text(&mut self, alloc: Global, name: &str, text: &str) -> Result<bool, AllocError> {
         match name {
             "note" => self.footnotes.push(normalize_identifier(alloc, text)?)?,
-            "define" => self.definitions.push(Definition {
-                identifier: normalize_identifier(alloc, text)?,
-                destination: String::new(alloc),
-                title: None,
-            })?,
+            "define" if self.lacks_target => return Ok(false),
+            "define" => {
+                self.lacks_target = true;
+                self.definitions.push(Definition {
+                    identifier: normalize_identifier(alloc, text)?,
+                    destination: String::new(alloc),
+                    title: None,
+                })?
+            }
             "to" | "title" => return self.describe(alloc, name, text),
             _ => return Ok(false),
         }
@@ -82,6 +124,7 @@ impl Asked {
         };
         let text = String::from_str(alloc, text)?;
         if name == "to" {
+            self.lacks_target = false;
             definition.destination = text;
         } else {
             definition.title = Some(text);
@@ -90,21 +133,41 @@ impl Asked {
     }
 }
 
-/// What the words ask; none where the first is not `text`, or a word is not known.
-pub(crate) fn read(alloc: Global, words: &[String]) -> Result<Option<Asked>, AllocError> {
+/// The page that is asked for by the first word, if one is.
+pub(crate) fn page(words: &[String]) -> Option<&'static str> {
+    match words.first()?.as_str() {
+        "--help" => Some(HELP),
+        "--version" => Some(VERSION),
+        _ => None,
+    }
+}
+
+/// The words before the word `--`, and the files behind it.
+pub(crate) fn split(words: &[String]) -> (&[String], &[String]) {
+    match words.iter().position(|word| word.as_str() == "--") {
+        Some(at) if at < words.len() => (&words[..at], &words[at + 1..]),
+        _ => (words, &[]),
+    }
+}
+
+/// What the words ask. Errors where the first is not `text`, and where another is not known or stands where it may not.
+pub(crate) fn read(alloc: Global, words: &[String]) -> Result<Asked, Fault> {
     let Some((mode, rest)) = words.split_first() else {
-        return Ok(None);
+        return Err(Fault::Usage);
     };
     if mode.as_str() != "text" {
-        return Ok(None);
+        return Err(Fault::Usage);
     }
     let mut asked = Asked::new(alloc);
     for word in rest {
         if !asked.take(alloc, word.as_str())? {
-            return Ok(None);
+            return Err(Fault::Word(word.clone()?));
         }
     }
-    Ok(Some(asked))
+    if asked.lacks_target {
+        return Err(Fault::NoTarget);
+    }
+    Ok(asked)
 }
 
 /// The identifiers of the definitions.

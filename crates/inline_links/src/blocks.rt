@@ -45,8 +45,8 @@ struct Splitter<'a> {
     alloc: Global,
     bytes: &'a [u8],
     found: Blocks,
-    // What the last line stands in, the outermost first.
-    containers: Vec<Container>,
+    // What the last line stands in, the outermost first; with each, behind how many of them no more than items stand.
+    containers: Vec<(Container, usize)>,
     // The fence of the code that is open.
     fence: Option<Fence>,
     // The lines of the paragraph that is open, each without and with its line ending.
@@ -134,7 +134,7 @@ impl<'a> Splitter<'a> {
         if rest.is_blank() {
             return self.finish();
         }
-        if self.text.is_empty() && rest.indent() >= 4 {
+        if self.text.is_empty() && rest.indent >= 4 {
             return Ok(());
         }
         if let Some(fence) = rest.fence() {
@@ -144,7 +144,7 @@ impl<'a> Splitter<'a> {
         if let Some(inside) = rest.heading() {
             self.finish()?;
             let start = self.index_of(line, heading_start(rest));
-            return self.push_heading(start, inside.bytes.len());
+            return self.push_heading(start, inside.len());
         }
         if rest.is_break() || !self.text.is_empty() && rest.is_underline() {
             return self.finish();
@@ -152,14 +152,20 @@ impl<'a> Splitter<'a> {
         self.push_text(line, rest)
     }
 
-    // Passes what a line begins with of the containers that are open, and counts them.
+    // Behind how many of the containers that are open no more than items stand.
+    fn items_from(&self) -> usize {
+        self.containers.last().map_or(0, |(_, from)| *from)
+    }
+
+    // Passes what a line begins with of the containers that are open, and counts them. A blank rest stands in all items.
     fn enter(&self, line: Line) -> (usize, Rest<'a>) {
-        let mut rest = Rest {
-            bytes: line_bytes(self.bytes, line),
-            column: 0,
-        };
+        let mut rest = Rest::of_line(line_bytes(self.bytes, line));
+        let items_from = self.items_from();
         let mut entered = 0usize;
-        for container in &self.containers {
+        for (container, _) in &self.containers {
+            if entered >= items_from && rest.is_blank() {
+                return (self.containers.len(), rest);
+            }
             let Some(inner) = rest.enter(*container) else {
                 break;
             };
@@ -177,7 +183,11 @@ impl<'a> Splitter<'a> {
                 break;
             };
             self.finish()?;
-            self.containers.push(container)?;
+            let items_from = match container {
+                Container::Quote => self.containers.len().saturating_add(1),
+                Container::Item(_) => self.items_from(),
+            };
+            self.containers.push((container, items_from))?;
             rest = inner;
         }
         Ok(rest)
@@ -188,7 +198,7 @@ impl<'a> Splitter<'a> {
         !self.text.is_empty()
             && !rest.is_blank()
             && !rest.is_break()
-            && rest.container(true).is_none()
+            && rest.container(false).is_none()
             && rest.heading().is_none()
             && rest.fence().is_none()
     }

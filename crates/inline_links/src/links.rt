@@ -3,11 +3,11 @@
 ghost use Rattle.markdown_content.specs.LabelTexts.{HasLabelTexts};
 
 use crate::definition::Target;
-use crate::strings::one_line;
+use crate::lines::Lines;
 use markdown_inline::configuration::{COMMONMARK, Constructs, ParseOptions};
 use markdown_inline::definitions::Definitions;
 use markdown_inline::document::Document;
-use markdown_inline::event::{Name, Point};
+use markdown_inline::event::Name;
 use markdown_inline::event_list::EventSlice;
 use markdown_inline::labels::Labels;
 use markdown_inline::node::Node;
@@ -134,26 +134,10 @@ fn target(
     }
 }
 
-// Adds a line for a link: line, column, kind, destination, title.
-fn push_line(
-    alloc: Global,
-    lines: &mut String,
-    node: Node,
-    kind: Kind,
-    target: &Target,
-) -> Result<(), AllocError> {
-    let destination = one_line(alloc, target.destination.as_str())?;
-    let title = one_line(alloc, target.title.as_str())?;
-    let Point { line, column, .. } = node.start;
-    let kind = kind.word();
-    writeln!(lines, "{line}\t{column}\t{kind}\t{destination}\t{title}")?;
-    Ok(())
-}
-
 // Adds a line for each link among the events of a text.
 fn push_lines(
     alloc: Global,
-    lines: &mut String,
+    lines: &mut Lines,
     labels: &Labels,
     events: &EventSlice,
     targets: &[Target],
@@ -167,7 +151,7 @@ fn push_lines(
         };
         if let Some(kind) = kind_of(node.name) {
             let target = target(alloc, labels, &tree, node, targets)?;
-            push_line(alloc, lines, node, kind, &target)?;
+            lines.push(node.start, kind.word(), &target)?;
         }
     }
     Ok(())
@@ -176,7 +160,7 @@ fn push_lines(
 /// Adds a line for each link of a text of the document, where these are all definitions; none where the pieces are no text.
 pub fn push_text(
     alloc: Global,
-    lines: &mut String,
+    lines: &mut Lines,
     document: &Document,
     definitions: &Definitions,
     text: &[Piece],

@@ -1,28 +1,36 @@
-//! Lists where the links, images, autolinks and literals of a Markdown file lead.
-//!
-//! Reads the file from standard input. Writes a line for each: line, column, kind, destination, title, with a tab between two of them. The
-//! status is 0; 3 where the file is not UTF-8; 5 where memory is refused; 6 where reading or writing fails.
+//! Lists where the links, images, autolinks and literals of Markdown files lead. `words` has the page that `--help` prints.
 #![tactic(auto)]
 
 mod blocks;
 mod definition;
+mod fault;
+mod lines;
 mod links;
 mod rest;
 mod strings;
+mod words;
 
 use crate::blocks::Blocks;
+use crate::fault::Fault;
+use crate::lines::{Form, Lines};
+use crate::words::Asked;
 use markdown_inline::document::Document;
 use std::alloc::{AllocError, Global};
-use std::io::Read;
+use std::io::{ErrorKind, Read};
 use std::process::ExitCode;
+use std::{env, fs};
 
 // The lines of the texts of these blocks, whose definitions are all that is defined.
 fn lines_by_definitions(
     alloc: Global,
     document: &Document,
     blocks: &Blocks,
+    form: Form,
 ) -> Result<String, AllocError> {
-    let mut lines = String::new(alloc);
+    let mut lines = Lines {
+        text: String::new(alloc),
+        form,
+    };
     for text in &blocks.texts {
         let targets = blocks.targets.as_slice();
         links::push_text(
@@ -34,38 +42,100 @@ fn lines_by_definitions(
             targets,
         )?;
     }
-    Ok(lines)
+    let Lines { text, .. } = lines;
+    Ok(text)
 }
 
-// The same, of the blocks of these bytes; none where these are not UTF-8.
-fn lines_of_bytes(
-    alloc: Global,
-    bytes: &[u8],
-    blocks: &Blocks,
-) -> Result<Option<String>, AllocError> {
+// The lines of all texts of a document.
+fn lines_of(alloc: Global, bytes: &[u8], form: Form) -> Result<String, Fault> {
+    let blocks = blocks::of(alloc, bytes)?;
     let parse_state = links::parse_state(alloc, bytes, &blocks.definitions)?;
     match Document::new(alloc, parse_state)? {
-        Some(document) => lines_by_definitions(alloc, &document, blocks).map(Some),
-        None => Ok(None),
+        Some(document) => Ok(lines_by_definitions(alloc, &document, &blocks, form)?),
+        None => Err(Fault::NotText),
     }
 }
 
-// The lines of all texts of a document; none where it is not UTF-8.
-fn listed(alloc: Global, bytes: &[u8]) -> Result<Option<String>, AllocError> {
-    let blocks = blocks::of(alloc, bytes)?;
-    lines_of_bytes(alloc, bytes, &blocks)
+// Reads a file, or standard input.
+fn read(rt: &HostRuntime, file: Option<&str>) -> Result<Vec<u8>, Fault> {
+    if let Some(file) = file {
+        return fs::read(rt, file).map_err(fault::of_read);
+    }
+    let mut bytes = Vec::new(rt.alloc());
+    match rt.stdin().read_to_end(&mut bytes) {
+        Ok(_) => Ok(bytes),
+        Err(error) => Err(fault::of_read(error)),
+    }
+}
+
+fn print(rt: &HostRuntime, text: &str) -> Result<(), Fault> {
+    print!(rt; "{text}").map_err(|error| Fault::Write(error))
+}
+
+// Lists a file, or standard input.
+fn list(rt: &HostRuntime, file: Option<&str>, is_json: bool) -> Result<(), Fault> {
+    let bytes = read(rt, file)?;
+    let form = match file {
+        _ if is_json => Form::Object(file),
+        Some(file) => Form::Place(file),
+        None => Form::Fields,
+    };
+    let lines = lines_of(rt.alloc(), bytes.as_slice(), form)?;
+    print(rt, lines.as_str())
+}
+
+// Says why a file was not listed, or none. Answers the status.
+fn tell(rt: &HostRuntime, file: Option<&str>, fault: &Fault) -> u8 {
+    let _ = match file {
+        Some(file) => eprintln!(rt; "inline_links: {file:?}: {fault}"),
+        None => eprintln!(rt; "inline_links: {fault}"),
+    };
+    fault.status()
+}
+
+// Lists files, past those that are not read. Answers the status of the first fault.
+fn list_files(rt: &HostRuntime, files: &[String], is_json: bool) -> u8 {
+    let mut status = 0;
+    for file in files {
+        let Err(fault) = list(rt, Some(file.as_str()), is_json) else {
+            continue;
+        };
+        let found = tell(rt, Some(file.as_str()), &fault);
+        if status == 0 {
+            status = found;
+        }
+        if !fault.is_of_file() {
+            break;
+        }
+    }
+    status
+}
+
+// What the words ask for that stand behind the program's name.
+fn asked(rt: &HostRuntime) -> Result<Asked, Fault> {
+    match env::args(rt) {
+        Ok(args) => words::read(rt.alloc(), args.skip(1).collect(rt.alloc())?),
+        Err(error) if error.kind() == ErrorKind::OutOfMemory => Err(Fault::OutOfMemory),
+        Err(_) => Err(Fault::Words),
+    }
+}
+
+// Does what the words ask. Answers the status.
+fn run(rt: &HostRuntime) -> u8 {
+    let done = match asked(rt) {
+        Ok(Asked::Links { is_json, files }) if !files.is_empty() => {
+            return list_files(rt, files.as_slice(), is_json);
+        }
+        Ok(Asked::Links { is_json, .. }) => list(rt, None, is_json),
+        Ok(Asked::Page(page)) => print(rt, page),
+        Err(fault) => Err(fault),
+    };
+    match done {
+        Ok(()) => 0,
+        Err(fault) => tell(rt, None, &fault),
+    }
 }
 
 fn main(rt: HostRuntime) -> ExitCode {
-    let alloc = rt.alloc();
-    let mut bytes = Vec::new(alloc);
-    if rt.stdin().read_to_end(&mut bytes).is_err() {
-        return ExitCode::from(6);
-    }
-    match listed(alloc, bytes.as_slice()) {
-        Ok(Some(lines)) if print!(rt; "{lines}").is_ok() => ExitCode::SUCCESS,
-        Ok(Some(_)) => ExitCode::from(6),
-        Ok(None) => ExitCode::from(3),
-        Err(_) => ExitCode::from(5),
-    }
+    ExitCode::from(run(&rt))
 }

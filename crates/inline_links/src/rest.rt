@@ -5,8 +5,21 @@
 pub struct Rest<'a> {
     /// The bytes that are left.
     pub bytes: &'a [u8],
-    /// The columns before them, with tab stops four columns apart.
-    pub column: usize,
+    /// How many columns of spaces and tabs come next.
+    pub indent: usize,
+    // The columns before the bytes, with tab stops four columns apart.
+    column: usize,
+    tail: Tail,
+}
+
+// What a line ends with, as lengths of its end.
+#[derive(Clone, Copy, Debug)]
+struct Tail {
+    // The blanks.
+    blanks: usize,
+    // A thematic break begins with a byte that is no blank: where at least so many bytes are left, and at most.
+    least_break: usize,
+    most_break: usize,
 }
 
 /// How code is fenced.
@@ -45,43 +58,81 @@ pub fn from_index(bytes: &[u8], index: usize) -> &[u8] {
     }
 }
 
+// How many columns of spaces and tabs stand first, behind so many columns.
+fn indent_of(bytes: &[u8], column: usize) -> usize {
+    let mut end = column;
+    for byte in bytes {
+        match *byte {
+            b' ' => end = end.saturating_add(1),
+            b'\t' => end = (end / 4).saturating_add(1).saturating_mul(4),
+            _ => break,
+        }
+    }
+    end.saturating_sub(column)
+}
+
+// What a line ends with. A thematic break is three or more of one marker, and blanks.
+fn tail_of(line: &[u8]) -> Tail {
+    let text = without_blanks(line);
+    let marker = *text.last().unwrap_or(&0);
+    let (mut count, mut left) = (0usize, line.len().saturating_sub(text.len()));
+    let mut tail = Tail {
+        blanks: left,
+        least_break: usize::MAX,
+        most_break: 0,
+    };
+    for byte in text.iter().rev() {
+        left = left.saturating_add(1);
+        if *byte == marker {
+            count = count.saturating_add(1);
+            if count == 3 {
+                tail.least_break = left;
+            }
+            tail.most_break = left;
+        } else if !is_blank_byte(*byte) {
+            break;
+        }
+    }
+    tail
+}
+
 impl<'a> Rest<'a> {
-    /// Whether no more than blanks are left.
-    pub fn is_blank(self) -> bool {
-        self.bytes.iter().all(|byte| is_blank_byte(*byte))
+    /// The whole of a line.
+    pub fn of_line(bytes: &'a [u8]) -> Rest<'a> {
+        Rest {
+            bytes,
+            indent: indent_of(bytes, 0),
+            column: 0,
+            tail: tail_of(bytes),
+        }
     }
 
-    /// How many columns of spaces and tabs come next.
-    pub fn indent(self) -> usize {
-        let mut column = self.column;
-        for byte in self.bytes {
-            match *byte {
-                b' ' => column = column.saturating_add(1),
-                b'\t' => column = (column / 4).saturating_add(1).saturating_mul(4),
-                _ => break,
-            }
-        }
-        column.saturating_sub(self.column)
+    /// Whether no more than blanks are left.
+    pub fn is_blank(self) -> bool {
+        self.bytes.len() <= self.tail.blanks
     }
 
     // Behind one column of a space or a tab, if one comes next.
     fn step(self) -> Rest<'a> {
         let column = self.column.saturating_add(1);
-        match self.bytes {
-            [b' ', bytes @ ..] => Rest { bytes, column },
-            [b'\t', bytes @ ..] if column % 4 == 0 => Rest { bytes, column },
-            [b'\t', ..] => Rest {
-                bytes: self.bytes,
-                column,
-            },
-            _ => self,
+        let bytes = match self.bytes {
+            [b' ', bytes @ ..] => bytes,
+            [b'\t', bytes @ ..] if column % 4 == 0 => bytes,
+            [b'\t', ..] => self.bytes,
+            _ => return self,
+        };
+        Rest {
+            bytes,
+            indent: self.indent.saturating_sub(1),
+            column,
+            tail: self.tail,
         }
     }
 
     /// Behind so many columns of spaces and tabs.
     pub fn skip(self, columns: usize) -> Rest<'a> {
         let mut rest = self;
-        for _ in 0..columns {
+        for _ in 0..columns.min(self.indent) {
             rest = rest.step();
         }
         rest
@@ -89,21 +140,25 @@ impl<'a> Rest<'a> {
 
     /// Behind all spaces and tabs that come next.
     pub fn trimmed(self) -> Rest<'a> {
-        self.skip(self.indent())
+        self.skip(self.indent)
     }
 
     /// Behind so many bytes.
     pub fn past(self, count: usize) -> Rest<'a> {
+        let bytes = from_index(self.bytes, count);
+        let column = self.column.saturating_add(count);
         Rest {
-            bytes: from_index(self.bytes, count),
-            column: self.column.saturating_add(count),
+            bytes,
+            indent: indent_of(bytes, column),
+            column,
+            tail: self.tail,
         }
     }
 
     // Behind the marker of a block quote.
     fn past_quote(self) -> Option<Rest<'a>> {
         let marker = self.trimmed();
-        if self.indent() < 4 && marker.bytes.starts_with(b">") {
+        if self.indent < 4 && marker.bytes.starts_with(b">") {
             Some(marker.past(1).step())
         } else {
             None
@@ -114,7 +169,7 @@ impl<'a> Rest<'a> {
     pub fn enter(self, container: Container) -> Option<Rest<'a>> {
         match container {
             Container::Quote => self.past_quote(),
-            Container::Item(width) if self.is_blank() || self.indent() >= width => {
+            Container::Item(width) if self.is_blank() || self.indent >= width => {
                 Some(self.skip(width))
             }
             Container::Item(_) => None,
@@ -123,11 +178,11 @@ impl<'a> Rest<'a> {
 
     // Behind the marker of a list item, where one stands; in a paragraph only one that may interrupt it.
     fn past_item(self, in_text: bool) -> Option<(usize, Rest<'a>)> {
-        let indent = self.indent();
+        let indent = self.indent;
         let marker = self.trimmed();
         let len = marker_len(marker.bytes, in_text)?;
         let after = marker.past(len);
-        let blanks = after.indent();
+        let blanks = after.indent;
         if indent >= 4 || blanks == 0 && !after.is_blank() || in_text && after.is_blank() {
             return None;
         }
@@ -154,24 +209,18 @@ impl<'a> Rest<'a> {
 
     /// Whether this is a thematic break: three or more of one marker, and blanks.
     pub fn is_break(self) -> bool {
-        let trimmed = self.trimmed();
-        let marker = *trimmed.bytes.first().unwrap_or(&0);
-        let mut count = 0usize;
-        for byte in trimmed.bytes {
-            if *byte == marker {
-                count = count.saturating_add(1);
-            } else if !is_blank_byte(*byte) {
-                return false;
-            }
-        }
-        matches!(marker, b'*' | b'-' | b'_') && count >= 3 && self.indent() < 4
+        let bytes = self.trimmed().bytes;
+        matches!(bytes, [b'*' | b'-' | b'_', ..])
+            && self.indent < 4
+            && self.tail.least_break <= bytes.len()
+            && bytes.len() <= self.tail.most_break
     }
 
     /// Whether this underlines a heading: one or more of `=` or `-`, and blanks.
     pub fn is_underline(self) -> bool {
         let trimmed = self.trimmed();
         let count = count_first(trimmed.bytes, b'=').max(count_first(trimmed.bytes, b'-'));
-        count > 0 && trimmed.past(count).is_blank() && self.indent() < 4
+        count > 0 && trimmed.past(count).is_blank() && self.indent < 4
     }
 
     /// The fence that begins code here.
@@ -181,7 +230,7 @@ impl<'a> Rest<'a> {
         let len = count_first(trimmed.bytes, marker);
         let info = trimmed.past(len).bytes;
         let is_fence = marker == b'~' || marker == b'`' && !info.contains(&b'`');
-        if is_fence && len >= 3 && self.indent() < 4 {
+        if is_fence && len >= 3 && self.indent < 4 {
             Some(Fence { marker, len })
         } else {
             None
@@ -192,25 +241,21 @@ impl<'a> Rest<'a> {
     pub fn ends(self, fence: Fence) -> bool {
         let trimmed = self.trimmed();
         let len = count_first(trimmed.bytes, fence.marker);
-        len >= fence.len && trimmed.past(len).is_blank() && self.indent() < 4
+        len >= fence.len && trimmed.past(len).is_blank() && self.indent < 4
     }
 
     /// The inside of an ATX heading, without the markers at both ends.
-    pub fn heading(self) -> Option<Rest<'a>> {
+    pub fn heading(self) -> Option<&'a [u8]> {
         let trimmed = self.trimmed();
         let level = count_first(trimmed.bytes, b'#');
         let inside = trimmed.past(level);
-        if level < 1 || level > 6 || self.indent() >= 4 {
+        if level < 1 || level > 6 || self.indent >= 4 {
             return None;
         }
-        if inside.indent() == 0 && !inside.is_blank() {
+        if inside.indent == 0 && !inside.is_blank() {
             return None;
         }
-        let start = inside.trimmed();
-        Some(Rest {
-            bytes: without_closing(start.bytes),
-            column: start.column,
-        })
+        Some(without_closing(inside.trimmed().bytes))
     }
 }
 

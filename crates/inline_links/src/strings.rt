@@ -115,12 +115,3 @@ pub fn text_between(
     }];
     string_of(alloc, string, &pieces)
 }
-
-/// A text with a space in place of each control character of ASCII, so that it is one field of a line.
-pub fn one_line(alloc: Global, text: &str) -> Result<String, AllocError> {
-    let mut line = Vec::new(alloc);
-    for byte in text.as_bytes() {
-        line.push(if byte.is_ascii_control() { b' ' } else { *byte })?;
-    }
-    Ok(String::from_utf8_lossy(alloc, line.as_slice())?)
-}
