@@ -27,7 +27,7 @@ const HELP: &str = "inline_links lists where the links of Markdown files lead.
 
 --json prints an object for each link, one a line: file (where it is named), line, column, kind, destination, title. The kind is link, image, autolink
 or literal, which is a bare address. Lines and columns count from 1. A column counts bytes, not characters, and a tab as all columns up to its tab stop.
-A control character is printed as \\u and four hexadecimal digits. Paragraphs are found by simple rules, which leave out tables and blocks of HTML.
+A control character is printed as \\u and four hexadecimal digits. Paragraphs are found by simple rules, which read a table, or a block of HTML, as a paragraph.
 
 Statuses, of the first fault; a line on standard error says why
     0  the links were printed
