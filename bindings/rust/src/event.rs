@@ -87,11 +87,13 @@ impl Content {
 
 impl Event {
     /// Whether it begins what it names.
+    #[must_use]
     pub fn is_enter(&self) -> bool {
         self.kind == Kind::Enter
     }
 
     /// Whether it ends what it names.
+    #[must_use]
     pub fn is_exit(&self) -> bool {
         self.kind == Kind::Exit
     }
@@ -116,23 +118,23 @@ impl Event {
 }
 
 /// The events of a content's inline tree, in order.
-#[derive(Clone, Default)]
+#[derive(Clone, Default, PartialEq, Eq)]
 pub struct Events {
     pub(crate) raw: Vec<RawEvent>,
 }
 
 /// The events of a content's inline tree, in order, that a list of events lends.
-#[derive(Clone, Copy)]
+#[derive(Clone, Copy, PartialEq, Eq)]
 pub struct EventSlice<'a> {
     raw: &'a [RawEvent],
 }
 
 /// The events one after another.
-#[derive(Clone)]
+#[derive(Clone, Debug)]
 pub struct Iter<'a>(slice::Iter<'a, RawEvent>);
 
 /// The events of a chain one after another, each with its number.
-#[derive(Clone)]
+#[derive(Clone, Debug)]
 pub struct Chain<'a> {
     events: EventSlice<'a>,
     number: Option<usize>,
@@ -183,11 +185,13 @@ impl<'a> EventSlice<'a> {
     }
 
     /// How many they are.
+    #[must_use]
     pub fn len(&self) -> usize {
         self.raw.len()
     }
 
     /// Whether there are none.
+    #[must_use]
     pub fn is_empty(&self) -> bool {
         self.raw.is_empty()
     }
@@ -198,11 +202,13 @@ impl<'a> EventSlice<'a> {
     }
 
     /// The events one after another.
+    #[must_use]
     pub fn iter(&self) -> Iter<'a> {
         Iter(self.raw.iter())
     }
 
     /// The event with this number, and those after it on its chain.
+    #[must_use]
     pub fn chain(&self, number: usize) -> Chain<'a> {
         Chain {
             events: *self,
@@ -213,31 +219,37 @@ impl<'a> EventSlice<'a> {
 
 impl Events {
     /// No events, and no memory for any.
+    #[must_use]
     pub fn new() -> Events {
         Events::default()
     }
 
     /// The events, lent.
+    #[must_use]
     pub fn as_slice(&self) -> EventSlice<'_> {
         EventSlice::of(&self.raw)
     }
 
     /// How many they are.
+    #[must_use]
     pub fn len(&self) -> usize {
         self.raw.len()
     }
 
     /// Whether there are none.
+    #[must_use]
     pub fn is_empty(&self) -> bool {
         self.raw.is_empty()
     }
 
     /// The event with this number, as links name it.
+    #[must_use]
     pub fn get(&self, number: usize) -> Option<Event> {
         self.as_slice().get(number)
     }
 
     /// The events one after another.
+    #[must_use]
     pub fn iter(&self) -> Iter<'_> {
         self.as_slice().iter()
     }
@@ -254,12 +266,22 @@ impl Events {
     /// # Ok(())
     /// # }
     /// ```
+    #[must_use]
     pub fn chain(&self, number: usize) -> Chain<'_> {
         self.as_slice().chain(number)
     }
 }
 
 impl<'a> IntoIterator for &'a Events {
+    type Item = Event;
+    type IntoIter = Iter<'a>;
+
+    fn into_iter(self) -> Iter<'a> {
+        self.iter()
+    }
+}
+
+impl<'a> IntoIterator for &EventSlice<'a> {
     type Item = Event;
     type IntoIter = Iter<'a>;
 

@@ -39,7 +39,7 @@ pub(crate) fn fitted<T: Copy>(found: Vec<T>) -> Vec<T> {
     fitted
 }
 
-/// What a call for many is lent: from which one it reads on, and where it writes elements and ends.
+/// What a call for many is lent: from which one it reads on, and where it writes elements and ends. It reads as many as it has room for ends.
 pub(crate) struct Lent<T> {
     pub(crate) from: usize,
     pub(crate) array: *mut T,
@@ -49,7 +49,8 @@ pub(crate) struct Lent<T> {
 }
 
 /// Fills two vectors by a call for so many: with the elements that are found, and with where those of each end. `expected` elements or fewer are found as a rule,
-/// and else a second call goes on behind those that had room; where calls cannot go on, it is for all again.
+/// and else a second call goes on behind those that had room; where calls cannot go on, it is for all again. Where one is refused, the answers before it stay;
+/// after another error there are none.
 pub(crate) fn fill_many<T>(
     found: &mut Vec<T>,
     ends: &mut Vec<usize>,
@@ -62,6 +63,7 @@ pub(crate) fn fill_many<T>(
     ends.clear();
     ends.try_reserve(many).map_err(|_| Error::NoMemory)?;
     let _ = found.try_reserve_exact(expected);
+    let (mut many, mut refusal) = (many, None);
     loop {
         let (from, written) = (ends.len(), found.len());
         let mut outcome = RawOutcome::default();
@@ -76,15 +78,20 @@ pub(crate) fn fill_many<T>(
         let status = call(lent, &mut outcome);
         if status != raw::DONE && status != raw::TOO_SMALL {
             let (error, at) = (Error::of(status), number_of(outcome.blamed));
-            return Err(Refusal { error, at });
+            match at {
+                Some(at) if is_of_one(error) => many = from + at,
+                _ => return none_of(found, ends, Refusal { error, at }),
+            }
+            let at = Some(many);
+            refusal = Some(Refusal { error, at });
         }
-        // SAFETY: with these statuses so many ends are written behind those before, and as many elements as the last of them says.
+        // SAFETY: with each status so many ends are written behind those before, and as many elements as the last of them says.
         unsafe { ends.set_len(from + outcome.done) };
         ends[from..].iter_mut().for_each(|end| *end += written);
         let end = ends.last().copied().unwrap_or(0);
         unsafe { found.set_len(end) };
-        if status == raw::DONE {
-            return Ok(());
+        if ends.len() == many {
+            return refusal.map_or(Ok(()), Err);
         }
         let mut missing = outcome.count - (end - written);
         if !goes_on {
@@ -92,8 +99,25 @@ pub(crate) fn fill_many<T>(
             ends.clear();
             missing = outcome.count;
         }
-        found.try_reserve(missing).map_err(|_| Error::NoMemory)?;
+        if found.try_reserve(missing).is_err() {
+            return none_of(found, ends, Error::NoMemory.into());
+        }
     }
+}
+
+/// The refusal, with no answers.
+fn none_of<T>(found: &mut Vec<T>, ends: &mut Vec<usize>, refusal: Refusal) -> Result<(), Refusal> {
+    found.clear();
+    ends.clear();
+    Err(refusal)
+}
+
+/// Whether an error is that of one content or string, so that those before it are answered.
+fn is_of_one(error: Error) -> bool {
+    matches!(
+        error,
+        Error::NoContent | Error::BlankLine | Error::References | Error::NoString
+    )
 }
 
 /// Where the elements of one of many stand, by its number.

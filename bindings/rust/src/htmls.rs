@@ -1,10 +1,11 @@
 //! The HTML of many contents of one document.
 
 use crate::fill::range_of;
+use crate::lists::walks;
 use std::fmt;
 
 /// The HTML of many contents, of which each has its own.
-#[derive(Clone, Default)]
+#[derive(Clone, Default, PartialEq, Eq)]
 pub struct Htmls {
     pub(crate) html: String,
     pub(crate) ends: Vec<usize>,
@@ -12,34 +13,27 @@ pub struct Htmls {
 
 impl Htmls {
     /// No contents, and no memory for any.
+    #[must_use]
     pub fn new() -> Htmls {
         Htmls::default()
     }
 
-    /// How many contents there are.
-    pub fn len(&self) -> usize {
-        self.ends.len()
-    }
-
-    /// Whether there are none.
-    pub fn is_empty(&self) -> bool {
-        self.ends.is_empty()
-    }
-
     /// The HTML of all contents, one after another.
+    #[must_use]
     pub fn as_str(&self) -> &str {
         &self.html
     }
 
     /// The HTML of the content with this number.
+    #[must_use]
     pub fn get(&self, number: usize) -> Option<&str> {
         self.html.get(range_of(&self.ends, number)?)
     }
+}
 
+walks! {
     /// The contents one after another, of each its HTML.
-    pub fn iter(&self) -> impl Iterator<Item = &str> {
-        (0..self.len()).filter_map(|number| self.get(number))
-    }
+    HtmlsIter over Htmls gives &'a str
 }
 
 impl fmt::Debug for Htmls {

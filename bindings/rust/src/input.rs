@@ -46,7 +46,7 @@ pub struct Input<'a> {
 const REFERENCE_LIMIT: usize = 100_000;
 
 impl<'a> Input<'a> {
-    /// A whole document, with CommonMark's constructs and nothing defined.
+    /// A whole document, read as CommonMark says, with nothing defined.
     pub fn new<D: AsRef<[u8]> + ?Sized>(document: &'a D) -> Input<'a> {
         let document = document.as_ref();
         let whole = Piece {
@@ -200,7 +200,11 @@ impl<'a> Input<'a> {
         }
     }
 
-    /// Whether the pieces are a text of the document, or why not: `NotUtf8`, `NoContent` or `BlankLine`. `text` tests it itself.
+    /// Whether the pieces are a text of the document. `text` tests it itself.
+    ///
+    /// # Errors
+    ///
+    /// `TooLong`, `NotUtf8`, `NoContent` or `BlankLine` says why they are none; `NoMemory`.
     pub fn is_text(&self) -> Result<(), Error> {
         // SAFETY: each pointer goes with its slice's length, and nothing is kept.
         result_of(unsafe {
@@ -213,7 +217,11 @@ impl<'a> Input<'a> {
         })
     }
 
-    /// Whether the pieces are a content of the document, or why not: `NotUtf8` or `NoContent`. `string` tests it itself.
+    /// Whether the pieces are a content of the document. `string` tests it itself.
+    ///
+    /// # Errors
+    ///
+    /// `TooLong`, `NotUtf8` or `NoContent` says why they are none; `NoMemory`.
     pub fn is_content(&self) -> Result<(), Error> {
         // SAFETY: as above.
         result_of(unsafe {
@@ -226,10 +234,14 @@ impl<'a> Input<'a> {
         })
     }
 
-    /// The events of the pieces as a text, or why they are none: each [`Error`] but `NoReference` and `References` may come.
+    /// The events of the pieces as a text.
     ///
     /// A call tests the whole document, passes all that stands before the pieces, and puts the labels in order. So a call for each paragraph of one document takes
     /// time in proportion to its square: for many contents there is `texts`.
+    ///
+    /// # Errors
+    ///
+    /// Each [`Error`] but `NoReference`, `References` and `NoString`.
     pub fn text(&self) -> Result<Events, Error> {
         let mut events = Events::new();
         self.text_into(&mut events)?;
@@ -237,8 +249,12 @@ impl<'a> Input<'a> {
         Ok(events)
     }
 
-    /// The events of the pieces as a string. Definitions are not looked at, and lines may be blank; so neither `Definition` nor `BlankLine` comes. A call tests the
-    /// whole document, and passes all that stands before the pieces.
+    /// The events of the pieces as a string. Definitions are not looked at, and lines may be blank. A call tests the whole document, and passes all that stands
+    /// before the pieces.
+    ///
+    /// # Errors
+    ///
+    /// Those of `text` but `Definition` and `BlankLine`.
     pub fn string(&self) -> Result<Events, Error> {
         let mut events = Events::new();
         self.string_into(&mut events)?;
@@ -246,19 +262,31 @@ impl<'a> Input<'a> {
         Ok(events)
     }
 
-    /// The events as a text in place of those given, in the memory of those. After an error there are none.
+    /// The events as a text in place of those given, in the memory of those.
+    ///
+    /// # Errors
+    ///
+    /// Those of `text`; then there are no events.
     pub fn text_into(&self, events: &mut Events) -> Result<(), Error> {
         let expected = many_of(self.len());
         self.fill(raw::markdown_inline_text, expected, &mut events.raw)
     }
 
-    /// The events as a string in place of those given, in the memory of those. After an error there are none.
+    /// The events as a string in place of those given, in the memory of those.
+    ///
+    /// # Errors
+    ///
+    /// Those of `string`; then there are no events.
     pub fn string_into(&self, events: &mut Events) -> Result<(), Error> {
         let expected = many_of(self.len());
         self.fill(raw::markdown_inline_string, expected, &mut events.raw)
     }
 
-    /// The leaves of the pieces as a text, each with its bytes. Errors are those of `text`, and so is what a call costs: for many contents there is `texts`.
+    /// The leaves of the pieces as a text, each with its bytes. A call costs what `text` does: for many contents there is `texts`.
+    ///
+    /// # Errors
+    ///
+    /// Those of `text`.
     ///
     /// ```
     /// # fn main() -> Result<(), markdown_inline::Error> {
@@ -275,7 +303,11 @@ impl<'a> Input<'a> {
         Ok(leaves)
     }
 
-    /// The leaves in place of those given, in the memory of those. After an error there are none.
+    /// The leaves in place of those given, in the memory of those.
+    ///
+    /// # Errors
+    ///
+    /// Those of `text`; then there are no leaves.
     pub fn leaves_into(&self, leaves: &mut Leaves<'a>) -> Result<(), Error> {
         leaves.document = self.document;
         let expected = many_of(self.len()) / 2;
@@ -283,8 +315,12 @@ impl<'a> Input<'a> {
     }
 
     /// The events of many contents as texts, each of some of the pieces. The document is prepared once, and each content costs what it costs by
-    /// itself, wherever it stands. Whether a text is the first of a list item is said of each, and not by the options. Errors are those of `text`; a content whose
-    /// range is none of the pieces is `NoContent`. The refusal says which content or definition is to blame.
+    /// itself, wherever it stands. Whether a text is the first of a list item is said of each, and not by the options.
+    ///
+    /// # Errors
+    ///
+    /// Those of `text`; a content whose range is none of the pieces is `NoContent`. The refusal says which content or definition is to blame. `texts_into` keeps
+    /// what was read before.
     ///
     /// Several threads may share the contents of one input. Each thread prepares the document for itself, so hand it many contents:
     ///
@@ -312,13 +348,29 @@ impl<'a> Input<'a> {
         Ok(texts)
     }
 
-    /// The events of many contents in place of those given, in the memory of those. After an error there are none.
+    /// The events of many contents in place of those given, in the memory of those.
+    ///
+    /// # Errors
+    ///
+    /// Those of `texts`. Where a content is to blame, those before it are answered, as many as its number says; after another error there are none.
+    ///
+    /// ```
+    /// use markdown_inline::{Error, Input, Piece, TextContent, Texts};
+    /// let pieces = [Piece::from(0..1), Piece::from(3..9)];
+    /// let (input, mut texts) = (Input::new("a\n\nb").pieces(&pieces), Texts::new());
+    /// let refusal = input.texts_into(&[TextContent::from(0..1), TextContent::from(1..2)], &mut texts).unwrap_err();
+    /// assert_eq!((refusal.error, refusal.at, texts.len()), (Error::NoContent, Some(1), 1));
+    /// ```
     pub fn texts_into(&self, contents: &[TextContent], texts: &mut Texts) -> Result<(), Refusal> {
         let call = raw::markdown_inline_texts;
         self.fill_texts(call, contents, &mut texts.events, &mut texts.ends)
     }
 
-    /// The same events in 16 bytes each, with the definitions that links, images and footnote calls refer to. Errors are those of `texts`.
+    /// The same events in 16 bytes each, with the definitions that links, images and footnote calls refer to.
+    ///
+    /// # Errors
+    ///
+    /// Those of `texts`.
     ///
     /// ```
     /// use markdown_inline::{Input, Name, TextContent};
@@ -337,7 +389,11 @@ impl<'a> Input<'a> {
         Ok(texts)
     }
 
-    /// The short events of many contents in place of those given, in the memory of those. After an error there are none.
+    /// The short events of many contents in place of those given, in the memory of those.
+    ///
+    /// # Errors
+    ///
+    /// Those of `texts_into`, with what it answers then.
     pub fn short_texts_into(
         &self,
         contents: &[TextContent],
@@ -354,10 +410,12 @@ impl<'a> Input<'a> {
         events: &mut Vec<T>,
         ends: &mut Vec<usize>,
     ) -> Result<(), Refusal> {
+        events.clear();
+        ends.clear();
         let (input, given) = (self.raw(), raw_contents(contents)?);
         let expected = many_of(self.len_of_all(contents)) + 8 * contents.len();
         // SAFETY: each pointer goes with the length of its array, and nothing is kept.
-        let filled = fill_many(
+        fill_many(
             events,
             ends,
             given.len(),
@@ -365,11 +423,10 @@ impl<'a> Input<'a> {
             true,
             |lent, outcome| unsafe {
                 let contents = given.as_ptr().add(lent.from);
-                let many = given.len() - lent.from;
                 call(
                     &input,
                     contents,
-                    many,
+                    lent.ends_len,
                     lent.array,
                     lent.len,
                     lent.ends,
@@ -377,16 +434,14 @@ impl<'a> Input<'a> {
                     outcome,
                 )
             },
-        );
-        if filled.is_err() {
-            events.clear();
-            ends.clear();
-        }
-        filled
+        )
     }
 
-    /// The HTML of the pieces as a text. Each call numbers footnotes from 1 on. Errors are those of `text`, and `References` where definitions bring more than
-    /// `reference_limit` says. A call costs what `text` costs: for many contents there is `htmls`.
+    /// The HTML of the pieces as a text. Each call numbers footnotes from 1 on. A call costs what `text` costs: for many contents there is `htmls`.
+    ///
+    /// # Errors
+    ///
+    /// Those of `text`, and `References` where definitions bring more than `reference_limit` says.
     ///
     /// ```
     /// use markdown_inline::{HtmlOptions, Input};
@@ -402,7 +457,11 @@ impl<'a> Input<'a> {
         String::from_utf8(fitted(bytes)).map_err(|_| Error::NotUtf8)
     }
 
-    /// The HTML in place of what is given, in the memory of that. After an error there is none.
+    /// The HTML in place of what is given, in the memory of that.
+    ///
+    /// # Errors
+    ///
+    /// Those of `html`; then there is no HTML.
     pub fn html_into(&self, options: HtmlOptions, html: &mut String) -> Result<(), Error> {
         let mut bytes = mem::take(html).into_bytes();
         let filled = self.html_bytes(options, &mut bytes);
@@ -429,8 +488,11 @@ impl<'a> Input<'a> {
     }
 
     /// The HTML of many contents as texts, each of some of the pieces. The document is prepared once, and each content costs what it costs by itself, wherever it
-    /// stands. Footnotes are numbered through all contents. Errors are those of `texts`, and `References` where definitions bring more than `reference_limit` says;
-    /// the refusal says which content or definition is to blame.
+    /// stands. Footnotes are numbered through all contents.
+    ///
+    /// # Errors
+    ///
+    /// Those of `texts`, and `References` where definitions bring more than `reference_limit` says. The refusal says which content or definition is to blame.
     ///
     /// ```
     /// use markdown_inline::{HtmlOptions, Input, Piece, TextContent};
@@ -449,7 +511,11 @@ impl<'a> Input<'a> {
         Ok(htmls)
     }
 
-    /// The HTML of many contents in place of what is given, in the memory of that. After an error there is none.
+    /// The HTML of many contents in place of what is given, in the memory of that.
+    ///
+    /// # Errors
+    ///
+    /// Those of `htmls`. Where a content is to blame, the HTML of those before it is answered; after another error there is none.
     pub fn htmls_into(
         &self,
         contents: &[TextContent],
@@ -458,10 +524,6 @@ impl<'a> Input<'a> {
     ) -> Result<(), Refusal> {
         let mut bytes = mem::take(&mut htmls.html).into_bytes();
         let filled = self.htmls_bytes(contents, options, &mut bytes, &mut htmls.ends);
-        if filled.is_err() {
-            bytes.clear();
-            htmls.ends.clear();
-        }
         htmls.html = String::from_utf8(bytes).map_err(|_| Error::NotUtf8)?;
         filled
     }
@@ -475,6 +537,8 @@ impl<'a> Input<'a> {
         bytes: &mut Vec<u8>,
         ends: &mut Vec<usize>,
     ) -> Result<(), Refusal> {
+        bytes.clear();
+        ends.clear();
         let (input, given) = (self.raw(), raw_contents(contents)?);
         let expected = 2 * self.len_of_all(contents) + 128;
         let goes_on = self.footnotes.is_empty();
@@ -491,7 +555,7 @@ impl<'a> Input<'a> {
                     self.targets.as_ptr(),
                     self.targets.len(),
                     given.as_ptr().add(lent.from),
-                    given.len() - lent.from,
+                    lent.ends_len,
                     options.bits(),
                     self.reference_limit,
                     lent.array,
@@ -522,6 +586,24 @@ impl<'a> Input<'a> {
         let pieces = |it: &TextContent| self.pieces.get(it.pieces.clone()).unwrap_or_default();
         let lens = contents.iter().map(|it| len_of(pieces(it)));
         lens.fold(0, usize::saturating_add).min(self.document.len())
+    }
+
+    pub(crate) fn document(&self) -> &[u8] {
+        self.document
+    }
+
+    pub(crate) fn options_given(&self) -> Options {
+        self.options
+    }
+
+    /// Where the definition with this number leads.
+    pub(crate) fn target(&self, definition: usize) -> RawTarget {
+        self.targets[definition]
+    }
+
+    /// What stands at a range of the labels.
+    pub(crate) fn label(&self, range: RawRange) -> &[u8] {
+        &self.labels[range.start..range.end]
     }
 
     fn raw(&self) -> RawInput {

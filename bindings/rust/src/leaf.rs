@@ -48,14 +48,14 @@ impl<'a> Leaf<'a> {
 }
 
 /// The leaves of a content's inline tree, in order: together they cover the content.
-#[derive(Clone, Default)]
+#[derive(Clone, Default, PartialEq, Eq)]
 pub struct Leaves<'a> {
     pub(crate) document: &'a [u8],
     pub(crate) raw: Vec<RawLeaf>,
 }
 
 /// The leaves one after another.
-#[derive(Clone)]
+#[derive(Clone, Debug)]
 pub struct LeafIter<'a, 'b> {
     document: &'a [u8],
     left: slice::Iter<'b, RawLeaf>,
@@ -87,21 +87,25 @@ impl FusedIterator for LeafIter<'_, '_> {}
 
 impl<'a> Leaves<'a> {
     /// No leaves, and no memory for any.
+    #[must_use]
     pub fn new() -> Leaves<'a> {
         Leaves::default()
     }
 
     /// How many they are.
+    #[must_use]
     pub fn len(&self) -> usize {
         self.raw.len()
     }
 
     /// Whether there are none.
+    #[must_use]
     pub fn is_empty(&self) -> bool {
         self.raw.is_empty()
     }
 
     /// The leaves one after another.
+    #[must_use]
     pub fn iter(&self) -> LeafIter<'a, '_> {
         LeafIter {
             document: self.document,

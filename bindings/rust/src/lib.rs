@@ -17,10 +17,7 @@
 //! ```
 //! use markdown_inline::{Input, Options, Piece};
 //! # fn main() -> Result<(), markdown_inline::Error> {
-//! let pieces = [
-//!     Piece { start: 2, end: 7, ..Piece::default() },
-//!     Piece { start: 9, end: 15, ..Piece::default() },
-//! ];
+//! let pieces = [Piece::from(2..7), Piece::from(9..15)];
 //! let events = Input::new("> a *b\n> c* `d`")
 //!     .pieces(&pieces)
 //!     .options(Options::COMMONMARK | Options::GFM)
@@ -56,7 +53,10 @@ mod event;
 mod fill;
 mod htmls;
 mod input;
+mod joined;
 mod leaf;
+mod links;
+mod lists;
 mod name;
 mod options;
 mod raw;
@@ -67,27 +67,41 @@ mod version;
 
 pub use error::{Error, Refusal};
 pub use event::{Chain, Content, Event, EventSlice, Events, Iter, Kind, Link, Point};
-pub use htmls::Htmls;
+pub use htmls::{Htmls, HtmlsIter};
 pub use input::Input;
+pub use joined::Joined;
 pub use leaf::{Leaf, LeafIter, Leaves};
-pub use name::Name;
+pub use links::FoundLink;
+pub use name::{Name, UnknownName};
 pub use options::{HtmlOptions, Options};
 pub use raw::Piece;
-pub use short::{ShortEvent, ShortTexts};
-pub use strings::{strings, strings_with, Strings};
-pub use texts::{TextContent, Texts};
+pub use short::{ShortEvent, ShortIter, ShortTexts, ShortTextsIter};
+pub use strings::{strings, strings_with, Strings, StringsIter};
+pub use texts::{TextContent, Texts, TextsIter};
 
-/// The events of a whole document as a text, read by CommonMark.
+/// The events of a whole document as a text, read as CommonMark says.
+///
+/// # Errors
+///
+/// `TooLong`, `NotUtf8`, `BlankLine` or `NoMemory`.
 pub fn text<D: AsRef<[u8]> + ?Sized>(document: &D) -> Result<Events, Error> {
     Input::new(document).text()
 }
 
 /// The events of a whole document as a string: of escapes, character references and data.
+///
+/// # Errors
+///
+/// `TooLong`, `NotUtf8` or `NoMemory`.
 pub fn string<D: AsRef<[u8]> + ?Sized>(document: &D) -> Result<Events, Error> {
     Input::new(document).string()
 }
 
-/// The identifier of a label, as labels are compared: its words joined by one space and case folded. The error is `NotUtf8` or `NoMemory`.
+/// The identifier of a label, as labels are compared: its words joined by one space and case folded.
+///
+/// # Errors
+///
+/// `NotUtf8` or `NoMemory`.
 ///
 /// ```
 /// assert_eq!(markdown_inline::identifier(" A\n B ").unwrap(), "a b");
@@ -101,7 +115,11 @@ pub fn identifier<L: AsRef<[u8]> + ?Sized>(label: &L) -> Result<String, Error> {
 }
 
 /// The text that a character reference stands for. The bytes are the whole reference, with its `&` and its `;`. It is read as CommonMark says;
-/// [`reference_with`] takes options. The error is `NoReference` or `NoMemory`.
+/// [`reference_with`] takes options.
+///
+/// # Errors
+///
+/// `NoReference` or `NoMemory`.
 ///
 /// ```
 /// assert_eq!(markdown_inline::reference("&amp;").unwrap(), "&");
@@ -112,7 +130,11 @@ pub fn reference<R: AsRef<[u8]> + ?Sized>(reference: &R) -> Result<String, Error
 }
 
 /// The text that a character reference stands for, by the options with which a document is read: by `Options::STANDARD_RULES`, which
-/// `Options::COMMONMARK` has, each name of HTML is known, and a number stands for a control or a noncharacter too. By `Options::HTML_REFERENCES` each name is known. The error is `UnknownOption`, `NoReference` or `NoMemory`.
+/// `Options::COMMONMARK` has, each name of HTML is known, and a number stands for a control or a noncharacter too. By `Options::HTML_REFERENCES` each name is known.
+///
+/// # Errors
+///
+/// `UnknownOption`, `NoReference` or `NoMemory`.
 ///
 /// ```
 /// use markdown_inline::{reference_with, Options};
@@ -147,6 +169,7 @@ fn text_by(
 }
 
 /// Whether the library that is linked has the version of the interface that this crate is written for.
+#[must_use]
 pub fn is_right_version() -> bool {
     // SAFETY: the function takes nothing.
     unsafe { raw::markdown_inline_version() == version::VERSION }

@@ -1,6 +1,8 @@
 //! Names of events.
 
+use std::error::Error;
 use std::fmt;
+use std::str::FromStr;
 
 macro_rules! names {
     ($($(#[$doc:meta])* $name:ident,)*) => {
@@ -8,6 +10,7 @@ macro_rules! names {
         ///
         /// An event without others inside it covers the bytes that its doc names; the others hold what their doc lists.
         #[derive(Clone, Copy, Debug, PartialEq, Eq, Hash, PartialOrd, Ord)]
+        #[non_exhaustive]
         #[repr(u8)]
         pub enum Name {
             $($(#[$doc])* $name,)*
@@ -16,6 +19,14 @@ macro_rules! names {
         impl Name {
             /// All names, in the order of their numbers.
             pub const ALL: &'static [Name] = &[$(Name::$name,)*];
+
+            /// The name as the program `mdinline` prints it.
+            #[must_use]
+            pub const fn as_str(self) -> &'static str {
+                match self {
+                    $(Name::$name => stringify!($name),)*
+                }
+            }
         }
     };
 }
@@ -166,6 +177,28 @@ names! {
 
 impl fmt::Display for Name {
     fn fmt(&self, f: &mut fmt::Formatter<'_>) -> fmt::Result {
-        write!(f, "{self:?}")
+        f.pad(self.as_str())
+    }
+}
+
+/// A word that is the name of no event.
+#[derive(Clone, Copy, Debug, PartialEq, Eq, Hash)]
+pub struct UnknownName;
+
+impl fmt::Display for UnknownName {
+    fn fmt(&self, f: &mut fmt::Formatter<'_>) -> fmt::Result {
+        f.write_str("no name of an event")
+    }
+}
+
+impl Error for UnknownName {}
+
+impl FromStr for Name {
+    type Err = UnknownName;
+
+    /// The name that [`Name::as_str`] answers this word for.
+    fn from_str(word: &str) -> Result<Name, UnknownName> {
+        let mut names = Name::ALL.iter().copied();
+        names.find(|name| name.as_str() == word).ok_or(UnknownName)
     }
 }

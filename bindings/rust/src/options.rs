@@ -1,6 +1,6 @@
 //! What is looked for.
 
-use std::ops::{BitOr, Sub};
+use std::ops::{BitOr, BitOrAssign, Sub, SubAssign};
 
 /// A set of constructs and settings. Sets are joined by `|`, and one is taken out of another by `-`.
 #[derive(Clone, Copy, Debug, PartialEq, Eq, Hash)]
@@ -52,39 +52,47 @@ options! {
     /// Math spans.
     MATH_TEXT math_text 0x8000,
     /// Whether one tilde makes strikethrough, beside two.
-    GFM_STRIKETHROUGH_SINGLE_TILDE gfm_strikethrough_single_tilde 0x10000,
+    GFM_STRIKETHROUGH_SINGLE_TILDE gfm_strikethrough_single_tilde 0x1_0000,
     /// Whether one dollar opens and closes a math span, beside more.
-    MATH_TEXT_SINGLE_DOLLAR math_text_single_dollar 0x20000,
+    MATH_TEXT_SINGLE_DOLLAR math_text_single_dollar 0x2_0000,
     /// Whether the rule of three of emphasis reads the lengths of whole runs, as CommonMark says, and not what earlier pairs left of them.
-    ATTENTION_FIRST_LENGTHS attention_first_lengths 0x40000,
+    ATTENTION_FIRST_LENGTHS attention_first_lengths 0x4_0000,
     /// Whether a defined label before a `[` that begins no label of its own is a shortcut reference, as CommonMark says.
-    LABEL_SHORTCUT_BEFORE_BRACKET label_shortcut_before_bracket 0x80000,
+    LABEL_SHORTCUT_BEFORE_BRACKET label_shortcut_before_bracket 0x8_0000,
     /// Whether the text is the first of a list item, where the check of a task may stand.
-    FIRST_OF_ITEM first_of_item 0x100000,
+    FIRST_OF_ITEM first_of_item 0x10_0000,
     /// Whether CommonMark's rule holds in each point that `Rules` names, in which the crate that is ported departs from it. The two options above and the one below are implied.
-    STANDARD_RULES standard_rules 0x200000,
+    STANDARD_RULES standard_rules 0x20_0000,
     /// Whether a reference may have any of the 2,125 names of HTML that end in a semicolon, as CommonMark says, and not only the 294 of a shorter table.
-    HTML_REFERENCES html_references 0x400000,
+    HTML_REFERENCES html_references 0x40_0000,
 }
 
 impl Options {
     /// CommonMark 0.31.2: its constructs, read by its rules. It is the default.
-    pub const COMMONMARK: Options = Options(0x237e1f);
+    pub const COMMONMARK: Options = Options(0x23_7e1f);
     /// CommonMark's constructs, read by the rules of the crate `markdown`, which departs from the standard in places.
-    pub const CRATE: Options = Options(0x37e1f);
+    pub const CRATE: Options = Options(0x3_7e1f);
     /// What GitHub adds: autolink literals, footnote calls, strikethrough, task list checks.
     pub const GFM: Options = Options(0x1e0);
     /// Math spans.
     pub const MATH: Options = Options(0x8000);
 
     /// The set with these bits, as in `markdown_inline.h`. A bit that is none of an option is an error of the calls.
+    #[must_use]
     pub const fn from_bits(bits: u32) -> Options {
         Options(bits)
     }
 
     /// The bits of the set.
+    #[must_use]
     pub const fn bits(self) -> u32 {
         self.0
+    }
+
+    /// Whether the set has all that another has.
+    #[must_use]
+    pub const fn contains(self, other: Options) -> bool {
+        self.0 & other.0 == other.0
     }
 }
 
@@ -115,6 +123,18 @@ impl BitOr for Options {
 
     fn bitor(self, other: Options) -> Options {
         Options(self.0 | other.0)
+    }
+}
+
+impl BitOrAssign for Options {
+    fn bitor_assign(&mut self, other: Options) {
+        *self = *self | other;
+    }
+}
+
+impl SubAssign for Options {
+    fn sub_assign(&mut self, other: Options) {
+        *self = *self - other;
     }
 }
 

@@ -1,6 +1,7 @@
 //! The functions of the C interface, as `markdown_inline.h` declares them.
 
 use std::mem::size_of;
+use std::ops::Range;
 
 pub(crate) const DONE: u32 = 0;
 pub(crate) const TOO_SMALL: u32 = 6;
@@ -17,6 +18,17 @@ pub struct Piece {
     pub end: usize,
     /// How many columns of the tab at `end` the piece still has.
     pub end_vs: usize,
+}
+
+impl From<Range<usize>> for Piece {
+    /// The bytes of a range, with no part of a tab.
+    fn from(bytes: Range<usize>) -> Piece {
+        Piece {
+            start: bytes.start,
+            end: bytes.end,
+            ..Piece::default()
+        }
+    }
 }
 
 #[derive(Clone, Copy, Debug)]
@@ -42,7 +54,7 @@ pub(crate) struct RawInput {
 }
 
 /// An event as it crosses.
-#[derive(Clone, Copy, Debug)]
+#[derive(Clone, Copy, Debug, PartialEq, Eq)]
 #[repr(C)]
 pub(crate) struct RawEvent {
     pub(crate) kind: u8,
@@ -57,7 +69,7 @@ pub(crate) struct RawEvent {
 }
 
 /// A short event as it crosses.
-#[derive(Clone, Copy, Debug)]
+#[derive(Clone, Copy, Debug, PartialEq, Eq)]
 #[repr(C)]
 pub(crate) struct RawShortEvent {
     pub(crate) kind: u8,
@@ -69,7 +81,7 @@ pub(crate) struct RawShortEvent {
 }
 
 /// A leaf as it crosses.
-#[derive(Clone, Copy, Debug)]
+#[derive(Clone, Copy, Debug, PartialEq, Eq)]
 #[repr(C)]
 pub(crate) struct RawLeaf {
     pub(crate) name: u8,

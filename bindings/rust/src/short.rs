@@ -2,9 +2,12 @@
 
 use crate::event::{Content, Kind};
 use crate::fill::range_of;
+use crate::lists::walks;
 use crate::raw::RawShortEvent;
 use crate::Name;
 use std::fmt;
+use std::iter::FusedIterator;
+use std::slice;
 
 /// The beginning or the end of something in a document, without its line, its column and its chain.
 #[derive(Clone, Copy, Debug, PartialEq, Eq, Hash)]
@@ -25,7 +28,7 @@ pub struct ShortEvent {
 }
 
 /// The short events of many contents, of each by itself.
-#[derive(Clone, Default)]
+#[derive(Clone, Default, PartialEq, Eq)]
 pub struct ShortTexts {
     pub(crate) events: Vec<RawShortEvent>,
     pub(crate) ends: Vec<usize>,
@@ -44,11 +47,13 @@ impl ShortEvent {
     }
 
     /// Whether it begins what it names.
+    #[must_use]
     pub fn is_enter(&self) -> bool {
         self.kind == Kind::Enter
     }
 
     /// Whether it ends what it names.
+    #[must_use]
     pub fn is_exit(&self) -> bool {
         self.kind == Kind::Exit
     }
@@ -56,36 +61,58 @@ impl ShortEvent {
 
 impl ShortTexts {
     /// No contents, and no memory for any.
+    #[must_use]
     pub fn new() -> ShortTexts {
         ShortTexts::default()
     }
 
-    /// How many contents there are.
-    pub fn len(&self) -> usize {
-        self.ends.len()
-    }
-
-    /// Whether there are none.
-    pub fn is_empty(&self) -> bool {
-        self.ends.is_empty()
-    }
-
     /// The events of the content with this number, one after another.
-    pub fn get(&self, number: usize) -> Option<impl ExactSizeIterator<Item = ShortEvent> + '_> {
+    #[must_use]
+    pub fn get(&self, number: usize) -> Option<ShortIter<'_>> {
         let events = &self.events[range_of(&self.ends, number)?];
-        Some(events.iter().map(ShortEvent::of))
-    }
-
-    /// The contents one after another, of each its events.
-    pub fn iter(&self) -> impl Iterator<Item = impl ExactSizeIterator<Item = ShortEvent> + '_> {
-        (0..self.len()).filter_map(|number| self.get(number))
+        Some(ShortIter(events.iter()))
     }
 }
+
+walks! {
+    /// The contents one after another, of each its events.
+    ShortTextsIter over ShortTexts gives ShortIter<'a>
+}
+
+/// The short events of a content one after another.
+#[derive(Clone, Debug)]
+pub struct ShortIter<'a>(slice::Iter<'a, RawShortEvent>);
+
+impl Iterator for ShortIter<'_> {
+    type Item = ShortEvent;
+
+    fn next(&mut self) -> Option<ShortEvent> {
+        self.0.next().map(ShortEvent::of)
+    }
+
+    fn nth(&mut self, number: usize) -> Option<ShortEvent> {
+        self.0.nth(number).map(ShortEvent::of)
+    }
+
+    fn size_hint(&self) -> (usize, Option<usize>) {
+        self.0.size_hint()
+    }
+}
+
+impl DoubleEndedIterator for ShortIter<'_> {
+    fn next_back(&mut self) -> Option<ShortEvent> {
+        self.0.next_back().map(ShortEvent::of)
+    }
+}
+
+impl ExactSizeIterator for ShortIter<'_> {}
+
+impl FusedIterator for ShortIter<'_> {}
 
 impl fmt::Debug for ShortTexts {
     fn fmt(&self, f: &mut fmt::Formatter<'_>) -> fmt::Result {
         f.debug_list()
-            .entries(self.iter().map(|events| events.collect::<Vec<_>>()))
+            .entries(self.iter().map(Vec::from_iter))
             .finish()
     }
 }

@@ -1,6 +1,7 @@
 //! The texts of strings.
 
 use crate::fill::{fill_many, range_of};
+use crate::lists::walks;
 use crate::raw::{self, RawRange};
 use crate::{Error, Options, Refusal};
 use std::ops::Range;
@@ -13,25 +14,16 @@ pub struct Strings {
 }
 
 impl Strings {
-    /// How many strings there are.
-    pub fn len(&self) -> usize {
-        self.ends.len()
-    }
-
-    /// Whether there are none.
-    pub fn is_empty(&self) -> bool {
-        self.ends.is_empty()
-    }
-
     /// The text of the string with this number.
+    #[must_use]
     pub fn get(&self, number: usize) -> Option<&str> {
         self.texts.get(range_of(&self.ends, number)?)
     }
+}
 
+walks! {
     /// The texts one after another.
-    pub fn iter(&self) -> impl Iterator<Item = &str> {
-        (0..self.len()).filter_map(|number| self.get(number))
-    }
+    StringsIter over Strings gives &'a str
 }
 
 fn raw_ranges(ranges: &[Range<usize>]) -> Result<Vec<RawRange>, Error> {
@@ -49,7 +41,11 @@ fn raw_ranges(ranges: &[Range<usize>]) -> Result<Vec<RawRange>, Error> {
 /// The texts of strings, such as titles and destinations, with escapes and character references resolved. A part is a range of the bytes; a string is a range of
 /// numbers of parts, whose bytes are one text. Where a string stands in a paragraph, its parts are what `Data` and `LineEnding` cover inside it.
 ///
-/// References are read as CommonMark says: [`strings_with`] takes options. The error is `NoString` or `NoMemory`.
+/// References are read as CommonMark says: [`strings_with`] takes options.
+///
+/// # Errors
+///
+/// `NoString` or `NoMemory`.
 ///
 /// ```
 /// # fn main() -> Result<(), markdown_inline::Refusal> {
@@ -69,7 +65,9 @@ pub fn strings<D: AsRef<[u8]> + ?Sized>(
 /// The texts of strings as of [`strings`], with character references resolved as [`reference_with`](crate::reference_with) says by these options: take those with
 /// which the document is read.
 ///
-/// The error is `UnknownOption`, `NoString` or `NoMemory`.
+/// # Errors
+///
+/// `UnknownOption`, `NoString` or `NoMemory`.
 ///
 /// ```
 /// # fn main() -> Result<(), markdown_inline::Refusal> {
@@ -90,12 +88,11 @@ pub fn strings_with<D: AsRef<[u8]> + ?Sized>(
     let (mut texts, mut ends) = (Vec::new(), Vec::new());
     let len = |part: &RawRange| part.end.saturating_sub(part.start).min(document.len());
     let expected = parts.iter().map(len).fold(0, usize::saturating_add);
-    let many = strings.len();
     // SAFETY: each pointer goes with the length of its array, and nothing is kept.
     fill_many(
         &mut texts,
         &mut ends,
-        many,
+        strings.len(),
         expected,
         true,
         |lent, outcome| unsafe {
@@ -106,7 +103,7 @@ pub fn strings_with<D: AsRef<[u8]> + ?Sized>(
                 parts.as_ptr(),
                 parts.len(),
                 strings.as_ptr().add(lent.from),
-                many - lent.from,
+                lent.ends_len,
                 lent.array,
                 lent.len,
                 lent.ends,

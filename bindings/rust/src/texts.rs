@@ -2,6 +2,7 @@
 
 use crate::event::EventSlice;
 use crate::fill::range_of;
+use crate::lists::walks;
 use crate::raw::{RawContent, RawEvent, RawRange};
 use std::fmt;
 use std::ops::Range;
@@ -15,8 +16,18 @@ pub struct TextContent {
     pub first_of_item: bool,
 }
 
+impl From<Range<usize>> for TextContent {
+    /// These pieces, not the first of a list item.
+    fn from(pieces: Range<usize>) -> TextContent {
+        TextContent {
+            pieces,
+            first_of_item: false,
+        }
+    }
+}
+
 /// The events of many contents, of each by itself: their numbers count within a content.
-#[derive(Clone, Default)]
+#[derive(Clone, Default, PartialEq, Eq)]
 pub struct Texts {
     pub(crate) events: Vec<RawEvent>,
     pub(crate) ends: Vec<usize>,
@@ -36,29 +47,21 @@ impl RawContent {
 
 impl Texts {
     /// No contents, and no memory for any.
+    #[must_use]
     pub fn new() -> Texts {
         Texts::default()
     }
 
-    /// How many contents there are.
-    pub fn len(&self) -> usize {
-        self.ends.len()
-    }
-
-    /// Whether there are none.
-    pub fn is_empty(&self) -> bool {
-        self.ends.is_empty()
-    }
-
     /// The events of the content with this number.
+    #[must_use]
     pub fn get(&self, number: usize) -> Option<EventSlice<'_>> {
         Some(EventSlice::of(&self.events[range_of(&self.ends, number)?]))
     }
+}
 
+walks! {
     /// The contents one after another, of each its events.
-    pub fn iter(&self) -> impl Iterator<Item = EventSlice<'_>> {
-        (0..self.len()).filter_map(|number| self.get(number))
-    }
+    TextsIter over Texts gives EventSlice<'a>
 }
 
 impl fmt::Debug for Texts {

@@ -2,8 +2,8 @@
 
 use markdown_inline::{
     identifier, is_right_version, reference, reference_with, string, strings, strings_with, text,
-    Error, Event, Events, HtmlOptions, Input, Name, Options, Piece, Refusal, ShortEvent,
-    TextContent,
+    Error, Event, Events, HtmlOptions, Htmls, Input, Name, Options, Piece, Refusal, ShortEvent,
+    ShortTexts, TextContent, Texts,
 };
 use std::thread;
 
@@ -388,4 +388,100 @@ fn threads_do_not_meet() {
             });
         }
     });
+}
+
+#[test]
+fn what_is_read_before_a_refusal_is_answered() {
+    // The third content ends behind the document. Dense ones do not have room at once.
+    for (first, second) in [("a", "b"), (&*"*a*".repeat(3000), &*"&amp;".repeat(900))] {
+        let document = format!("{first}\n{second}\n");
+        let end = first.len() + 1;
+        let pieces = [
+            Piece::from(0..first.len()),
+            Piece::from(end..document.len() - 1),
+            Piece::from(0..document.len() + 1),
+        ];
+        let contents = [0..1, 1..2, 2..3, 0..1].map(TextContent::from);
+        let input = Input::new(&document).pieces(&pieces);
+        let (mut texts, mut shorts, mut htmls) = (Texts::new(), ShortTexts::new(), Htmls::new());
+        let refusals = [
+            input.texts_into(&contents, &mut texts),
+            input.short_texts_into(&contents, &mut shorts),
+            input.htmls_into(&contents, HtmlOptions::default(), &mut htmls),
+        ];
+        for refusal in refusals {
+            let refusal = refusal.unwrap_err();
+            assert_eq!((refusal.error, refusal.at), (Error::NoContent, Some(2)));
+        }
+        assert_eq!(texts, input.texts(&contents[..2]).unwrap());
+        assert_eq!(shorts, input.short_texts(&contents[..2]).unwrap());
+        let wanted = input.htmls(&contents[..2], HtmlOptions::default());
+        assert_eq!(htmls, wanted.unwrap());
+        // Of another refusal nothing stays.
+        let unknown = input.clone().options(Options::from_bits(1 << 31));
+        assert!(unknown.texts_into(&contents, &mut texts).is_err());
+        assert!(unknown
+            .htmls_into(&contents, HtmlOptions::default(), &mut htmls)
+            .is_err());
+        assert!(texts.is_empty() && htmls.is_empty() && htmls.as_str().is_empty());
+    }
+}
+
+#[test]
+fn definitions_bring_as_much_as_a_long_document_has() {
+    let (destination, links) = ("/".repeat(1000), "[a] ".repeat(150));
+    let html = |padding: usize| {
+        let document = format!("{links}{}", "b".repeat(padding));
+        let input = Input::new(&document).definition_to("a", &destination, None);
+        input.html(HtmlOptions::default()).map(drop)
+    };
+    assert_eq!(html(0), Err(Error::References));
+    assert_eq!(html(200_000), Ok(()));
+}
+
+#[test]
+fn links_are_found_with_where_they_lead() {
+    let document =
+        "> [a\n> ![b](c)](/d \"e &amp;\n> f\") [x][Y]\n> www.g.h <i@j.k> <ll:m> [y] [www.a.b](n)";
+    let mut start = 0;
+    let pieces: Vec<_> = document
+        .split_inclusive('\n')
+        .map(|line| {
+            start += line.len();
+            Piece::from(start - line.len() + 2..start)
+        })
+        .collect();
+    let input = Input::new(document)
+        .pieces(&pieces)
+        .options(Options::COMMONMARK | Options::GFM)
+        .definition("z")
+        .definition_to("y", "/o", Some("p"));
+    let links = input.links(&[TextContent::from(0..4)]).unwrap();
+    let found: Vec<_> = links
+        .iter()
+        .map(|it| {
+            let place = (it.start.line, it.start.column, it.end.line, it.end.column);
+            let leads = (it.destination.as_str(), it.title.as_deref());
+            (it.name.as_str(), place, leads, it.definition)
+        })
+        .collect();
+    let wanted = [
+        ("Link", (1, 3, 3, 6), ("/d", Some("e &\nf")), None),
+        ("Image", (2, 3, 2, 10), ("c", None), None),
+        ("Link", (3, 7, 3, 13), ("/o", Some("p")), Some(1)),
+        (
+            "GfmAutolinkLiteralWww",
+            (4, 3, 4, 10),
+            ("http://www.g.h", None),
+            None,
+        ),
+        ("Autolink", (4, 11, 4, 18), ("mailto:i@j.k", None), None),
+        ("Autolink", (4, 19, 4, 25), ("ll:m", None), None),
+        ("Link", (4, 26, 4, 29), ("/o", Some("p")), Some(1)),
+        ("Link", (4, 30, 4, 42), ("n", None), None),
+    ];
+    assert_eq!(found, wanted);
+    let bad = Input::new("[a]").definition_to("a", b"\xff", None);
+    let refusal = bad.links(&[TextContent::from(0..1)]).unwrap_err();
+    assert_eq!((refusal.error, refusal.at), (Error::Definition, Some(0)));
 }

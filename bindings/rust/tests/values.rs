@@ -1,6 +1,8 @@
 //! Options, names, events and lists of them, by themselves.
 
-use markdown_inline::{text, Content, Error, HtmlOptions, Input, Kind, Name, Options};
+use markdown_inline::{
+    text, Content, Error, HtmlOptions, Input, Joined, Kind, Name, Options, Piece,
+};
 
 const HEADER: &str = include_str!(env!("MARKDOWN_INLINE_HEADER"));
 
@@ -145,4 +147,66 @@ fn a_definition_leads_to_an_empty_address_without_a_title() {
         html(Input::new("[a]").definition_to("A", "/b", Some(""))),
         "<a href=\"/b\" title=\"\">a</a>"
     );
+}
+
+#[test]
+fn names_are_words_and_options_hold_others() {
+    for name in Name::ALL {
+        assert_eq!(name.as_str().parse(), Ok(*name));
+    }
+    assert!("Datum".parse::<Name>().is_err());
+    assert_eq!(format!("{:>5}", Name::Data), " Data");
+    assert!(Options::COMMONMARK.contains(Options::ATTENTION | Options::STANDARD_RULES));
+    assert!(!Options::CRATE.contains(Options::COMMONMARK));
+    let mut options = Options::CRATE;
+    options |= Options::STANDARD_RULES;
+    assert_eq!(options, Options::COMMONMARK);
+    options -= Options::STANDARD_RULES;
+    assert_eq!(options, Options::CRATE);
+    assert_eq!(Piece::from(2..7).end, 7);
+}
+
+#[test]
+fn lists_of_many_are_walked_from_both_ends() {
+    let joined: Joined = ["a", "*b*", "`c`\nd"].into_iter().collect();
+    let (input, contents) = (joined.input(), joined.contents());
+    let (texts, shorts) = (
+        input.texts(contents).unwrap(),
+        input.short_texts(contents).unwrap(),
+    );
+    let htmls = input.htmls(contents, HtmlOptions::default()).unwrap();
+    assert_eq!(
+        (texts.iter().len(), shorts.iter().len(), htmls.iter().len()),
+        (3, 3, 3)
+    );
+    let wanted = ["a", "<em>b</em>", "<code>c</code>\nd"];
+    assert!(htmls.iter().eq(wanted));
+    assert!(htmls
+        .iter()
+        .rev()
+        .eq([wanted[2], wanted[1], wanted[0]].into_iter()));
+    let (mut count, mut last) = (0, None);
+    for (events, mut short) in (&texts).into_iter().zip(&shorts) {
+        assert!(events
+            .iter()
+            .map(|it| it.name)
+            .eq(short.clone().map(|it| it.name)));
+        last = short.next_back();
+        count += 1;
+    }
+    assert_eq!((count, last.map(|it| it.index)), (3, Some(11)));
+    assert_eq!(joined.start(2), Some(6));
+    assert_eq!(texts, input.texts(contents).unwrap());
+    assert_ne!(texts, joined.input().texts(&contents[..2]).unwrap());
+}
+
+#[test]
+fn a_chain_goes_on_to_its_end() {
+    let title = vec!["a"; 60].join("\n");
+    let events = text(&format!("[b](c \"{title}\")")).unwrap();
+    let start = events
+        .iter()
+        .position(|it| it.name == Name::ResourceTitleString)
+        .unwrap();
+    assert_eq!(events.chain(start + 1).count(), 119);
 }
