@@ -131,15 +131,18 @@ class Arguments(unittest.TestCase):
         self.assertEqual(text('*a*', options=0), text('*a*', options=BITS & ~1))
 
     def test_switches(self):
-        for name in ('gfm', 'math', 'task', 'cm_lengths', 'cm_shortcut', 'html_references', 'commonmark', 'raw_html', 'any_link'):
+        for name in ('gfm', 'math', 'task', 'raw_html', 'any_link'):
             calls = [html] + [text, leaves] * (name not in ('raw_html', 'any_link'))
-            calls += [lambda it, **asked: texts(it, [], **asked)] * (name in ('gfm', 'math', 'cm_lengths', 'cm_shortcut', 'html_references', 'commonmark'))
+            calls += [lambda it, **asked: texts(it, [], **asked)] * (name in ('gfm', 'math'))
             for call in calls:
                 for given in ('yes', None, 1.0, []):
                     self.refused(TypeError, name + ' is True or False, and not a ' + type(given).__name__, lambda: call('a', **{name: given}))
                 for given in (2, -1):
                     self.refused(ValueError, name + ' is True or False, and not another number', lambda: call('a', **{name: given}))
         self.assertEqual(html('<b> [a](javascript:b)', raw_html=1), '<b> <a href="">a</a>')
+        for call in (text, string, leaves, html, reference, lambda it, **asked: texts(it, [], **asked)):
+            self.refused(TypeError, 'rules is a str, and not a bool', lambda: call('a', rules=True))
+            self.refused(ValueError, "rules is 'commonmark' or 'crate', and not 'gfm'", lambda: call('a', rules='gfm'))
 
     def test_options_stay(self):
         with self.assertRaises(TypeError):

@@ -7,10 +7,10 @@ from array import array
 
 import markdown_inline
 from markdown_inline import (
-    OPTIONS, BlankLine, Content, DefinitionError, Error, Kind, Name, NoContent, NoReference, NoString, NotUtf8, Piece, References, ShortTexts, TooLong,
+    COMMONMARK, CRATE, GFM, MATH, OPTIONS, BlankLine, Content, DefinitionError, Error, Kind, Name, NoContent, NoReference, NoString, NotUtf8, Piece, References, ShortTexts, TooLong,
     UnknownOption, _library, html, htmls, identifier, is_content, is_text, leaves, reference, short_texts, string, strings, text, texts)
 
-CRATE = sum(OPTIONS[it] for it in (
+CONSTRUCTS = sum(OPTIONS[it] for it in (
     'attention', 'autolink', 'character_escape', 'character_reference', 'code_text', 'hard_break_escape', 'hard_break_trailing', 'html_text', 'label_start_image',
     'label_start_link', 'label_end', 'gfm_strikethrough_single_tilde', 'math_text_single_dollar'))
 
@@ -76,10 +76,11 @@ class Calls(unittest.TestCase):
 
     def test_references_are_decoded_by_options(self):
         names, rules = OPTIONS['html_references'], OPTIONS['standard_rules']
-        self.assertRaises(NoReference, reference, '&check;')
-        self.assertEqual([reference('&check;', options=it) for it in (names, rules)], ['\u2713', '\u2713'])
-        self.assertEqual([reference('&#1;', options=it) for it in (CRATE, names, rules)], ['\ufffd', '\ufffd', '\x01'])
-        self.assertEqual([strings('&check;', [[(0, 7)]], options=it) for it in (None, 0, names)], [['&check;'], ['&check;'], ['\u2713']])
+        self.assertRaises(NoReference, reference, '&check;', rules='crate')
+        self.assertEqual([reference('&check;', options=it) for it in (None, names, rules)], ['\u2713'] * 3)
+        self.assertEqual([reference('&#1;', options=it) for it in (CRATE, names, rules, None)], ['\ufffd', '\ufffd', '\x01', '\x01'])
+        self.assertEqual([strings('&check;', [[(0, 7)]], options=it) for it in (None, 0, names)], [['\u2713'], ['&check;'], ['\u2713']])
+        self.assertEqual(strings('&check;&#1;', [[(0, 11)]], rules='crate'), ['&check;\ufffd'])
         self.assertEqual(strings('&nGt;' * 500, [[(0, 2500)]], options=rules), ['\u226b\u20d2' * 500])
 
     def test_each_switch(self):
@@ -87,9 +88,7 @@ class Calls(unittest.TestCase):
         gfm = sum(OPTIONS[it] for it in ('gfm_autolink_literal', 'gfm_label_start_footnote', 'gfm_strikethrough', 'gfm_task_list_item'))
         for document, asked, bits in (
             ('~a~ www.b.c [^d] e@f.g', {'gfm': True}, gfm), ('a $b$ $$c$$', {'math': True}, OPTIONS['math_text']),
-            ('[x] a', {'gfm': True, 'task': True}, gfm | OPTIONS['first_of_item']), ('*a***a* b', {'cm_lengths': True}, OPTIONS['attention_first_lengths']),
-            ('[a][', {'cm_shortcut': True}, OPTIONS['label_shortcut_before_bracket']),
-            ('&check;', {'html_references': True}, OPTIONS['html_references']), ('a*_b_*', {'commonmark': True}, OPTIONS['standard_rules']),
+            ('[x] a', {'gfm': True, 'task': True}, gfm | OPTIONS['first_of_item']),
         ):
             last = list(asked)[-1]
             without = {name: it for name, it in asked.items() if name != last}
@@ -99,16 +98,24 @@ class Calls(unittest.TestCase):
             if last != 'task':
                 calls.append(lambda **them: texts(document, one, **both, **them))
             for call in calls:
-                self.assertEqual(call(**asked), call(options=CRATE | bits))
+                self.assertEqual(call(**asked), call(options=COMMONMARK | bits))
+                self.assertEqual(call(**asked, rules='crate'), call(options=CRATE | bits))
                 self.assertNotEqual(call(**asked), call(**without))
-                self.assertEqual(call(), call(options=CRATE))
+                self.assertEqual(call(), call(options=COMMONMARK))
                 self.assertEqual(call(), call(**dict.fromkeys(asked, False)))
-                self.assertRaises(TypeError, call, options=CRATE, **{last: True})
+                self.assertRaises(TypeError, call, options=COMMONMARK, **{last: True})
+                self.assertRaises(TypeError, call, options=COMMONMARK, rules='crate')
             found = texts(document, one, **both, **{name: it for name, it in asked.items() if name != 'task'})
             self.assertEqual(found, [text(document, **both, **asked)])
 
     def test_what_is_read_by_default(self):
-        """CommonMark's constructs, as in C and in Rust."""
+        """CommonMark's constructs by its rules, as in C and in Rust."""
+        self.assertEqual((COMMONMARK, CRATE, GFM, MATH), (CONSTRUCTS | OPTIONS['standard_rules'], CONSTRUCTS, 0x1e0, OPTIONS['math_text']))
+        # Of CommonMark, and of the crate.
+        for document, wanted, other in (
+            ('*a***a* b', '<em>a</em>*<em>a</em> b', '<em>a</em>**a* b'), ('a*_b_*', 'a*<em>b</em>*', 'a<em><em>b</em></em>'), ('&check;', '\u2713', '&amp;check;'),
+        ):
+            self.assertEqual((html(document), html(document, rules='crate')), (wanted, other))
         gfm = '~a~ www.b.c [^d] e@f.g $h$ [x]'
         for call in (text, leaves):
             self.assertEqual({it.name for it in call(gfm, footnotes=['d'])}, {Name.Data})
@@ -146,12 +153,12 @@ class Calls(unittest.TestCase):
     def test_labels_go_by_their_text(self):
         # By CommonMark what a content leaves out is no part of a label; else the identifier is that of all bytes of the document.
         document, pieces = '> [a\n> b]', [(2, 5), (7, 9)]
-        for label, options in (('a b', dict(commonmark=True)), ('a > b', {})):
+        for label, options in (('a b', {}), ('a > b', dict(rules='crate'))):
             self.assertEqual(html(document, pieces, definitions={label: '/c'}, **options), '<a href="/c">a\nb</a>')
             self.assertEqual(htmls(document, [Content(pieces)], definitions={label: '/c'}, **options), ['<a href="/c">a\nb</a>'])
             found, = short_texts(document, [Content(pieces)], definitions=['c', label], **options)
             self.assertEqual([(it.name, it.definition) for it in found if it.definition is not None], [(Name.Link, 1)])
-        for label, options in (('a > b', dict(commonmark=True)), ('a b', {})):
+        for label, options in (('a > b', {}), ('a b', dict(rules='crate'))):
             self.assertEqual(html(document, pieces, definitions={label: '/c'}, **options), '[a\nb]')
             self.assertEqual(htmls(document, [Content(pieces)], definitions={label: '/c'}, **options), ['[a\nb]'])
             found, = short_texts(document, [Content(pieces)], definitions=['c', label], **options)
@@ -182,7 +189,7 @@ class Calls(unittest.TestCase):
     def test_many_contents_have_the_html_of_each_by_itself(self):
         document, defined = '<b> [a](javascript:b) [C]\n\n[x] d', {'c': ('/d', 'é')}
         contents = [Content([(0, 25)]), Content([(27, 32)], True)]
-        for asked in ({}, {'raw_html': True}, {'any_link': True}, {'gfm': True}, {'math': True, 'cm_lengths': True}):
+        for asked in ({}, {'raw_html': True}, {'any_link': True}, {'gfm': True}, {'math': True, 'rules': 'crate'}):
             found = htmls(document, contents, definitions=defined, **asked)
             self.assertEqual(found, [html(document, it.pieces, task=it.first_of_item, definitions=defined, **asked) for it in contents])
 

@@ -2,19 +2,16 @@
 """Reads cases of draw.py from standard input, and prints what the Python package finds in each: events as the program of crates/markdown_test_runs
 does, leaves, HTML in hexadecimal, or the events, the short events or the HTML of each text; where there are none, why.
 
-Where switches can say the options of a case, they do, and not its bits. Each other document is handed over as a `str`, and its characters are counted
+Where words can say the options of a case, they do, and not its bits. Each other document is handed over as a `str`, and its characters are counted
 here too. The status is 1 where few cases come, or few of a kind, so that what tests nothing does not pass."""
 import collections
 import sys
 from itertools import accumulate
 
-from markdown_inline import OPTIONS, Content, Error, Kind, Piece, _tables, html, htmls, leaves, short_texts, string, text, texts
+from markdown_inline import COMMONMARK, CRATE, GFM, MATH, OPTIONS, Content, Error, Kind, Piece, html, htmls, leaves, short_texts, string, text, texts
 
-SWITCHES = {
-    'gfm': _tables.GFM, 'math': _tables.MATH, 'task': OPTIONS['first_of_item'], 'cm_lengths': OPTIONS['attention_first_lengths'],
-    'cm_shortcut': OPTIONS['label_shortcut_before_bracket'], 'html_references': OPTIONS['html_references'], 'commonmark': OPTIONS['standard_rules'],
-}
-# How many cases come at least in all, of each kind, and by switches. A file has kinds of one of these rows.
+SWITCHES, SETS = {'gfm': GFM, 'math': MATH, 'task': OPTIONS['first_of_item']}, {'commonmark': COMMONMARK, 'crate': CRATE}
+# How many cases come at least in all, of each kind, and by words. A file has kinds of one of these rows.
 LEAST, KINDS = 600, ({'text': 400, 'string': 40}, {'leaves': 300, 'html': 300, 'texts': 60, 'shorts': 60, 'htmls': 60})
 seen = collections.Counter()
 
@@ -77,12 +74,13 @@ def content(word, spans):
 
 
 def asked(bits, how):
-    """The switches that say these bits, or else the bits."""
+    """The words that say these bits, or else the bits."""
     words = {name: True for name, its_bits in SWITCHES.items() if bits & its_bits == its_bits}
-    if how == 'string' or _tables.CRATE | sum(SWITCHES[it] for it in words) != bits:
-        return {'options': bits}
-    seen['by switches'] += 1
-    return words
+    for rules, its_bits in SETS.items():
+        if how != 'string' and its_bits | sum(SWITCHES[it] for it in words) == bits:
+            seen['by words'] += 1
+            return {'rules': rules, **words}
+    return {'options': bits}
 
 
 def found(how, document, spans, given, places, labels, rest):
@@ -123,10 +121,10 @@ def answer(number, line):
 
 def too_few():
     """What of the cases came too seldom."""
-    switched = seen.pop('by switches', 0)
+    worded = seen.pop('by words', 0)
     least = next((it for it in KINDS if set(it) == set(seen)), None)
-    if least is None or sum(seen.values()) < LEAST or switched < LEAST // 6 or any(seen[it] < count for it, count in least.items()):
-        return 'too few cases: %s, and %d by switches' % (dict(seen), switched)
+    if least is None or sum(seen.values()) < LEAST or worded < LEAST // 6 or any(seen[it] < count for it, count in least.items()):
+        return 'too few cases: %s, and %d by words' % (dict(seen), worded)
 
 
 for number, line in enumerate(sys.stdin):

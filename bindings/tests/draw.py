@@ -19,8 +19,9 @@ from _tables import CRATE, GFM, MATH, OPTIONS  # noqa: E402
 # What the program calls the options.
 CONSTRUCTS = ['commonmark' if name == 'standard_rules' else name for name in OPTIONS]
 FIRST_OF_ITEM = OPTIONS['first_of_item']
-# Off by default, and drawn as often as not.
-RARE = sum(OPTIONS[name] for name in ('attention_first_lengths', 'label_shortcut_before_bracket', 'first_of_item', 'html_references', 'standard_rules'))
+# Drawn as often as not; and what says a part of the last of them, drawn in a quarter of the cases.
+RARE = FIRST_OF_ITEM | OPTIONS['standard_rules']
+PARTS_OF_RULES = sum(OPTIONS[name] for name in ('attention_first_lengths', 'label_shortcut_before_bracket', 'html_references'))
 PARTS = ['a', 'bc', 'é', '漢', '😀', ' ', '  ', '\t', '*', '**', '_', '~', '~~', '`', '``', '$', '$$', '[', ']', '![', '](', ')', '(', '<', '>', '"', "'",
          '\\', '&', ';', '!', '#', '@', ':', '.', '/', '[x] ', '[a]', '[^n]', '[b c][]', '[d](e "f")', '![g](<h i>)', '&amp;', '&#65;', '&#x1f4a9;', '&copy;',
          '&nosuch;', '&check;', '<https://j.k>', '<l@m.n>', 'https://o.p/q', 'www.r.s', 't@u.v', '<w x="y">', '</z>', '<!-- c -->', '<?p?>', '\\*', '\\\n', '  \n', '\n',
@@ -60,7 +61,8 @@ def case(draw):
     else:
         document, pieces = text.encode(), [((0, 0), (len(text.encode()), 0))]
     bits = CRATE | GFM * draw.randrange(2) | MATH * draw.randrange(2) | RARE & draw.getrandbits(len(OPTIONS))
-    bits ^= sum(bit for bit in OPTIONS.values() if not bit & RARE and draw.random() < 0.04)
+    bits |= PARTS_OF_RULES & draw.getrandbits(len(OPTIONS)) * draw.randrange(2)
+    bits ^= sum(bit for bit in OPTIONS.values() if not bit & (RARE | PARTS_OF_RULES) and draw.random() < 0.04)
     how = 'string' if draw.random() < 0.15 else 'text'
     labels = [] if how == 'string' else draw.sample(LABELS, draw.randrange(4))
     notes = [] if how == 'string' else draw.sample(NOTES, draw.randrange(3))

@@ -15,7 +15,7 @@ from markdown_inline import OPTIONS, html as html_of, play, text
 
 PROGRAM = [sys.executable, '-m', 'markdown_inline.play']
 USUAL = ['attention', 'autolink', 'character_escape', 'character_reference', 'code_text', 'hard_break_escape', 'hard_break_trailing', 'html_text', 'label_start_image',
-         'label_start_link', 'label_end', 'gfm_strikethrough_single_tilde', 'math_text_single_dollar']
+         'label_start_link', 'label_end', 'gfm_strikethrough_single_tilde', 'math_text_single_dollar', 'standard_rules']
 JSON = {'Content-Type': 'application/json'}
 
 

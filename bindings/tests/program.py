@@ -21,6 +21,12 @@ class Program(unittest.TestCase):
         self.assertEqual(run('text', given=b'a\n'), (0, 'Enter Data 1 1 0 0\nExit Data 1 2 1 0\n', ''))
         self.assertEqual(run('text', given='é\r\n'.encode()), (0, 'Enter Data 1 1 0 0\nExit Data 1 3 2 0\n', ''))
 
+    def test_rules(self):
+        """By default those of CommonMark."""
+        for given, words, found in (('&check;', (), '\u2713'), ('&check;', ('crate',), '&amp;check;'), ('&check;', ('crate', 'html-references'), '\u2713'),
+                                    ('a*_b_*', (), 'a*<em>b</em>*'), ('a*_b_*', ('crate', 'commonmark'), 'a*<em>b</em>*')):
+            self.assertEqual(run('--html', *words, given=given.encode()), (0, found + '\n', ''))
+
     def test_words(self):
         for words in ((), ('nothing',), ('text', 'nothing'), ('text', '--nothing'), ('string', 'raw')):
             status, lines, said = run(*words)

@@ -6,26 +6,27 @@
     >>> [event.index for event in text('a *b*') if event.name == Name.Emphasis]
     [2, 5]
 
-Kinds and names are members of enumerations, and equal to no string; `str` of them is the text that the program mdinline prints. By default the
-constructs are those of CommonMark, as in C and in Rust, and `gfm=True` asks for what GitHub adds. What the calls answer is proved; this package calls
-the proved library.
+Kinds and names are members of enumerations, and equal to no string; `str` of them is the text that the program mdinline prints. By default a text is read as
+CommonMark 0.31.2 says, as in C and in Rust; `gfm=True` asks for what GitHub adds. What the calls answer is proved; this package calls the proved library.
 """
 from itertools import chain
 from types import MappingProxyType
-from typing import Iterable, List, Mapping, NamedTuple, Optional, Sequence, Tuple, Union
+from typing import Any, Iterable, List, Literal, Mapping, NamedTuple, Optional, Sequence, Tuple, Union
 
 from . import _arguments, _library, _tables
 from ._events import Characters, Event, Events, Leaf, Leaves, Link, ShortEvent, ShortEvents, ShortTexts, Texts
 from ._names import Kind, Name
 
 __all__ = [
-    'BlankLine', 'Content', 'DefinitionError', 'Error', 'Event', 'Events', 'Kind', 'Leaf', 'Leaves', 'Link', 'Name', 'NoContent', 'NoMemory',
-    'NoReference', 'NoString', 'NotUtf8', 'OPTIONS', 'Piece', 'References', 'ShortEvent', 'ShortEvents', 'ShortTexts', 'Texts', 'TooLong', 'UnknownOption',
-    'html', 'htmls', 'identifier', 'is_content', 'is_text', 'leaves', 'reference', 'short_texts', 'string', 'strings', 'text', 'texts',
+    'BlankLine', 'COMMONMARK', 'CRATE', 'Content', 'DefinitionError', 'Error', 'Event', 'Events', 'GFM', 'Kind', 'Leaf', 'Leaves', 'Link', 'MATH', 'Name',
+    'NoContent', 'NoMemory', 'NoReference', 'NoString', 'NotUtf8', 'OPTIONS', 'Piece', 'References', 'ShortEvent', 'ShortEvents', 'ShortTexts', 'Texts', 'TooLong',
+    'UnknownOption', 'html', 'htmls', 'identifier', 'is_content', 'is_text', 'leaves', 'reference', 'short_texts', 'string', 'strings', 'text', 'texts',
 ]
 
 #: Each option by its name, as a bit of `options`. It cannot be changed.
 OPTIONS: Mapping[str, int] = MappingProxyType(_tables.OPTIONS)
+#: Bits of `options`: CommonMark 0.31.2, its constructs by the rules of the crate `markdown`, what GitHub adds, and math spans.
+COMMONMARK, CRATE, GFM, MATH = _tables.COMMONMARK, _tables.CRATE, _tables.GFM, _tables.MATH
 
 
 class Piece(NamedTuple):
@@ -102,7 +103,12 @@ class NoString(Error, ValueError):
 _ERRORS = {it.status: it for it in (UnknownOption, NotUtf8, BlankLine, NoMemory, NoContent, DefinitionError, TooLong, NoReference, References, NoString)}
 Text = Union[str, bytes, bytearray, memoryview]
 Pieces = Optional[Iterable[Sequence[int]]]
+# A tuple of the same two serves as a Content too.
+Contents = Iterable[Union[Content, Tuple[Sequence[Sequence[int]], bool]]]
 Target = Union[Text, Tuple[Text, Optional[Text]]]
+# The keys are texts. A mapping is invariant in its keys, so that a dict of `str` would not be one whose keys are any text.
+Targets = Optional[Mapping[Any, Target]]
+Rules = Literal['commonmark', 'crate']
 
 
 def _raised(status: int, blamed: Optional[int] = None) -> Error:
@@ -117,24 +123,19 @@ def _characters(document: Text, bytes_given: bytes) -> Optional[Characters]:
 
 #: How many bytes definitions may bring by default where the document is shorter.
 _REFERENCE_LIMIT = 100_000
-_GFM, _MATH, _TASK = _tables.GFM, _tables.MATH, _tables.OPTIONS['first_of_item']
-_LENGTHS, _SHORTCUT = _tables.OPTIONS['attention_first_lengths'], _tables.OPTIONS['label_shortcut_before_bracket']
-_REFERENCES, _STANDARD = _tables.OPTIONS['html_references'], _tables.OPTIONS['standard_rules']
+_SETS = {'commonmark': COMMONMARK, 'crate': CRATE}
 
 
-def _bits(options: Optional[int], gfm: bool, math: bool, task: bool, cm_lengths: bool, cm_shortcut: bool, html_references: bool,
-          commonmark: bool) -> int:
-    if options is None and gfm is math is task is cm_lengths is cm_shortcut is html_references is commonmark is False:
-        return _tables.CRATE
-    bits = _tables.CRATE
-    for given, what, its_bits in (
-            (gfm, 'gfm', _GFM), (math, 'math', _MATH), (task, 'task', _TASK), (cm_lengths, 'cm_lengths', _LENGTHS), (cm_shortcut, 'cm_shortcut', _SHORTCUT),
-            (html_references, 'html_references', _REFERENCES), (commonmark, 'commonmark', _STANDARD)):
+def _bits(options: Optional[int], rules: Rules, gfm: bool = False, math: bool = False, task: bool = False) -> int:
+    if options is not None:
+        if not (gfm is math is task is False and rules == 'commonmark'):
+            raise TypeError('options says all by bits, so no word can stand beside it')
+        return _arguments.bits_of(options)
+    bits = _arguments.one_of(rules, _SETS, 'rules')
+    for given, what, its_bits in ((gfm, 'gfm', GFM), (math, 'math', MATH), (task, 'task', OPTIONS['first_of_item'])):
         if _arguments.flag_of(given, what):
             bits |= its_bits
-            if options is not None:
-                raise TypeError('options says all by bits, so %s cannot be asked for beside it' % what)
-    return bits if options is None else _arguments.bits_of(options)
+    return bits
 
 
 def _limit(reference_limit: Optional[int], document: bytes) -> int:
@@ -147,12 +148,11 @@ def _given(document: bytes, pieces: Pieces, options: int, definitions: Iterable[
         _arguments.labels_of(footnotes, 'footnotes'))
 
 
-def text(document: Text, pieces: Pieces = None, gfm: bool = False, math: bool = False, *, task: bool = False, cm_lengths: bool = False,
-         cm_shortcut: bool = False, html_references: bool = False, commonmark: bool = False, options: Optional[int] = None,
-         definitions: Iterable[Text] = (), footnotes: Iterable[Text] = ()) -> Events:
+def text(document: Text, pieces: Pieces = None, gfm: bool = False, math: bool = False, *, task: bool = False, rules: Rules = 'commonmark',
+         options: Optional[int] = None, definitions: Iterable[Text] = (), footnotes: Iterable[Text] = ()) -> Events:
     """The events of a text: of a whole document, or of pieces of it. `gfm` switches on what GitHub adds to CommonMark, `math` math spans; `task` says
-    that the text begins a list item; `commonmark` follows the standard in the rules that docs/DEFINITIONS.md marks, `cm_lengths`, `cm_shortcut` and
-    `html_references` in one of them each. `options` says all of it by bits instead.
+    that the text begins a list item. `rules` is 'commonmark', or 'crate' for those of the crate `markdown` where it departs from CommonMark 0.31.2.
+    `options` says all of it by bits instead, as COMMONMARK | GFM.
     `definitions` and `footnotes` are labels as they are written.
 
     A call tests the whole document, passes all that stands before the pieces, and puts the labels in order. So a call for each paragraph of one document takes
@@ -163,52 +163,48 @@ def text(document: Text, pieces: Pieces = None, gfm: bool = False, math: bool = 
     Exit Data 1 2 1 0
     """
     bytes_given = _arguments.text_of(document, 'document')
-    given = _given(bytes_given, pieces, _bits(options, gfm, math, task, cm_lengths, cm_shortcut, html_references, commonmark), definitions, footnotes)
+    given = _given(bytes_given, pieces, _bits(options, rules, gfm, math, task), definitions, footnotes)
     status, raw = _library.events('markdown_inline_text', given)
     if status:
         raise _raised(status)
     return Events(raw, _characters(document, bytes_given))
 
 
-def string(document: Text, pieces: Pieces = None, *, options: Optional[int] = None) -> Events:
+def string(document: Text, pieces: Pieces = None, *, rules: Rules = 'commonmark', options: Optional[int] = None) -> Events:
     """The events of a string: of escapes, character references and data. A call tests the whole document, and passes all that stands before the pieces."""
     bytes_given = _arguments.text_of(document, 'document')
-    given = _given(bytes_given, pieces, _tables.CRATE if options is None else _arguments.bits_of(options), (), ())
+    given = _given(bytes_given, pieces, _bits(options, rules), (), ())
     status, raw = _library.events('markdown_inline_string', given)
     if status:
         raise _raised(status)
     return Events(raw, _characters(document, bytes_given))
 
 
-def leaves(document: Text, pieces: Pieces = None, gfm: bool = False, math: bool = False, *, task: bool = False, cm_lengths: bool = False,
-           cm_shortcut: bool = False, html_references: bool = False, commonmark: bool = False, options: Optional[int] = None,
-           definitions: Iterable[Text] = (), footnotes: Iterable[Text] = ()) -> Leaves:
+def leaves(document: Text, pieces: Pieces = None, gfm: bool = False, math: bool = False, *, task: bool = False, rules: Rules = 'commonmark',
+           options: Optional[int] = None, definitions: Iterable[Text] = (), footnotes: Iterable[Text] = ()) -> Leaves:
     """The leaves of a text, in order: together they cover the pieces. What is asked for is said as of `text`, and so is what a call costs.
 
     >>> [leaf.content for leaf in leaves('a *b*')]
     [b'a ', b'*', b'b', b'*']
     """
     bytes_given = _arguments.text_of(document, 'document')
-    given = _given(bytes_given, pieces, _bits(options, gfm, math, task, cm_lengths, cm_shortcut, html_references, commonmark), definitions, footnotes)
+    given = _given(bytes_given, pieces, _bits(options, rules, gfm, math, task), definitions, footnotes)
     status, raw = _library.leaves(given)
     if status:
         raise _raised(status)
     return Leaves(raw, _characters(document, bytes_given), bytes_given)
 
 
-def texts(document: Text, contents: Iterable[Content], gfm: bool = False, math: bool = False, *, cm_lengths: bool = False, cm_shortcut: bool = False,
-          html_references: bool = False,
-          commonmark: bool = False, options: Optional[int] = None, definitions: Iterable[Text] = (),
-          footnotes: Iterable[Text] = ()) -> Texts:
+def texts(document: Text, contents: Contents, gfm: bool = False, math: bool = False, *, rules: Rules = 'commonmark', options: Optional[int] = None,
+          definitions: Iterable[Text] = (), footnotes: Iterable[Text] = ()) -> Texts:
     """The events of many contents of a document as texts, of each by itself. The document is prepared once, and each content costs what it costs by
     itself, wherever it stands. What is asked for is said as of `text`, but for what begins a list item: that each content says. Where an error is about a
     content or a definition, its field `at` has the number of that."""
-    bits = _bits(options, gfm, math, False, cm_lengths, cm_shortcut, html_references, commonmark)
+    bits = _bits(options, rules, gfm, math)
     return Texts(*_texts('markdown_inline_texts', _library.EVENT_SIZE, document, contents, bits, definitions, footnotes))
 
 
-def short_texts(document: Text, contents: Iterable[Content], gfm: bool = False, math: bool = False, *, cm_lengths: bool = False,
-                cm_shortcut: bool = False, html_references: bool = False, commonmark: bool = False, options: Optional[int] = None,
+def short_texts(document: Text, contents: Contents, gfm: bool = False, math: bool = False, *, rules: Rules = 'commonmark', options: Optional[int] = None,
                 definitions: Iterable[Text] = (), footnotes: Iterable[Text] = ()) -> ShortTexts:
     """The same events without their lines and columns, with the numbers of the definitions that links, images and footnote calls refer to. The rest is as of
     `texts`.
@@ -217,11 +213,11 @@ def short_texts(document: Text, contents: Iterable[Content], gfm: bool = False, 
     >>> [event.definition for event in events if event.kind == Kind.Enter and event.name == Name.Link]
     [None, 1]
     """
-    bits = _bits(options, gfm, math, False, cm_lengths, cm_shortcut, html_references, commonmark)
+    bits = _bits(options, rules, gfm, math)
     return ShortTexts(*_texts('markdown_inline_short_texts', _library.SHORT_SIZE, document, contents, bits, definitions, footnotes))
 
 
-def _texts(function: str, size: int, document: Text, contents: Iterable[Content], bits: int, definitions: Iterable[Text], footnotes: Iterable[Text]):
+def _texts(function: str, size: int, document: Text, contents: Contents, bits: int, definitions: Iterable[Text], footnotes: Iterable[Text]):
     """The bytes of events of this size, where those of each content end, and what counts characters."""
     bytes_given = _arguments.text_of(document, 'document')
     pieces, listed, count = _arguments.contents_of(contents)
@@ -233,10 +229,9 @@ def _texts(function: str, size: int, document: Text, contents: Iterable[Content]
     return raw, ends, _characters(document, bytes_given)
 
 
-def html(document: Text, pieces: Pieces = None, gfm: bool = False, math: bool = False, *, task: bool = False, cm_lengths: bool = False,
-         cm_shortcut: bool = False, html_references: bool = False, commonmark: bool = False, options: Optional[int] = None,
-         definitions: Optional[Mapping[Text, Target]] = None,
-         footnotes: Iterable[Text] = (), raw_html: bool = False, any_link: bool = False, reference_limit: Optional[int] = None) -> str:
+def html(document: Text, pieces: Pieces = None, gfm: bool = False, math: bool = False, *, task: bool = False, rules: Rules = 'commonmark',
+         options: Optional[int] = None, definitions: Targets = None, footnotes: Iterable[Text] = (), raw_html: bool = False, any_link: bool = False,
+         reference_limit: Optional[int] = None) -> str:
     """The HTML of a text. `definitions` has for each label, as it is written, its destination, or the destination and a title, with escapes and
     character references resolved. `raw_html` writes raw HTML as it stands and not as text; `any_link` lets links lead wherever they say and not to
     listed schemes alone. `reference_limit` is that of `htmls`. The rest is said as of `text`, and so is what a call costs: for many contents there is
@@ -248,8 +243,7 @@ def html(document: Text, pieces: Pieces = None, gfm: bool = False, math: bool = 
     bytes_given = _arguments.text_of(document, 'document')
     defined, targets, written = _arguments.targets_of(definitions)
     given = _library.Given(
-        bytes_given, _arguments.pieces_of(pieces, len(bytes_given)),
-        _bits(options, gfm, math, task, cm_lengths, cm_shortcut, html_references, commonmark), defined,
+        bytes_given, _arguments.pieces_of(pieces, len(bytes_given)), _bits(options, rules, gfm, math, task), defined,
         _arguments.labels_of(footnotes, 'footnotes'), written)
     asked = _arguments.flag_of(raw_html, 'raw_html') | _arguments.flag_of(any_link, 'any_link') << 1
     status, found = _library.html(given, targets, len(defined), asked, _limit(reference_limit, bytes_given))
@@ -258,10 +252,8 @@ def html(document: Text, pieces: Pieces = None, gfm: bool = False, math: bool = 
     return found.decode()
 
 
-def htmls(document: Text, contents: Iterable[Content], gfm: bool = False, math: bool = False, *, cm_lengths: bool = False, cm_shortcut: bool = False,
-          html_references: bool = False,
-          commonmark: bool = False, options: Optional[int] = None, definitions: Optional[Mapping[Text, Target]] = None,
-          footnotes: Iterable[Text] = (), raw_html: bool = False, any_link: bool = False, reference_limit: Optional[int] = None) -> List[str]:
+def htmls(document: Text, contents: Contents, gfm: bool = False, math: bool = False, *, rules: Rules = 'commonmark', options: Optional[int] = None,
+          definitions: Targets = None, footnotes: Iterable[Text] = (), raw_html: bool = False, any_link: bool = False, reference_limit: Optional[int] = None) -> List[str]:
     """The HTML of many contents of a document as texts. The document is prepared once, and each content costs what it costs by itself, wherever it stands.
     Footnotes are numbered through all contents. What is asked for is said as of `html`, but for what begins a list item: that each content says.
 
@@ -275,9 +267,7 @@ def htmls(document: Text, contents: Iterable[Content], gfm: bool = False, math: 
     bytes_given = _arguments.text_of(document, 'document')
     pieces, listed, count = _arguments.contents_of(contents)
     defined, targets, written = _arguments.targets_of(definitions)
-    given = _library.Given(
-        bytes_given, pieces, _bits(options, gfm, math, False, cm_lengths, cm_shortcut, html_references, commonmark), defined,
-        _arguments.labels_of(footnotes, 'footnotes'), written)
+    given = _library.Given(bytes_given, pieces, _bits(options, rules, gfm, math), defined, _arguments.labels_of(footnotes, 'footnotes'), written)
     asked = _arguments.flag_of(raw_html, 'raw_html') | _arguments.flag_of(any_link, 'any_link') << 1
     limit = _limit(reference_limit, bytes_given)
     status, found, ends, blamed = _library.htmls(given, targets, len(defined), listed, count, asked, limit)
@@ -286,19 +276,17 @@ def htmls(document: Text, contents: Iterable[Content], gfm: bool = False, math: 
     return [found[start:end].decode() for start, end in zip(chain((0,), ends), ends)]
 
 
-def strings(document: Text, strings: Iterable[Iterable[Sequence[int]]], *, options: Optional[int] = None) -> List[str]:
+def strings(document: Text, strings: Iterable[Iterable[Sequence[int]]], *, rules: Rules = 'commonmark', options: Optional[int] = None) -> List[str]:
     """The texts of strings, such as titles and destinations, with escapes and character references resolved. A string is a list of parts, each a range
     of bytes of the document as (start, end), which are one text. Where it stands in a paragraph, they are what `Data` and `LineEnding` cover inside it.
-    References are decoded as of `reference`, by the options with which the document is read.
+    References are decoded as of `reference`, by the rules or the options with which the document is read.
 
-    >>> strings('[a](b\\\\*c "d &amp; e")', [[(4, 8)], [(10, 19)]])
-    ['b*c', 'd & e']
-    >>> strings('&check;', [[(0, 7)]], options=OPTIONS['html_references'])
-    ['✓']
+    >>> strings('[a](b\\\\*c "d &check; e")', [[(4, 8)], [(10, 21)]])
+    ['b*c', 'd ✓ e']
     """
     bytes_given = _arguments.text_of(document, 'document')
     parts, listed, count = _arguments.strings_of(strings)
-    status, found, ends, at = _library.strings(_decoding(options), bytes_given, parts, listed, count)
+    status, found, ends, at = _library.strings(_bits(options, rules), bytes_given, parts, listed, count)
     if status:
         raise _raised(status, at)
     return [found[start:end].decode() for start, end in zip([0, *ends], ends)]
@@ -309,18 +297,14 @@ def identifier(label: Text) -> str:
     return _decoded('markdown_inline_identifier', _arguments.text_of(label, 'label'))
 
 
-def reference(reference: Text, *, options: Optional[int] = None) -> str:
-    """The text that a character reference stands for. It is the whole reference, with its `&` and its `;`. The bits of `options` are those of `text`: by the
-    bit of `html_references` each name of HTML is known, and by that of `commonmark` a number stands for a control or a noncharacter too. None is no option.
+def reference(reference: Text, *, rules: Rules = 'commonmark', options: Optional[int] = None) -> str:
+    """The text that a character reference stands for. It is the whole reference, with its `&` and its `;`. By CommonMark each name of HTML is known, and a
+    number stands for a control or a noncharacter too. Of `options` the bit of `html_references` says the former, and that of `standard_rules` both.
 
-    >>> reference('&amp;'), reference('&#x41;'), reference('&check;', options=OPTIONS['html_references'])
+    >>> reference('&amp;'), reference('&#x41;'), reference('&check;')
     ('&', 'A', '✓')
     """
-    return _decoded('markdown_inline_reference', _arguments.text_of(reference, 'reference'), _decoding(options))
-
-
-def _decoding(options: Optional[int]) -> int:
-    return _tables.CRATE if options is None else _arguments.bits_of(options)
+    return _decoded('markdown_inline_reference', _arguments.text_of(reference, 'reference'), _bits(options, rules))
 
 
 def _decoded(function: str, given: bytes, *before: int) -> str:

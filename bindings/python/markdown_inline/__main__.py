@@ -3,17 +3,18 @@ its tree, its HTML or its links."""
 import os
 import sys
 
-from . import Error, Events, OPTIONS, TooLong, html, identifier, string, text
+from . import COMMONMARK, CRATE, GFM, MATH, Error, Events, OPTIONS, TooLong, html, identifier, string, text
 from . import _program, _tables
 
 USAGE = '''usage: python -m markdown_inline text|string [WORD]..        the events
        python -m markdown_inline --tree [text|string] [WORD]..  what stands in what, with its text
        python -m markdown_inline --html [text] [WORD]..         the HTML
        python -m markdown_inline --links [text] [WORD]..        where links lead
-words: gfm math task cm-lengths cm-shortcut html-references commonmark note=TEXT; of events and the tree label=TEXT; of HTML and links define=LABEL
+words: gfm math task crate cm-lengths cm-shortcut html-references commonmark note=TEXT; of events and the tree label=TEXT; of HTML and links define=LABEL
        to=DESTINATION [title=TEXT]; of HTML raw any-link'''
+# The words of mdinline. By `crate` the program reads as mdinline does, by the rules of the crate where the last four say nothing else.
 SWITCHES = {
-    'gfm': _tables.GFM, 'math': _tables.MATH, 'task': OPTIONS['first_of_item'], 'cm-lengths': OPTIONS['attention_first_lengths'],
+    'gfm': GFM, 'math': MATH, 'task': OPTIONS['first_of_item'], 'crate': 0, 'cm-lengths': OPTIONS['attention_first_lengths'],
     'cm-shortcut': OPTIONS['label_shortcut_before_bracket'], 'html-references': OPTIONS['html_references'], 'commonmark': OPTIONS['standard_rules'],
 }
 # Statuses: a word is not known, memory was refused, reading or writing failed.
@@ -32,7 +33,7 @@ class Asked:
     """What the words ask for."""
 
     def __init__(self, words):
-        self.how, self.reads, self.options, self.html = '', '', _tables.CRATE, {'raw_html': False, 'any_link': False}
+        self.how, self.reads, self.options, self.html = '', '', CRATE if 'crate' in words else COMMONMARK, {'raw_html': False, 'any_link': False}
         self.labels, self.notes, self.targets = [], [], []
         words = list(words)
         if words and words[0] in ('--tree', '--html', '--links'):

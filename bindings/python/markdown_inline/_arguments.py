@@ -44,6 +44,15 @@ def flag_of(given, what):
     return bool(given)
 
 
+def one_of(given, known, what):
+    """What one of the known words stands for."""
+    if not isinstance(given, str):
+        raise TypeError('%s is a str, and not a %s' % (what, _kind(given)))
+    if given not in known:
+        raise ValueError('%s is %s, and not %r' % (what, ' or '.join(map(repr, known)), given))
+    return known[given]
+
+
 def bits_of(given):
     """The bits of options, which the library tests for those that it does not know."""
     if isinstance(given, bool):
