@@ -2,7 +2,10 @@
 import os
 import subprocess
 import sys
+import time
 import unittest
+
+from markdown_inline import __version__, _program, links
 
 PROGRAM = [sys.executable, '-m', 'markdown_inline']
 
@@ -43,10 +46,10 @@ class Program(unittest.TestCase):
             self.assertEqual(run(*words, given=b'a')[:2], (2, ''), words)
 
     def test_tree(self):
-        self.assertEqual(run('--tree', given='a *é*'.encode()), (0, 'Data 1:1-1:3 "a "\nEmphasis 1:3-1:7 "*é*"\n  EmphasisSequence 1:3-1:4 "*"\n'
-                         '  EmphasisText 1:4-1:6 "é"\n    Data 1:4-1:6 "é"\n  EmphasisSequence 1:6-1:7 "*"\n', ''))
+        self.assertEqual(run('--tree', given='a *é*'.encode()), (0, 'Data 1:1-1:3 "a "\nEmphasis 1:3-1:7\n  EmphasisSequence 1:3-1:4 "*"\n'
+                         '  EmphasisText 1:4-1:6\n    Data 1:4-1:6 "é"\n  EmphasisSequence 1:6-1:7 "*"\n', ''))
         self.assertEqual(run('--tree', 'string', given=b'*a*\n"'), (0, 'Data 1:1-1:4 "*a*"\nLineEnding 1:4-2:1 "\\n"\nData 2:1-2:2 "\\""\n', ''))
-        self.assertIn('GfmFootnoteCall 1:1-1:5 "[^n]"', run('--tree', 'text', 'gfm', 'note=N', given=b'[^n]')[1])
+        self.assertIn('GfmFootnoteCall 1:1-1:5\n', run('--tree', 'text', 'gfm', 'note=N', given=b'[^n]')[1])
 
     def test_html(self):
         given = b'<b> [a](javascript:c) *[B  d]* ~e~\n'
@@ -65,6 +68,27 @@ class Program(unittest.TestCase):
             ['2', '27', 'autolink', 'mailto:h@i.j', ''], ['3', '1', 'autolink', 'kk:l', ''], ['3', '8', 'literal', 'http://www.m.n', ''],
             ['3', '16', 'literal', 'mailto:o@p.q', ''], ['3', '30', 'link', '/u', 't']])
         self.assertEqual(run('--links', given=b'a'), (0, '', ''))
+        self.assertEqual(run('--links', given=b'[a](b&#27;&#x9b;c "d\te")'), (0, '1\t1\tlink\tb\\x1b\\x9bc\td e\n', ''))
+        # A destination that a definition of a label over two pieces gives, and of two definitions the first.
+        self.assertEqual(run('--links', 'define=a', 'to=/b', 'define=a', 'to=/c', given=b'[a]')[1], '1\t1\tlink\t/b\t\n')
+
+    def test_what_is_long(self):
+        """What `--links` and `--tree` take and write grows with what they read, and not with its square."""
+        def seconds(count):
+            begun = time.process_time()
+            self.assertEqual(len(list(_program.links(links('[a](b)' * count)))), count)
+            return time.process_time() - begun
+
+        self.assertLess(min(seconds(8000) for _ in range(3)), 24 * min(seconds(1000) for _ in range(5)))
+        for count in (1000, 8000):
+            self.assertLess(len(run('--tree', given=b'*a **a ' * count + b'b' + b'***' * count)[1]), 3000 * count)
+
+    def test_help(self):
+        status, said, _ = run('--help')
+        self.assertEqual((status, said), (0, run('nothing')[2]))
+        self.assertEqual(run('--version'), (0, 'markdown_inline %s\n' % __version__, ''))
+        for words in (('--help', 'text'), ('text', '--help'), ('--version', '--version')):
+            self.assertEqual(run(*words)[0], 2)
 
     def test_statuses_of_the_input(self):
         for given, status, words in ((b'\xff', 3, 'document is not UTF-8'), (b'a\n\nb', 4, 'blank line in text, or line ending at its end')):

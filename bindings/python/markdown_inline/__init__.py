@@ -13,15 +13,20 @@ from itertools import chain
 from types import MappingProxyType
 from typing import Any, Iterable, List, Literal, Mapping, NamedTuple, Optional, Sequence, Tuple, Union
 
-from . import _arguments, _library, _tables
+from . import _arguments, _library, _links, _tables
 from ._events import Characters, Event, Events, Leaf, Leaves, Link, ShortEvent, ShortEvents, ShortTexts, Texts
+from ._links import Address
 from ._names import Kind, Name
+from ._nodes import Node, Tree, tree_of
 
 __all__ = [
-    'BlankLine', 'COMMONMARK', 'CRATE', 'Content', 'DefinitionError', 'Error', 'Event', 'Events', 'GFM', 'Kind', 'Leaf', 'Leaves', 'Link', 'MATH', 'Name',
-    'NoContent', 'NoMemory', 'NoReference', 'NoString', 'NotUtf8', 'OPTIONS', 'Piece', 'References', 'ShortEvent', 'ShortEvents', 'ShortTexts', 'Texts', 'TooLong',
-    'UnknownOption', 'html', 'htmls', 'identifier', 'is_content', 'is_text', 'leaves', 'reference', 'short_texts', 'string', 'strings', 'text', 'texts',
+    'Address', 'BlankLine', 'COMMONMARK', 'CRATE', 'Content', 'DefinitionError', 'Error', 'Event', 'Events', 'GFM', 'Kind', 'Leaf', 'Leaves', 'Link',
+    'MATH', 'Name', 'NoContent', 'NoMemory', 'NoReference', 'NoString', 'Node', 'NotUtf8', 'OPTIONS', 'Piece', 'References', 'ShortEvent',
+    'ShortEvents', 'ShortTexts', 'Texts', 'TooLong', 'Tree', 'UnknownOption', 'html', 'htmls', 'identifier', 'is_content', 'is_text', 'leaves',
+    'links', 'reference', 'short_texts', 'string', 'strings', 'text', 'texts', 'tree',
 ]
+
+__version__ = '1.0.0'
 
 #: Each option by its name, as a bit of `options`. It cannot be changed.
 OPTIONS: Mapping[str, int] = MappingProxyType(_tables.OPTIONS)
@@ -109,6 +114,7 @@ Target = Union[Text, Tuple[Text, Optional[Text]]]
 # The keys are texts. A mapping is invariant in its keys, so that a dict of `str` would not be one whose keys are any text.
 Targets = Optional[Mapping[Any, Target]]
 Rules = Literal['commonmark', 'crate']
+Columns = Literal['bytes', 'characters', 'utf-16']
 
 
 def _raised(status: int, blamed: Optional[int] = None) -> Error:
@@ -170,6 +176,17 @@ def text(document: Text, pieces: Pieces = None, gfm: bool = False, math: bool = 
     return Events(raw, _characters(document, bytes_given))
 
 
+def tree(document: Text, pieces: Pieces = None, gfm: bool = False, math: bool = False, *, task: bool = False, rules: Rules = 'commonmark',
+         options: Optional[int] = None, definitions: Iterable[Text] = (), footnotes: Iterable[Text] = ()) -> Tree:
+    """The tree of a text, whose nodes are made when they are looked at. What is asked for is said as of `text`, and so is what a call costs.
+
+    >>> [(node.enter.column, node.text) for node in tree('a *b* [*c*](d)').find(Name.Emphasis, Name.Link)]
+    [(3, '*b*'), (7, '[*c*](d)'), (8, '*c*')]
+    """
+    events = text(document, pieces, gfm, math, task=task, rules=rules, options=options, definitions=definitions, footnotes=footnotes)
+    return tree_of(events, _arguments.text_of(document, 'document'))
+
+
 def string(document: Text, pieces: Pieces = None, *, rules: Rules = 'commonmark', options: Optional[int] = None) -> Events:
     """The events of a string: of escapes, character references and data. A call tests the whole document, and passes all that stands before the pieces."""
     bytes_given = _arguments.text_of(document, 'document')
@@ -227,6 +244,34 @@ def _texts(function: str, size: int, document: Text, contents: Contents, bits: i
     if status:
         raise _raised(status, blamed)
     return raw, ends, _characters(document, bytes_given)
+
+
+def links(document: Text, contents: Optional[Contents] = None, gfm: bool = False, math: bool = False, *, rules: Rules = 'commonmark',
+          options: Optional[int] = None, definitions: Targets = None, footnotes: Iterable[Text] = (), columns: Columns = 'bytes') -> List[Address]:
+    """The links, images, autolinks and literals of many contents of a document, in the order in which they begin, and where each leads; of a document that is
+    one text, where there are no contents. `definitions` is as of `html`. A column counts what `columns` says, and a tab as one. The rest is said as of `texts`.
+
+    >>> [(it.line, it.column, it.destination, it.title) for it in links('*é* [a](b "c")\\n<de:f> [g]', definitions={'G': '/h'}, columns='characters')]
+    [(1, 5, 'b', 'c'), (2, 1, 'de:f', None), (2, 8, '/h', None)]
+    """
+    given, bits = _arguments.text_of(document, 'document'), _bits(options, rules, gfm, math)
+    _arguments.one_of(columns, _links.COLUMNS, 'columns')
+    labels, _, _ = _arguments.targets_of(definitions)
+    listed = [Content([(0, len(given))], bool(bits & OPTIONS['first_of_item']))] if contents is None else contents
+    found, parts = _links.found_in(short_texts(given, listed, options=bits & ~OPTIONS['first_of_item'], definitions=labels, footnotes=footnotes))
+    return _links.addresses(given, found, strings(given, parts, options=bits), _targets(definitions or {}), columns)
+
+
+def _targets(definitions: Mapping[Any, Target]) -> List[Tuple[str, Optional[str]]]:
+    """Where definitions lead, as texts."""
+    found: List[Tuple[str, Optional[str]]] = []
+    for at, target in enumerate(definitions.values()):
+        destination, title = _arguments.target_of(target)
+        try:
+            found.append((destination.decode(), None if title is None else title.decode()))
+        except UnicodeDecodeError:
+            raise _raised(DefinitionError.status, at) from None
+    return found
 
 
 def html(document: Text, pieces: Pieces = None, gfm: bool = False, math: bool = False, *, task: bool = False, rules: Rules = 'commonmark',

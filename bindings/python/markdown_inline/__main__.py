@@ -3,13 +3,14 @@ its tree, its HTML or its links."""
 import os
 import sys
 
-from . import COMMONMARK, CRATE, GFM, MATH, Error, Events, OPTIONS, TooLong, html, identifier, string, text
+from . import COMMONMARK, CRATE, GFM, MATH, Error, Events, OPTIONS, TooLong, __version__, html, links, string, text
 from . import _program, _tables
 
 USAGE = '''usage: python -m markdown_inline text|string [WORD]..        the events
        python -m markdown_inline --tree [text|string] [WORD]..  what stands in what, with its text
        python -m markdown_inline --html [text] [WORD]..         the HTML
        python -m markdown_inline --links [text] [WORD]..        where links lead
+       python -m markdown_inline --help|--version
 words: gfm math task crate cm-lengths cm-shortcut html-references commonmark note=TEXT; of events and the tree label=TEXT; of HTML and links define=LABEL
        to=DESTINATION [title=TEXT]; of HTML raw any-link'''
 # The words of mdinline. By `crate` the program reads as mdinline does, by the rules of the crate where the last four say nothing else.
@@ -76,20 +77,19 @@ class Asked:
     def events(self, given) -> Events:
         if self.reads == 'string':
             return string(given, options=self.options)
-        return text(given, options=self.options, definitions=self.labels + [it[0] for it in self.targets], footnotes=self.notes)
+        return text(given, options=self.options, definitions=self.labels, footnotes=self.notes)
 
     def output(self, given):
         """What is printed of a document."""
+        # Of two definitions of a label the library takes the first, but of two that are written alike a dict has the last.
+        targets = {label: (destination, title) for label, destination, title in self.targets[::-1]}
+        asked = {'options': self.options, 'footnotes': self.notes, 'definitions': {it[0]: targets[it[0]] for it in self.targets}}
         if self.how == '--html':
-            # Of two definitions of a label the library takes the first, but of two that are written alike a dict has the last.
-            defined = {label: (destination, title) for label, destination, title in self.targets[::-1]}
-            defined = {label: defined[label] for label, _, _ in self.targets}
-            return html(given, options=self.options, footnotes=self.notes, definitions=defined, **self.html) + '\n'
+            return html(given, **asked, **self.html) + '\n'
         if self.how == '--links':
-            targets = {identifier(label): (to.decode(), (title or b'').decode()) for label, to, title in self.targets[::-1]}
-            found = _program.links(self.events(given), given, targets, self.options)
+            found = _program.links(links(given, **asked))
         else:
-            found = _program.tree(self.events(given), given) if self.how else _program.lines(self.events(given))
+            found = _program.tree(self.events(given), given) if self.how else map(str, self.events(given))
         return ''.join(it + '\n' for it in found)
 
 
@@ -116,6 +116,8 @@ def write_all(words):
 
 
 def run(words):
+    if words in (['--help'], ['--version']):
+        return write_all((USAGE if words == ['--help'] else 'markdown_inline ' + __version__) + '\n')
     asked = Asked(words)
     write_all(asked.output(read_all()))
 
@@ -142,5 +144,10 @@ def main(words):
     return status
 
 
+def script():
+    """The program as a command of its own."""
+    return main(sys.argv[1:])
+
+
 if __name__ == '__main__':
-    sys.exit(main(sys.argv[1:]))
+    sys.exit(script())

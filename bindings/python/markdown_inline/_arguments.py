@@ -10,8 +10,8 @@ from itertools import accumulate
 _TARGET = struct.Struct('=4QI4x')
 _CONTENT = struct.Struct('=2QI4x')
 _NO_NUMBERS = array('Q')
-_BUFFERS = (bytes, bytearray, memoryview)
-_NO_PIECES = (str, range) + _BUFFERS
+BUFFERS = (bytes, bytearray, memoryview)
+_NO_PIECES = (str, range) + BUFFERS
 
 
 def _kind(given):
@@ -81,7 +81,7 @@ def limit_of(given):
 
 def _several(given, what, one):
     """An iterator of several things. One of them, handed over by itself, is refused."""
-    if isinstance(given, (str,) + _BUFFERS):
+    if isinstance(given, (str,) + BUFFERS):
         raise TypeError('%s is a list, and not a %s; write [%s] for one' % (what, _kind(given), one))
     try:
         return iter(given)
@@ -188,7 +188,7 @@ def ranges_of(labels, start):
     return numbers, ends[-1]
 
 
-def _target(given):
+def target_of(given):
     """The bytes of a destination, and of its title, which may be None."""
     if isinstance(given, (tuple, list)):
         if len(given) != 2:
@@ -207,7 +207,7 @@ def targets_of(definitions):
     labels, targets, texts, at = [], [], [], 0
     for label, target in definitions.items():
         labels.append(text_of(label, 'a label of definitions'))
-        destination, title = _target(target)
+        destination, title = target_of(target)
         behind = at + len(destination)
         end = behind + len(title or b'')
         targets.append(_TARGET.pack(at, behind, behind, end, title is not None))

@@ -2,9 +2,8 @@
 import operator
 import struct
 from array import array
-from collections.abc import Sequence
 from itertools import accumulate, islice
-from typing import Iterator, List, NamedTuple, Optional, Tuple
+from typing import Any, Iterator, List, NamedTuple, Optional, Sequence, Tuple, Type, TypeVar, Union, overload
 
 from ._names import Kind, Name
 
@@ -20,6 +19,11 @@ _CONTENTS = (None, 'String', 'Text')
 _CONTINUED = bytes(range(0x80, 0xc0))
 _STRIDE = 1024
 _new = tuple.__new__
+# The bytes of rows, as a call wrote them.
+_Raw = Union[bytes, memoryview]
+_Row = TypeVar('_Row')
+_Rows_ = TypeVar('_Rows_', bound='_Rows[Any]')
+_Contents_ = TypeVar('_Contents_', bound='_Contents[Any]')
 
 
 class Link(NamedTuple):
@@ -83,21 +87,22 @@ class Leaf(NamedTuple):
 
 
 class Characters:
-    """Counts the characters of a document before its bytes. It goes on from the last byte that it was asked for, where that is near, and else from
-    the last mark: how many characters come before every so many bytes is counted once, at the first such need. Each step is one assignment, so
-    several threads may ask."""
-    __slots__ = ('_document', '_is_ascii', '_last', '_marks')
+    """Counts the characters of a document before its bytes, or those bytes of it that are not left out. It goes on from the last byte that it was asked for,
+    where that is near, and else from the last mark: how many come before every so many bytes is counted once, at the first such need. Each step is one
+    assignment, so several threads may ask."""
+    __slots__ = ('_document', '_left_out', '_is_ascii', '_last', '_marks')
 
-    def __init__(self, document: bytes) -> None:
-        self._document, self._is_ascii, self._last, self._marks = document, document.isascii(), (0, 0), None
+    def __init__(self, document: bytes, left_out: bytes = _CONTINUED) -> None:
+        self._document, self._left_out, self._is_ascii, self._last = document, left_out, document.isascii(), (0, 0)
+        self._marks: Optional[List[int]] = None
 
-    def __reduce__(self):
-        return Characters, (self._document,)
+    def __reduce__(self) -> Tuple[Any, ...]:
+        return Characters, (self._document, self._left_out)
 
-    def _marked(self) -> list:
+    def _marked(self) -> List[int]:
         if self._marks is None:
             document = self._document
-            counts = (len(document[at:at + _STRIDE].translate(None, _CONTINUED)) for at in range(0, len(document), _STRIDE))
+            counts = (len(document[at:at + _STRIDE].translate(None, self._left_out)) for at in range(0, len(document), _STRIDE))
             self._marks = list(accumulate(counts, initial=0))
         return self._marks
 
@@ -107,27 +112,33 @@ class Characters:
         start, count = self._last
         if not start <= index <= start + _STRIDE:
             start, count = index - index % _STRIDE, self._marked()[index // _STRIDE]
-        count += len(self._document[start:index].translate(None, _CONTINUED))
+        count += len(self._document[start:index].translate(None, self._left_out))
         self._last = index, count
         return count
 
 
-class _Rows(Sequence):
+class _Rows(Sequence[_Row]):
     """Rows of the library's bytes, each of which is made into what it says when it is looked at."""
     __slots__ = ('_raw', '_characters', '_document')
     _ROW = EVENT
 
-    def __init__(self, raw: bytes, characters: Optional[Characters], document: bytes = b'') -> None:
+    def __init__(self, raw: _Raw, characters: Optional[Characters], document: bytes = b'') -> None:
         """`characters` counts those of the document, if it was given as a `str`. Leaves need its bytes too."""
         self._raw, self._characters, self._document = raw, characters, document
 
-    def _made(self, row):
+    def _made(self, row: Tuple[Any, ...]) -> _Row:
         raise NotImplementedError
 
     def __len__(self) -> int:
         return len(self._raw) // self._ROW.size
 
-    def __getitem__(self, at):
+    @overload
+    def __getitem__(self, at: int) -> _Row: ...
+
+    @overload
+    def __getitem__(self: _Rows_, at: slice) -> _Rows_: ...
+
+    def __getitem__(self, at: Any) -> Any:
         size = self._ROW.size
         if isinstance(at, slice):
             raw = b''.join([self._raw[it * size:(it + 1) * size] for it in range(*at.indices(len(self)))])
@@ -139,7 +150,7 @@ class _Rows(Sequence):
             raise IndexError('there are %d, and none has this number' % len(self))
         return self._made(self._ROW.unpack_from(self._raw, number * size))
 
-    def __iter__(self):
+    def __iter__(self) -> Iterator[_Row]:
         return map(self._made, self._ROW.iter_unpack(self._raw))
 
     def __eq__(self, other: object) -> bool:
@@ -149,16 +160,16 @@ class _Rows(Sequence):
             return NotImplemented
         return len(self) == len(other) and all(map(operator.eq, self, other))
 
-    __hash__ = None
+    __hash__ = None  # type: ignore[assignment]
 
     def __repr__(self) -> str:
         return repr(list(self))
 
-    def __reduce__(self):
-        return type(self), (self._raw, self._characters, self._document)
+    def __reduce__(self) -> Tuple[Any, ...]:
+        return type(self), (bytes(self._raw), self._characters, self._document)
 
 
-class Events(_Rows):
+class Events(_Rows[Event]):
     """The events of a text or of a string: a sequence of `Event`s, each of which is made when it is looked at. It is equal to a list of the same
     events, and cannot be changed. Numbers in an event's link count in the whole answer, and not in a slice of it.
 
@@ -168,7 +179,7 @@ class Events(_Rows):
     """
     __slots__ = ()
 
-    def _made(self, row) -> Event:
+    def _made(self, row: Tuple[Any, ...]) -> Event:
         kind, name, link, line, column, index, vs, previous, after = row
         chain = None
         if link:
@@ -208,13 +219,13 @@ class Events(_Rows):
         return iter(spans)
 
 
-class ShortEvents(_Rows):
+class ShortEvents(_Rows[ShortEvent]):
     """The short events of a text: a sequence of `ShortEvent`s, each of which is made when it is looked at. It is equal to a list of the same events, and cannot
     be changed."""
     __slots__ = ()
     _ROW = SHORT
 
-    def _made(self, row) -> ShortEvent:
+    def _made(self, row: Tuple[Any, ...]) -> ShortEvent:
         kind, name, link, vs, definition, index = row
         characters = self._characters
         place = None if characters is None else characters.before(index)
@@ -227,13 +238,13 @@ class ShortEvents(_Rows):
         return _FLAT_SHORT.iter_unpack(self._raw)
 
 
-class Leaves(_Rows):
+class Leaves(_Rows[Leaf]):
     """The leaves of a text: a sequence of `Leaf`s, each of which is made when it is looked at. It is equal to a list of the same leaves, and cannot
     be changed."""
     __slots__ = ()
     _ROW = LEAF
 
-    def _made(self, row) -> Leaf:
+    def _made(self, row: Tuple[Any, ...]) -> Leaf:
         name, line, column, index, vs, end_line, end_column, end, end_vs, before, length, after = row
         first, characters = index + (vs > 0), self._characters
         places = (None, None) if characters is None else (characters.before(index), characters.before(end))
@@ -241,35 +252,42 @@ class Leaves(_Rows):
         return _new(Leaf, (_NAMES[name], line, column, index, vs, end_line, end_column, end, end_vs, before, content, after, *places))
 
 
-def _columns(raw: bytes, size: int, *columns: Tuple[int, str]):
+def _columns(raw: _Raw, size: int, *columns: Tuple[int, str]) -> Iterator[Tuple[int, ...]]:
     """Plain numbers of rows of this size. Each column is told by its place in a row, which its size divides, and by its format. For many rows this is faster than
     to unpack them."""
     if not raw:
         return iter(())
-    views = []
+    views: List[Sequence[int]] = []
     for place, form in columns:
         width = struct.calcsize(form)
         views.append(raw[place::size] if width == 1 else memoryview(raw).cast(form)[place // width::size // width])
     return zip(*views)
 
 
-class _Contents(Sequence):
+class _Contents(Sequence[_Row]):
     """What is found in many contents: a sequence with the rows of each, which are made when they are looked at."""
     __slots__ = ('_raw', '_ends', '_characters')
-    _ROWS, _COLUMNS = _Rows, ()
+    _ROWS: Type[_Rows[Any]] = _Rows
+    _COLUMNS: Tuple[Tuple[int, str], ...] = ()
 
-    def __init__(self, raw: bytes, ends: array, characters: Optional[Characters]) -> None:
+    def __init__(self, raw: _Raw, ends: 'array[int]', characters: Optional[Characters]) -> None:
         """`ends` has for each content how many rows end with it."""
         self._raw, self._ends, self._characters = raw, ends, characters
 
     def __len__(self) -> int:
         return len(self._ends)
 
-    def _part(self, number: int) -> bytes:
+    def _part(self, number: int) -> _Raw:
         size = self._ROWS._ROW.size
         return self._raw[(self._ends[number - 1] if number else 0) * size:self._ends[number] * size]
 
-    def __getitem__(self, at):
+    @overload
+    def __getitem__(self, at: int) -> _Row: ...
+
+    @overload
+    def __getitem__(self: _Contents_, at: slice) -> _Contents_: ...
+
+    def __getitem__(self, at: Any) -> Any:
         if isinstance(at, slice):
             parts, size = [self._part(it) for it in range(*at.indices(len(self)))], self._ROWS._ROW.size
             return type(self)(b''.join(parts), array('Q', accumulate(len(it) // size for it in parts)), self._characters)
@@ -280,7 +298,7 @@ class _Contents(Sequence):
             raise IndexError('there are %d contents, and none has this number' % len(self))
         return self._ROWS(self._part(number), self._characters)
 
-    def __iter__(self):
+    def __iter__(self) -> Iterator[Any]:
         rows, raw, characters, size, start = self._ROWS, self._raw, self._characters, self._ROWS._ROW.size, 0
         for end in self._ends:
             yield rows(raw[start * size:end * size], characters)
@@ -308,23 +326,23 @@ class _Contents(Sequence):
             return NotImplemented
         return len(self) == len(other) and all(map(operator.eq, self, other))
 
-    __hash__ = None
+    __hash__ = None  # type: ignore[assignment]
 
     def __repr__(self) -> str:
         return repr(list(self))
 
-    def __reduce__(self):
-        return type(self), (self._raw, self._ends, self._characters)
+    def __reduce__(self) -> Tuple[Any, ...]:
+        return type(self), (bytes(self._raw), self._ends, self._characters)
 
 
-class Texts(_Contents):
+class Texts(_Contents[Events]):
     """The events of many contents: a sequence with the `Events` of each, which are made when they are looked at. It is equal to a list of such
     lists, and cannot be changed."""
     __slots__ = ()
     _ROWS, _COLUMNS = Events, ((0, 'B'), (1, 'B'), (24, 'Q'))
 
 
-class ShortTexts(_Contents):
+class ShortTexts(_Contents[ShortEvents]):
     """The short events of many contents: a sequence with the `ShortEvents` of each, which are made when they are looked at. It is equal to a list of such
     lists, and cannot be changed."""
     __slots__ = ()
