@@ -25,8 +25,8 @@ ROWS = [
     ('é😀\t[a](b)', {'columns': 'characters'}, [('link', 7, 13, 1, 4, 'b', None, None)]),
     ('é😀\t[a](b)', {'columns': 'utf-16'}, [('link', 7, 13, 1, 5, 'b', None, None)]),
     # A label and a title over the lines of a quote.
-    ('> [a\n> b]\n> [c](d "e\n>  f")', {'contents': [([(2, 5), (7, 10), (12, 21), (23, 28)], False)], 'definitions': {'a b': '/g'}}, [
-        ('link', 2, 9, 1, 3, '/g', None, 0), ('link', 12, 28, 3, 3, 'd', 'e\nf', None)]),
+    ('> [a\n> b]\n> [c](d "e\n>  f")', {'contents': [([(2, 5), (7, 10), (12, 21), (23, 27)], False)], 'definitions': {'a b': '/g'}}, [
+        ('link', 2, 9, 1, 3, '/g', None, 0), ('link', 12, 27, 3, 3, 'd', 'e\nf', None)]),
     ('[x] [a](b)', {'options': COMMONMARK | GFM | OPTIONS['first_of_item']}, [('link', 4, 10, 1, 5, 'b', None, None)]),
 ]
 
