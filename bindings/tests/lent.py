@@ -2,9 +2,11 @@
 import ctypes
 import gc
 import mmap
+import pickle
 import signal
 import sys
 import threading
+import tracemalloc
 import unittest
 from concurrent.futures import ThreadPoolExecutor
 from unittest import mock
@@ -192,38 +194,44 @@ class Lent(unittest.TestCase):
         documents, lengths = ['a' + '\\*' * count + 'b' for count in (9, 10, 11)], []
         wanted = [text(it) for it in documents]
 
-        def give_back(lent):
-            lengths.append(len(lent))
+        def lend(size):
+            lengths.append(size)
+            return ctypes.create_string_buffer(size)
 
-        with mock.patch.object(_library, 'KEPT_SIZE', 0), mock.patch.object(_library, '_events_room', lambda *_: 64 * 56), \
-                mock.patch.object(_library, '_give_back', give_back):
+        with mock.patch.object(_library, '_events_room', lambda *_: 64 * 56), mock.patch.object(_library, '_lend', lend):
             self.assertEqual([text(it) for it in documents], wanted)
         self.assertEqual([len(it) for it in wanted], [58, 64, 70])
         self.assertEqual(lengths, [64 * 56, 64 * 56, 64 * 56, 70 * 56])
 
     def test_more_bytes_than_an_int_of_c_counts(self):
-        """The copy is asked for by a length of 64 bits; what stands there is not written, and so takes no memory of its own."""
-        length, asked = 2 ** 32 + 56, []
-
-        class View:
-            def __init__(self, lent):
-                asked.append(len(lent))
-
-            def __getitem__(self, part):
-                asked.append(part)
-                return self
-
-            def tobytes(self):
-                return b'all'
+        """What stands there is not written, and so takes no memory of its own."""
+        length = 2 ** 32 + 56
 
         def call(lent, room, count):
             count._obj.value = room
             return _library.DONE
 
-        with mock.patch.object(_library, '_lend', lambda _: (ctypes.c_char * length).from_buffer(mmap.mmap(-1, length))), \
-                mock.patch.object(_library, 'memoryview', View, create=True):
-            self.assertEqual(_library.filled(call, 56, length), (_library.DONE, b'all'))
-        self.assertEqual(asked, [length, slice(None, length // 56 * 56)])
+        with mock.patch.object(_library, '_lend', lambda _: (ctypes.c_char * length).from_buffer(mmap.mmap(-1, length))):
+            status, found = _library.filled(call, 56, length)
+        self.assertEqual((status, len(found), bytes(found[-3:])), (_library.DONE, length // 56 * 56, b'\0\0\0'))
+        self.assertTrue(found.readonly)
+
+    def test_large_answers_are_kept_once(self):
+        document = '*a* ' * 50000 + 'b'
+        several = [Content([(at, at + 3999)]) for at in range(0, 200000, 4000)]
+        for call in (lambda: text(document), lambda: leaves(document), lambda: texts(document, [Content([(0, len(document))])]), lambda: texts(document, several),
+                     lambda: short_texts(document, several)):
+            tracemalloc.start()
+            try:
+                found = call()
+                _, most = tracemalloc.get_traced_memory()
+            finally:
+                tracemalloc.stop()
+            size = len(found._raw)
+            self.assertGreater(size, 2 * len(document))
+            # The first array of a call has room for an event for each four bytes.
+            self.assertLess(most, size + 17 * len(document))
+            self.assertEqual(pickle.loads(pickle.dumps(found))[-1], found[-1])
 
     def test_a_library_that_never_has_room_enough(self):
         calls = []

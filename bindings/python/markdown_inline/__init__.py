@@ -294,7 +294,7 @@ def html(document: Text, pieces: Pieces = None, gfm: bool = False, math: bool = 
     status, found = _library.html(given, targets, len(defined), asked, _limit(reference_limit, bytes_given))
     if status:
         raise _raised(status)
-    return found.decode()
+    return str(found, 'utf-8')
 
 
 def htmls(document: Text, contents: Contents, gfm: bool = False, math: bool = False, *, rules: Rules = 'commonmark', options: Optional[int] = None,
@@ -318,7 +318,7 @@ def htmls(document: Text, contents: Contents, gfm: bool = False, math: bool = Fa
     status, found, ends, blamed = _library.htmls(given, targets, len(defined), listed, count, asked, limit)
     if status:
         raise _raised(status, blamed)
-    return [found[start:end].decode() for start, end in zip(chain((0,), ends), ends)]
+    return [str(found[start:end], 'utf-8') for start, end in zip(chain((0,), ends), ends)]
 
 
 def strings(document: Text, strings: Iterable[Iterable[Sequence[int]]], *, rules: Rules = 'commonmark', options: Optional[int] = None) -> List[str]:
@@ -334,7 +334,7 @@ def strings(document: Text, strings: Iterable[Iterable[Sequence[int]]], *, rules
     status, found, ends, at = _library.strings(_bits(options, rules), bytes_given, parts, listed, count)
     if status:
         raise _raised(status, at)
-    return [found[start:end].decode() for start, end in zip([0, *ends], ends)]
+    return [str(found[start:end], 'utf-8') for start, end in zip([0, *ends], ends)]
 
 
 def identifier(label: Text) -> str:
@@ -356,7 +356,7 @@ def _decoded(function: str, given: bytes, *before: int) -> str:
     status, found = _library.decoded(function, given, *before)
     if status:
         raise _raised(status)
-    return found.decode()
+    return str(found, 'utf-8')
 
 
 def is_text(document: Text, pieces: Pieces = None) -> bool:

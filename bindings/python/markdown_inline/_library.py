@@ -109,6 +109,19 @@ def _give_back(lent):
         del _free[KEPT:]
 
 
+def _written(lent, length):
+    """The bytes that a call wrote to the front of an array, which is given back. A large array that is full for the most part is not copied: it is what is
+    answered."""
+    # Not ctypes.string_at, which has a limit of 2 GB.
+    written = memoryview(lent).cast('B')[:length]
+    if len(lent) > KEPT_SIZE and length > len(lent) // 2:
+        return written.toreadonly()
+    found = written.tobytes()
+    written.release()
+    _give_back(lent)
+    return found
+
+
 def filled(call, size, room):
     """The status of a call that is lent an array, its length in elements of this size, and a count, and the bytes that it wrote. The array has this
     room in bytes at first, or more; it is another, as large as the call wants it, where that is too small."""
@@ -116,12 +129,11 @@ def filled(call, size, room):
     for _ in range(2):
         lent = _lend(room)
         status = call(lent, len(lent) // size, ctypes.byref(count))
-        # Not ctypes.string_at, which has a limit of 2 GB.
-        found = memoryview(lent)[:count.value * size].tobytes() if status == DONE else b''
-        _give_back(lent)
         if status != TOO_SMALL:
-            return status, found
+            return status, _written(lent, count.value * size if status == DONE else 0)
+        _give_back(lent)
         room = count.value * size
+        del lent
     raise RuntimeError('the library wants other room for the same input')
 
 
@@ -130,20 +142,23 @@ def filled_many(call, size, room, many, goes_on=True):
     if one of several is. The call is lent the number of the first that it reads, an array with its length, an array for ends with its length, and an outcome.
     The array has this room in bytes at first, or more. Where that is too small, a second call goes on behind those that had room; or it is for all again,
     where calls cannot go on."""
-    ends, outcome, found, at, before = array('Q', bytes(8 * many)), Outcome(), [], 0, 0
+    ends, outcome, kept, at = array('Q', bytes(8 * many)), Outcome(), b'', 0
     for _ in range(2):
         lent = _lend(room)
-        status = call(at, lent, len(lent) // size, ends.buffer_info()[0] + at * ends.itemsize, many - at, ctypes.byref(outcome))
-        is_kept = status == DONE or status == TOO_SMALL and goes_on
-        done = at + outcome.done if is_kept else at
-        written = ends[done - 1] if done > at else 0
-        found.append(memoryview(lent)[:written * size].tobytes())
-        _give_back(lent)
+        if kept:
+            memoryview(lent).cast('B')[:len(kept)] = kept
+        before, kept = len(kept), b''
+        status = call(at, ctypes.byref(lent, before), (len(lent) - before) // size, ends.buffer_info()[0] + at * ends.itemsize, many - at, ctypes.byref(outcome))
+        done = at + outcome.done if status == DONE or status == TOO_SMALL and goes_on else at
         if before:
-            ends[at:done] = array('Q', [end + before for end in ends[at:done]])
+            ends[at:done] = array('Q', [end + before // size for end in ends[at:done]])
+        written = ends[done - 1] * size if done else 0
+        found = _written(lent, written)
+        del lent
         if status != TOO_SMALL:
-            return status, b''.join(found), ends, None if outcome.blamed == NONE else outcome.blamed
-        room, at, before = (outcome.count - written) * size, done, before + written
+            return status, found, ends, None if outcome.blamed == NONE else outcome.blamed
+        room, at, kept = before + outcome.count * size, done, found
+        del found
     raise RuntimeError('the library wants other room for the same input')
 
 

@@ -12,7 +12,7 @@ that the library cannot read as markdown-it would is read by markdown-it's own p
 """
 import re
 from functools import partial
-from typing import Any, Dict, Iterator, List, Mapping, MutableMapping, Optional, Pattern, Sequence, Tuple
+from typing import Any, Callable, Dict, Iterator, List, Mapping, MutableMapping, Optional, Pattern, Sequence, Tuple
 
 from markdown_it import MarkdownIt
 from markdown_it.common.entities import entities
@@ -93,25 +93,26 @@ class _Builder:
         self.is_usual = getattr(md.normalizeLink, '__func__', None) is MarkdownIt.normalizeLink
         self.characters = Characters(document).before if has_places else None
         # What is done where something begins, and where something ends. What is not here needs nothing, or is read by what it stands in.
-        enters = {
+        enters: Dict[Name, Callable[[int], None]] = {
             Name.CharacterEscapeValue: self.begin, Name.CharacterReference: self.begin, Name.LineEnding: self.line,
             Name.CodeText: self.code, Name.HtmlText: self.raw, Name.Autolink: self.autolink, Name.HardBreakEscape: self.hard_break,
             Name.HardBreakTrailing: self.hard_break, Name.LabelText: self.label, Name.Link: self.link, Name.Image: self.image,
             Name.Resource: self.strings, Name.Reference: self.strings,
             Name.Emphasis: partial(self.open, 'em', 1), Name.Strong: partial(self.open, 'strong', 2), Name.GfmStrikethrough: partial(self.open, 's', 2),
         }
-        exits = {
+        exits: Dict[Name, Callable[[int], None]] = {
             Name.CharacterEscapeValue: self.value, Name.CharacterReference: self.reference, Name.LabelText: self.label_ends,
             Name.Link: self.link_ends, Name.Image: self.image_ends,
             Name.Emphasis: partial(self.close, 'em', 1), Name.Strong: partial(self.close, 'strong', 2), Name.GfmStrikethrough: partial(self.close, 's', 2),
         }
-        self.handlers = tuple([table.get(name) for name in Name] for table in (enters, exits))
+        self.handlers: Tuple[List[Optional[Callable[[int], None]]], ...] = tuple([table.get(name) for name in Name] for table in (enters, exits))
 
     def build(self, events: _Flat, first: int) -> List[Token]:
         """The tokens of a content that begins at a byte."""
         self.events, self.first = events, first
         self.tokens: List[Token] = []
-        self.level, self.text, self.is_broken, self.text_start, self.text_end = 0, [], False, 0, 0
+        self.level, self.is_broken, self.text_start, self.text_end = 0, False, 0, 0
+        self.text: List[str] = []
         self.opened: List[_Opened] = []
         self.outer: List[List[Token]] = []
         # The opening tokens of emphasis whose ends are still to come, with their bytes.
@@ -369,7 +370,7 @@ def _encoded(content: str, given: Pattern[str]) -> Optional[bytes]:
         return None
 
 
-def _read(contents: List[bytes], options: int, references: Mapping[str, Any]) -> Tuple[bytes, List[int], Optional[Iterator[_Flat]]]:
+def _read(contents: List[bytes], options: int, references: Mapping[str, Any]) -> Tuple[bytes, List[int], Optional[Iterator[Any]]]:
     """The contents as one document, where each begins, and their events; none where one of them is no text."""
     firsts, at = [], 0
     for it in contents:
@@ -378,7 +379,7 @@ def _read(contents: List[bytes], options: int, references: Mapping[str, Any]) ->
     document = b'\n\n'.join(contents)
     try:
         pieces = [([(first, first + len(it))], False) for first, it in zip(firsts, contents)]
-        return document, firsts, texts(document, pieces, options=options, definitions=references).flat()  # type: ignore[return-value]
+        return document, firsts, texts(document, pieces, options=options, definitions=references).flat()
     except BlankLine:
         return document, firsts, None
 
@@ -411,9 +412,9 @@ def plugin(md: MarkdownIt, signs: Optional[Mapping[str, str]] = None, places: bo
     md.core.ruler.at('inline', partial(_inline, {**_SIGNS, **(signs or {})}, places))
 
 
-def _pieces(token: Token, heading: str, lines: List[Tuple[str, str, int, int]], cells: Optional[Dict[int, int]]) -> Optional[List[Piece]]:
-    """The pieces of an inline token. `lines` has each line, as markdown-it reads it and as it is, where it begins, and where its ending ends; `cells` has for
-    each line where its last cell ends, if this token is a cell."""
+def _pieces(token: Token, has_signs: bool, lines: List[Tuple[str, str, int, int]], cells: Optional[Dict[int, int]]) -> Optional[List[Piece]]:
+    """The pieces of an inline token, which is a heading between signs where it has some. `lines` has each line, as markdown-it reads it and as it is, where it
+    begins, and where its ending ends; `cells` has for each line where its last cell ends, if this token is a cell."""
     found: List[Piece] = []
     parts = token.content.split('\n') if token.content else []
     for row, part in enumerate(parts, token.map[0] if token.map else len(lines)):
@@ -425,7 +426,7 @@ def _pieces(token: Token, heading: str, lines: List[Tuple[str, str, int, int]], 
             at = line.find(part, cells.get(row, 0))
             cells[row] = at + len(part)
         else:
-            line = re.sub('[ \t]#+[ \t]*$', '', line) if heading else line
+            line = re.sub('[ \t]#+[ \t]*$', '', line) if has_signs else line
             at = len(line) - len(part) if line.endswith(part) else line.rfind(part)
         if at < 0:
             return None
@@ -443,11 +444,11 @@ def pieces_of(tokens: Sequence[Token], document: str) -> List[Optional[List[Piec
         at, start = it.end() if it else at, begin
         begin += len(line.encode('utf-8', 'surrogatepass')) + (len(it[0]) if it else 0)
         lines.append((line.replace('\0', '\ufffd').rstrip(' \t'), line, start, begin))
-    found, cells, before = [], {}, None  # type: ignore[var-annotated]
-    for token in tokens:
+    found: List[Optional[List[Piece]]] = []
+    cells: Dict[int, int] = {}
+    for before, token in zip([None, *tokens], tokens):
         if token.type == 'inline':
             is_cell = before is not None and before.tag in ('th', 'td')
-            heading = before.markup if before is not None and before.type == 'heading_open' and before.markup.startswith('#') else ''
-            found.append(_pieces(token, heading, lines, cells if is_cell else None))
-        before = token
+            has_signs = before is not None and before.type == 'heading_open' and before.markup.startswith('#')
+            found.append(_pieces(token, has_signs, lines, cells if is_cell else None))
     return found
