@@ -8,6 +8,15 @@ from setuptools import setup
 from setuptools.command.build_py import build_py
 from setuptools.dist import Distribution
 
+try:
+    from setuptools.command.bdist_wheel import bdist_wheel
+except ImportError:
+    # Before version 70.1 of setuptools.
+    try:
+        from wheel.bdist_wheel import bdist_wheel
+    except ImportError:
+        bdist_wheel = None
+
 HERE = os.path.dirname(os.path.abspath(__file__))
 BINDINGS = os.path.dirname(HERE)
 HEADER = os.path.join(BINDINGS, 'c', 'markdown_inline.h')
@@ -39,7 +48,7 @@ class Build(build_py):
             what = 'run bindings/build first' if IS_REPOSITORY else 'set MARKDOWN_INLINE_LIB_DIR to its folder, or PKG_CONFIG_PATH to that of markdown_inline.pc'
             raise SystemExit('%s is not there: %s' % (library, what))
         package = os.path.join(self.build_lib, 'markdown_inline')
-        shutil.copyfile(library, os.path.join(package, 'libmarkdown_inline.so'))
+        shutil.copyfile(library, os.path.join(package, SHARED))
         if IS_REPOSITORY:
             shutil.copyfile(HEADER, os.path.join(package, 'markdown_inline.h'))
 
@@ -51,6 +60,18 @@ class Native(Distribution):
         return True
 
 
+def commands():
+    """What is done in another way: the files are built with the library, and a wheel is for each Python on one kind of machine."""
+    if bdist_wheel is None:
+        return {'build_py': Build}
+
+    class Tagged(bdist_wheel):
+        def get_tag(self):
+            return ('py3', 'none', super().get_tag()[2])
+
+    return {'build_py': Build, 'bdist_wheel': Tagged}
+
+
 def rooms():
     """What comes up on the way stands in bindings/out, so that the repository stays as it is."""
     if not IS_REPOSITORY:
@@ -60,4 +81,4 @@ def rooms():
     return {'build': {'build_base': room}, 'egg_info': {'egg_base': room}}
 
 
-setup(cmdclass={'build_py': Build}, distclass=Native, options=rooms())
+setup(license='MIT', cmdclass=commands(), distclass=Native, options=rooms())

@@ -12,7 +12,8 @@ DONE, TOO_SMALL = 0, 6
 #: The number of nothing.
 NONE = 2 ** 64 - 1
 EVENT_SIZE, SHORT_SIZE, LEAF_SIZE = EVENT.size, SHORT.size, LEAF.size
-SHARED = 'libmarkdown_inline.so'
+# No name of a module, which one that ends in `.so` would be.
+SHARED = 'libmarkdown_inline.so.1'
 #: How many bytes an array has that is lent again, and how many such arrays are kept for all threads together.
 KEPT_SIZE, KEPT = 1 << 18, 8
 
