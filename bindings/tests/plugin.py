@@ -151,6 +151,7 @@ class Plugin(unittest.TestCase):
         for change, documents in (
             (lambda md: md.disable('escape'), ['[foo][ref\\[]\n\n[ref\\[]: /a', '\\*a*']), (lambda md: md.disable('link'), ['![[a](b)](c)', '[a](b) ![c](d)']),
             (lambda md: md.inline.ruler2.disable('text_collapse'), ['a*b', '*a* b_']), (lambda md: md.inline.ruler2.disable('strikethrough'), ['~~a~~ *b*']),
+            (lambda md: None, ['x ~~~a~~~', '~~~~a~~ b']),
         ):
             self.same(*self.both('js-default', change=change), documents)
 

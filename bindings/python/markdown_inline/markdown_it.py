@@ -345,7 +345,9 @@ _OWN, _OWN_BEHIND = _rules(ParserInline().ruler), _rules(ParserInline().ruler2)
 def _asked(md: MarkdownIt, signs: Mapping[str, str]) -> Tuple[int, Pattern[str]]:
     """The bits for the rules that are active, and what stands in the contents that markdown-it's own parser reads."""
     rules, behind = _rules(md.inline.ruler), _rules(md.inline.ruler2)
-    bits, given = OPTIONS['standard_rules'], [_BLANK] + [r'\\'] * ('escape' not in rules) + ['://'] * ('linkify' in rules and bool(md.options.get('linkify')))
+    bits = OPTIONS['standard_rules']
+    given = [_BLANK, *(sign for sign, is_on in (
+        (r'\\', 'escape' not in rules), ('~~~', 'strikethrough' in rules), ('://', 'linkify' in rules and md.options.get('linkify'))) if is_on)]
     for own, found in ((_OWN, rules), (_OWN_BEHIND, behind)):
         for name, function in found.items():
             if function is own.get(name):

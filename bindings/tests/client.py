@@ -1,0 +1,37 @@
+"""A small client, which typed.py hands to mypy."""
+from typing import Dict, List, Optional, Tuple
+
+from markdown_inline import (
+    COMMONMARK, GFM, OPTIONS, Address, Content, Error, Event, Events, Kind, Leaf, Leaves, Name, Node, Piece, ShortEvent, ShortTexts, Texts, Tree, __version__, html, htmls, identifier,
+    is_text, leaves, links, reference, short_texts, string, strings, text, texts, tree)
+
+
+def lines(document: str, defined: Dict[str, str]) -> List[int]:
+    events: Events = text(document, gfm=True, definitions=defined)
+    first: Event = events[0]
+    part: Events = events[1:3]
+    names: List[Name] = [it.name for it in part if it.kind == Kind.Enter]
+    leaf: Leaf = leaves(document)[0]
+    some: Leaves = leaves(document)[:1]
+    spans: List[Tuple[int, int, int, int]] = list(string(document).spans())
+    return [first.line, len(names), len(leaf.content), len(some), len(spans), *(byte for _, _, byte in events.flat())]
+
+
+def many(document: bytes) -> int:
+    found: Texts = texts(document, [Content([Piece(0, 1)]), ([(0, 1)], False)], rules='crate')
+    shorts: ShortTexts = short_texts(document, [Content([(0, 1)])], options=COMMONMARK | GFM | OPTIONS['math_text'])
+    short: ShortEvent = shorts[0][0]
+    definition: Optional[int] = short.definition
+    return found[0][0].index + sum(number for content in found.flat() for event in content for number in event) + (definition or 0)
+
+
+def words(document: str, defined: Dict[str, str]) -> List[str]:
+    titled: Dict[str, Tuple[str, str]] = {'a': ('b', 'c')}
+    addresses: List[Address] = links(document, definitions=titled, columns='utf-16')
+    root: Tree = tree(document)
+    nodes: List[Node] = [it for it in root.find(Name.Link, Name.Image) for it in it.children]
+    try:
+        found = [html(document, definitions=defined), *htmls(document, [], definitions=titled), *strings(document, [[(0, 1)]], rules='crate')]
+    except Error as error:
+        found = ['%d %s' % (error.status, error.at)]
+    return found + [it.text for it in nodes] + [it.title or it.destination for it in addresses] + [identifier('A'), reference('&amp;'), str(is_text('a')), __version__]

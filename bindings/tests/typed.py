@@ -1,0 +1,45 @@
+"""What a client of the package is told by its types: mypy finds nothing in client.py, and what is wrong in other lines. Without mypy nothing of it can be tried."""
+import importlib.util
+import os
+import subprocess
+import sys
+import tempfile
+import unittest
+
+import client
+import markdown_inline
+
+HERE = os.path.dirname(os.path.abspath(__file__))
+# Each line is wrong.
+WRONG = ['text(5)', "text('a', rules='gfm')", "text('a')[0].nothing", "html('a', definitions=[('b', 'c')])", "links('a', columns='words')", "texts('a', [(0, 1)])", "tree('a').name",
+         "text('a', commonmark=True)", 'leaf: str = leaves("a")[0]']
+
+
+def said(path, *words):
+    """What mypy says of a file."""
+    environment = {**os.environ, 'MYPYPATH': os.path.dirname(os.path.dirname(markdown_inline.__file__))}
+    with tempfile.TemporaryDirectory() as room:
+        ran = subprocess.run([sys.executable, '-m', 'mypy', '--strict', '--follow-imports=silent', '--cache-dir', room, *words, path], stdout=subprocess.PIPE,
+                             stderr=subprocess.STDOUT, env=environment, timeout=300)
+    return ran.stdout.decode()
+
+
+@unittest.skipUnless(importlib.util.find_spec('mypy'), 'mypy is not there')
+class Types(unittest.TestCase):
+    def test_a_client(self):
+        self.assertIn('no issues found', said(os.path.join(HERE, 'client.py')))
+
+    def test_what_is_wrong(self):
+        with tempfile.TemporaryDirectory() as room:
+            path = os.path.join(room, 'wrong.py')
+            with open(path, 'w', encoding='utf-8') as file:
+                file.write('from markdown_inline import *\n' + ''.join(it + '\n' for it in WRONG))
+            found = said(path)
+        self.assertEqual({int(it.split(':')[1]) for it in found.splitlines() if ': error:' in it}, set(range(2, len(WRONG) + 2)), found)
+
+
+class Client(unittest.TestCase):
+    def test_it_runs(self):
+        self.assertEqual(client.lines('a', {})[:1], [1])
+        self.assertEqual(client.many(b'a'), 72)
+        self.assertEqual(client.words('[a](b "c")', {})[:1], ['<a href="b" title="c">a</a>'])
