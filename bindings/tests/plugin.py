@@ -292,7 +292,7 @@ class Plugin(unittest.TestCase):
 
     def test_contents_that_are_no_texts(self):
         plain, ours = self.both()
-        for given in ('a\n\n*b*', 'a\n', '\n', ' ', 'a \ud800 *b*', ' a', 'a ', '\ta\t', 'a\t\nb', 'a\n \t\nb'):
+        for given in ('a\n\n*b*', 'a\n', '\n', ' ', 'a \ud800 *b*', ' a', 'a ', '\ta\t', 'a\t\nb', 'a\t  \nb', 'a\n \t\nb'):
             self.assertEqual(flat(ours.parseInline(given)), flat(plain.parseInline(given)), given)
         for given in ('a \ud800 *b*\n\n*c*', '*d*\n\n[e](f)\n\n\udfff'):
             self.assertEqual(flat(ours.parse(given)), flat(plain.parse(given)))

@@ -40,7 +40,7 @@ _SIGNS: Dict[str, str] = {
     'myst_role': r'\{', 'span': r'\{', 'substitution_inline': r'\{\{',
 }
 # Where the library and markdown-it read blanks in two ways: at the ends of a content, in a blank line, and a tab at the end of a line.
-_BLANKS, _BLANK = (' ', '\t', '\n', '\r'), r'\n[ \t]*[\r\n]|\r[ \t]*[\r\n]|\t\n'
+_BLANKS, _BLANK = (' ', '\t', '\n', '\r'), r'\n[ \t]*[\r\n]|\r[ \t]*[\r\n]|\t *\n'
 _ALL, _LINE_ENDING = re.compile(''), re.compile('\r\n|\n|\r')
 # An address that normalizeLink leaves as it is.
 _SAFE = r"(?:[A-Za-z0-9;/?%s@&=+$,\-_.!~*'()#]|%%[0-9A-Fa-f]{2})*"
