@@ -119,7 +119,7 @@ outcome-same s es (u ∷ us) (l ∷ ls) o back cs k h =
     let place : stop_of document_start h.0.marker ≡ place_at es l.start.1 = ap (stop_of document_start) h.3 ∙ sym k.0.place in
     ap (λ x. outcome_of s x back cs) h.1
     ∙ outcome-parts s h.0 back cs
-    ∙ (λ i. (provided (not (barred i)) >> outcome s (kind i) (label_name s (place i).index (start_of back).index)) cs)
+    ∙ (λ i. (provided (not (barred i)) >> outcome s (kind i) (label_name s (kind i) (place i).index (start_of back).index)) cs)
 
 pub outcome-kept : (s : Setting) (earlier : List Element) (es : List Event) (ls : List LabelStart) (back cs : List Code) →
     StandFor es (unused_starts earlier) ls → outcome_of s (label_before earlier) back cs ≡ made_by s es ls back cs

@@ -1,5 +1,5 @@
 -- The laws of the states of a label's end.
-use Rattle.std.proofs.Common.{◌≡◌, ℕ, ◌<◌, ◌==◌, Bool, true, false, ◌&&◌, not, None, List, [], ◌∷◌, refl, sym, ap, subst, ◌∙◌, arith}
+use Rattle.std.proofs.Common.{◌≡◌, ℕ, ◌<◌, ◌==◌, Bool, true, false, ◌&&◌, not, None, Option, List, [], ◌∷◌, refl, sym, ap, subst, ◌∙◌, arith}
 use Rattle.std.proofs.lemmas.Bool.{false≢true}
 use Rattle.std.specs.Prelude.{is_some}
 use Rattle.markdown_content.specs.ListFunctions.{rest_of}
@@ -26,9 +26,9 @@ use Rattle.markdown_plan.specs.LayerEquation.{EqualsLayer}
 use Rattle.markdown_plan.proofs.PlanSteps.{EndsAs-plan}
 use Rattle.markdown_plan.proofs.LawStepsOfLayer.{FollowsIn, follows, GoesOn-map, Goes-end, Goes-next, Goes-no, Goes-plain, Goes-yes}
 use Rattle.markdown_model.specs.Grammar.{either}
-use Rattle.markdown_model.specs.LabelEnd.{is_footnote, full_reference, collapsed_reference, shortcut, reference_after_label, after_label, link_kind, link_identifier}
+use Rattle.markdown_model.specs.LabelEnd.{is_footnote, full_reference, collapsed_reference, shortcut, reference_after_label, after_label, link_kind, names_footnote, names_definition}
 use Rattle.markdown_model.specs.Resource.{resource, label, reference_names}
-use Rattle.markdown_model.specs.Setting.{Setting, defines, is_defined}
+use Rattle.markdown_model.specs.Setting.{Setting}
 use Rattle.markdown_model.proofs.GrammarSteps.{either-some, either-second, if-true, if-false}
 use Rattle.markdown_label.specs.AfterLabelParts.{rested}
 use Rattle.markdown_label.proofs.NextCodeTests.{at-value, at-none}
@@ -209,15 +209,15 @@ module _ (W : Words) (within : EqualsLayer states_and_called W) where
 
   reads-as : (l : Kept.LabelStart) (ls : List Kept.LabelStart) (T : Tokenizer) →
       T.tokenize_state.label_starts ≡ l ∷ ls →
-      after_reading T (ahead T) ≡ outcome (setting_in T) l.kind (label_between T l.start.1 T.tokenize_state.end) (ahead T)
+      after_reading T (ahead T) ≡ outcome (setting_in T) l.kind (label_between T l.kind l.start.1 T.tokenize_state.end) (ahead T)
   reads-as l ls T e = ap (λ x. after_reading_of x T (ahead T)) e
 
   -- a tail that makes the label or not, of a start tried as a link's
   tail-after : (l : Kept.LabelStart) (ls : List Kept.LabelStart) (T : Tokenizer) →
-      T.tokenize_state.label_starts ≡ l ∷ ls → (name : List ℕ) →
-      name ≡ label_between T l.start.1 T.tokenize_state.end →
-      is_footnote l.kind && is_defined (setting_in T).footnotes name ≡ false → (ok : Bool) (U : Tokenizer) →
-      tail_ends (after_label (setting_in T) (defines (setting_in T) (link_identifier l.kind name))) (link_tried T) ok U →
+      T.tokenize_state.label_starts ≡ l ∷ ls → (name : Option (List ℕ)) →
+      name ≡ label_between T l.kind l.start.1 T.tokenize_state.end →
+      is_footnote l.kind && names_footnote (setting_in T) name ≡ false → (ok : Bool) (U : Tokenizer) →
+      tail_ends (after_label (setting_in T) (names_definition (setting_in T) l.kind name)) (link_tried T) ok U →
       after_ends T ok U
   unfolding made scratched
   tail-after l ls T e name named other true U k =
@@ -244,11 +244,11 @@ module _ (W : Words) (within : EqualsLayer states_and_called W) where
 
   call-after : (l : Kept.LabelStart) (ls : List Kept.LabelStart) (T : Tokenizer) →
       T.tokenize_state.label_starts ≡ l ∷ ls →
-      is_footnote l.kind && is_defined (setting_in T).footnotes (label_between T l.start.1 T.tokenize_state.end) ≡ true →
+      is_footnote l.kind && names_footnote (setting_in T) (label_between T l.kind l.start.1 T.tokenize_state.end) ≡ true →
       (ok : Bool) (U : Tokenizer) → ok_ends T ok U → after_ends T ok U
   unfolding made
   call-after l ls T e called true U k =
-      let name : List ℕ = label_between T l.start.1 T.tokenize_state.end in
+      let name : Option (List ℕ) = label_between T l.kind l.start.1 T.tokenize_state.end in
       record {
         kind = LabelKind.GfmFootnote;
         tail = empty;
@@ -271,10 +271,10 @@ module _ (W : Words) (within : EqualsLayer states_and_called W) where
   after-goes l ls T alone k e =
       let n : ℕ = weight_at 13 T in
       let s : Setting = setting_in T in
-      let name : List ℕ = label_between T l.start.1 T.tokenize_state.end in
-      let defined : Bool = defines s (link_identifier l.kind name) in
+      let name : Option (List ℕ) = label_between T l.kind l.start.1 T.tokenize_state.end in
+      let defined : Bool = names_definition s l.kind name in
       let P : Stepped → Type 0 = GoesIn W n (after_ends T) in
-      if-step P (is_footnote l.kind && is_defined s.footnotes name) _ _
+      if-step P (is_footnote l.kind && names_footnote s name) _ _
       (λ h. Goes-plain W n (after_ends T) (Retry LabelEndOk) (within LabelEndOk) T alone k.ordered (omega arith) (call-after l ls T e h))
       (λ h. GoesOn-map W n (tail_ends (after_label s defined) (link_tried T)) (after_ends T) (tail_at defined (current_of T) (link_tried T)) (λ ok U x. tail-after l ls T e name refl h ok U x)
       (tail-there n defined T alone k.ordered (tried-ready T k) (omega arith)))

@@ -15,9 +15,9 @@ use Rattle.markdown_model.proofs.OneLineReadings.{IsOneCode, one-one, one-some}
 use Rattle.markdown_plan.proofs.SolidReadings.{ReadsSolid, solid-marked}
 use Rattle.markdown_model.specs.CodeTests.{is_value, next_is}
 use Rattle.markdown_model.specs.Grammar.{Reading, ◌>>=◌, ◌>>◌, gives, either, unless, provided, one}
-use Rattle.markdown_model.specs.LabelEnd.{is_footnote, full_reference, collapsed_reference, shortcut, shortcut_before_bracket, reference_after_label, after_label, link_kind, link_identifier}
+use Rattle.markdown_model.specs.LabelEnd.{is_footnote, full_reference, collapsed_reference, shortcut, shortcut_before_bracket, reference_after_label, after_label, link_kind, names_footnote, names_definition}
 use Rattle.markdown_model.specs.Resource.{resource, label, reference_names}
-use Rattle.markdown_model.specs.Setting.{Setting, defines, is_defined, rules}
+use Rattle.markdown_model.specs.Setting.{Setting, rules}
 use Rattle.markdown_model.proofs.GrammarSteps.{bind-some, bind-none, one-here, one-not, either-some, either-second, switched-on, switched-off}
 use Rattle.markdown_label.specs.LabelEnd.{collapsed_front, collapsed_back, collapsed_open_plan}
 use Rattle.markdown_model.specs.SingleConstructs.{outcome}
@@ -136,27 +136,27 @@ collapsed-none cs e = ap tree_ops (bind-none _ _ cs (one-not (is_value 91) cs e)
 
 -- Outcomes.
 
-pub outcome-call : (s : Setting) (kind : LabelKind) (name : List ℕ) (cs : List Code) →
-    is_footnote kind && is_defined s.footnotes name ≡ true →
+pub outcome-call : (s : Setting) (kind : LabelKind) (name : Option (List ℕ)) (cs : List Code) →
+    is_footnote kind && names_footnote s name ≡ true →
     outcome s kind name cs ≡ Some ((LabelKind.GfmFootnote, empty), cs)
 unfolding outcome gives
 outcome-call s kind name cs e =
     either-some _ _ cs ((LabelKind.GfmFootnote, empty), cs) (switched-on (gives (LabelKind.GfmFootnote, empty)) _ cs e)
 
-abbrev tail_of : Setting → LabelKind → List ℕ → Reading Forest
-tail_of s kind name = after_label s (defines s (link_identifier kind name))
+abbrev tail_of : Setting → LabelKind → Option (List ℕ) → Reading Forest
+tail_of s kind name = after_label s (names_definition s kind name)
 
-pub outcome-tail : (s : Setting) (kind : LabelKind) (name : List ℕ) (cs : List Code) (tree : Forest) (rest : List Code) →
-    is_footnote kind && is_defined s.footnotes name ≡ false →
-    after_label s (defines s (link_identifier kind name)) cs ≡ Some (tree, rest) →
+pub outcome-tail : (s : Setting) (kind : LabelKind) (name : Option (List ℕ)) (cs : List Code) (tree : Forest) (rest : List Code) →
+    is_footnote kind && names_footnote s name ≡ false →
+    after_label s (names_definition s kind name) cs ≡ Some (tree, rest) →
     outcome s kind name cs ≡ Some ((link_kind kind, tree), rest)
 unfolding outcome gives
 outcome-tail s kind name cs tree rest e h =
     either-second _ _ cs (switched-off (gives (LabelKind.GfmFootnote, empty)) _ cs e) ∙ bind-some (tail_of s kind name) (λ t. gives (link_kind kind, t)) cs tree rest _ h refl
 
-pub outcome-none : (s : Setting) (kind : LabelKind) (name : List ℕ) (cs : List Code) →
-    is_footnote kind && is_defined s.footnotes name ≡ false →
-    after_label s (defines s (link_identifier kind name)) cs ≡ None → outcome s kind name cs ≡ None
+pub outcome-none : (s : Setting) (kind : LabelKind) (name : Option (List ℕ)) (cs : List Code) →
+    is_footnote kind && names_footnote s name ≡ false →
+    after_label s (names_definition s kind name) cs ≡ None → outcome s kind name cs ≡ None
 unfolding outcome gives
 outcome-none s kind name cs e h =
     either-second _ _ cs (switched-off (gives (LabelKind.GfmFootnote, empty)) _ cs e) ∙ bind-none (tail_of s kind name) (λ t. gives (link_kind kind, t)) cs h

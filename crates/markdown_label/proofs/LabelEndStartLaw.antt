@@ -98,12 +98,12 @@ module _ (T : Tokenizer) (x : Code) (cs : List Code) (whole : ahead T ≡ x ∷ 
   left-there = omega (arith, left-ahead P, left-ahead T, ap length ahead-there, ap length whole)
 
   name-there : (l : Kept.LabelStart) → l.start.1 < length T.events →
-      label_between P l.start.1 P.tokenize_state.end ≡ label_name (setting_in T) (place_at T.events l.start.1).index x.start.index
+      label_between P l.kind l.start.1 P.tokenize_state.end ≡ label_name (setting_in T) l.kind (place_at T.events l.start.1).index x.start.index
   unfolding past scratched moved
   name-there l within =
       let front : place_at P.events l.start.1 ≡ place_at T.events l.start.1 = place-front T.events (appended_from (length T.events) None (end_tree (x ∷ []))) l.start.1 within in
       let back : place_at P.events (length T.events) ≡ x.start = place-there T.events _ _ in
-      λ i. label_name (setting_in T) (front i).index (back i).index
+      λ i. label_name (setting_in T) l.kind (front i).index (back i).index
 
   reads-there : (l : Kept.LabelStart) (ls : List Kept.LabelStart) → T.tokenize_state.label_starts ≡ l ∷ ls →
       l.start.1 < length T.events → bars l ≡ false →
@@ -113,8 +113,8 @@ module _ (T : Tokenizer) (x : Code) (cs : List Code) (whole : ahead T ≡ x ∷ 
       let s = setting_in T in
       ap (λ y. after_reading_of y P (ahead P)) e
       ∙ ap (λ y. outcome s l.kind y (ahead P)) (name-there l within)
-      ∙ ap (outcome s l.kind (label_name s (place_at T.events l.start.1).index x.start.index)) ahead-there
-      ∙ sym (ap (λ y. outcome_by y T (x ∷ []) cs) e ∙ switched-on (outcome s l.kind (label_name s (place_at T.events l.start.1).index x.start.index)) (not (bars l)) cs (ap not active))
+      ∙ ap (outcome s l.kind (label_name s l.kind (place_at T.events l.start.1).index x.start.index)) ahead-there
+      ∙ sym (ap (λ y. outcome_by y T (x ∷ []) cs) e ∙ switched-on (outcome s l.kind (label_name s l.kind (place_at T.events l.start.1).index x.start.index)) (not (bars l)) cs (ap not active))
 
   first-within : (ls : List Kept.LabelStart) → AllEndBetween T ls → (m : Kept.LabelStart) (ms : List Kept.LabelStart) →
       ls ≡ m ∷ ms → EndsBetween T m

@@ -21,7 +21,7 @@ if-found : (b d : Bool) (T : Tokenizer) →
 if-found true d T = refl
 if-found false d T = refl
 
-module _ (T N : Tokenizer) (l : Kept.LabelStart) (ls : List Kept.LabelStart) (found : Option Bool) (top : T.tokenize_state.label_starts ≡ l ∷ ls) (same : N ≡ T) (holds : found ≡ link_as (setting_in T) l.kind (label_between T l.start.1 T.tokenize_state.end)) where
+module _ (T N : Tokenizer) (l : Kept.LabelStart) (ls : List Kept.LabelStart) (found : Option Bool) (top : T.tokenize_state.label_starts ≡ l ∷ ls) (same : N ≡ T) (holds : found ≡ link_as (setting_in T) l.kind (label_between T l.kind l.start.1 T.tokenize_state.end)) where
   by-found : after_found found N ≡ after_step T
   by-found =
       ap (after_found found) same ∙ ap (λ o. after_found o T) holds

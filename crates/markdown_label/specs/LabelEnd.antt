@@ -22,9 +22,9 @@ use Rattle.markdown_plan.specs.Characters.{bytes_of, ReadsText}
 use Rattle.markdown_plan.specs.Plan.{Plan, KeepsAs}
 use Rattle.markdown_model.specs.CodeTests.{is_value, next_is}
 use Rattle.markdown_model.specs.Grammar.{Reading, either}
-use Rattle.markdown_model.specs.LabelEnd.{is_footnote, full_reference, collapsed_reference, shortcut, link_identifier}
+use Rattle.markdown_model.specs.LabelEnd.{is_footnote, full_reference, collapsed_reference, shortcut, names_footnote, names_definition}
 use Rattle.markdown_model.specs.Resource.{label, reference_names}
-use Rattle.markdown_model.specs.Setting.{defines, is_defined}
+use Rattle.markdown_model.specs.Setting.{defines}
 use Rattle.markdown_model.specs.SingleConstructs.{WaitingStart, outcome, outcome_at, label_end_here}
 use Rattle.markdown_partial.specs.LinkedText.{rules_in}
 use Rattle.markdown_label.specs.AfterLabelParts.{names_rested, PartReady}
@@ -90,14 +90,14 @@ starts_set ls s = record s { label_starts = ls }
 abbrev pub link_tried : Tokenizer → Tokenizer
 link_tried T = scratched (starts_set (as_link T.tokenize_state.label_starts) T.tokenize_state) T
 
-abbrev pub after_as : LabelKind → List ℕ → Tokenizer → Stepped
+abbrev pub after_as : LabelKind → Option (List ℕ) → Tokenizer → Stepped
 after_as kind name T =
-    if is_footnote kind && is_defined (setting_in T).footnotes name then stepped (Retry LabelEndOk) T
-    else tail_at (defines (setting_in T) (link_identifier kind name)) (current_of T) (link_tried T)
+    if is_footnote kind && names_footnote (setting_in T) name then stepped (Retry LabelEndOk) T
+    else tail_at (names_definition (setting_in T) kind name) (current_of T) (link_tried T)
 
 abbrev pub after_by : List Kept.LabelStart → Tokenizer → Stepped
 after_by [] T = stepped Nok T
-after_by (l ∷ ls) T = after_as l.kind (label_between T l.start.1 T.tokenize_state.end) T
+after_by (l ∷ ls) T = after_as l.kind (label_between T l.kind l.start.1 T.tokenize_state.end) T
 
 abbrev pub after_step : Tokenizer → Stepped
 after_step T = after_by T.tokenize_state.label_starts T
@@ -257,7 +257,7 @@ pub record Loses (reading : MadeReading) (s : TokenizeState) (T U : Tokenizer) :
 -- what the end makes whose `]` is passed
 abbrev pub after_reading_of : List Kept.LabelStart → Tokenizer → MadeReading
 after_reading_of [] T cs = None
-after_reading_of (l ∷ ls) T cs = outcome (setting_in T) l.kind (label_between T l.start.1 T.tokenize_state.end) cs
+after_reading_of (l ∷ ls) T cs = outcome (setting_in T) l.kind (label_between T l.kind l.start.1 T.tokenize_state.end) cs
 
 abbrev pub after_reading : Tokenizer → MadeReading
 after_reading T = after_reading_of T.tokenize_state.label_starts T

@@ -1,12 +1,13 @@
 -- The bytes of a text between two places at which it may be cut.
-use Rattle.std.proofs.Common.{◌≡◌, ℕ, zero, suc, ◌-◌, ◌<◌, ◌≤◌, Bool, true, false, ◌&&◌, if◌then◌else◌, List, [], ◌∷◌, ◌++◌, length, get_or, refl, sym, ap, subst, ◌∙◌, arith, inl, inr}
+use Rattle.std.proofs.Common.{◌≡◌, ℕ, zero, suc, ◌-◌, ◌<◌, ◌≤◌, Bool, true, false, ◌&&◌, if◌then◌else◌, List, [], ◌∷◌, ◌++◌, length, get_or, None, Some, refl, sym, ap, subst, ◌∙◌, arith, inl, inr}
 use Rattle.std.specs.Prelude.{max, min}
 use Rattle.markdown_event.specs.declared.event.Point.{Point}
 use Rattle.markdown_util.specs.Identifier.{identifier_by}
 use Rattle.markdown_content.specs.Codes.{Code}
 use Rattle.markdown_content.specs.ContentBytes.{bytes_within}
+use Rattle.markdown_content.specs.declared.label_kind.LabelKind.{LabelKind}
 use Rattle.markdown_content.proofs.BytesOfContent.{range-none}
-use Rattle.markdown_model.specs.LabelEnd.{is_too_long, label_name, name_between, no_name, text_between}
+use Rattle.markdown_model.specs.LabelEnd.{is_too_long, label_name, name_between, text_between, with_caret}
 use Rattle.markdown_model.specs.Setting.{Setting, rules}
 use Rattle.markdown_label_names.specs.LabelSetting.{setting_in}
 use Rattle.std.specs.List.{slice_range, slice_index_or}
@@ -97,6 +98,7 @@ module _ (T : Tokenizer) (m n : ℕ) (a b : Event) (k : AreAround T m n) (front 
   pub lent-name : (end : ℕ) → end ≡ max b.point.index a.point.index → name_between (setting_in T) a.point.index end ≡ identifier_between T m n
   lent-name end e = ap (identifier_by (rules (setting_in T)).nul_is_replaced) (lent-text end e)
 
-  pub lent-label : (end : ℕ) → end ≡ max b.point.index a.point.index → label_name (setting_in T) a.point.index end ≡ label_between T m n
-  lent-label end e =
-      ap (λ text. if (rules (setting_in T)).definitions_have_labels && is_too_long text then no_name else identifier_by (rules (setting_in T)).nul_is_replaced text) (lent-text end e)
+  pub lent-label : (kind : LabelKind) (end : ℕ) → end ≡ max b.point.index a.point.index →
+      label_name (setting_in T) kind a.point.index end ≡ label_between T kind m n
+  lent-label kind end e =
+      ap (λ text. if (rules (setting_in T)).definitions_have_labels && is_too_long (with_caret kind text) then None else Some (identifier_by (rules (setting_in T)).nul_is_replaced text)) (lent-text end e)

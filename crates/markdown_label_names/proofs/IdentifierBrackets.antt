@@ -16,7 +16,7 @@ use Rattle.markdown_plan.specs.Characters.{bytes_of}
 use Rattle.markdown_util.specs.Identifier.{identifier_by, read_text}
 use Rattle.markdown_label_names.proofs.BracketCounts.{of-identifier, of-read}
 use Rattle.markdown_label_names.proofs.TextParts.{read-utf8}
-use Rattle.markdown_model.specs.LabelEnd.{is_footnote, link_identifier}
+use Rattle.markdown_model.specs.LabelEnd.{is_footnote, with_caret}
 use Rattle.markdown_model.specs.Setting.{Setting, is_defined}
 use Rattle.markdown_label_names.specs.IdentifierFronts.{AreCuts, IsUnknown, lacks_count}
 use Rattle.markdown_label_names.specs.LabelSetting.{setting_in, IsListed}
@@ -40,7 +40,7 @@ first : (x : ℕ) (xs : List ℕ) → brackets_of (x ∷ xs) ≡ cond (x == 91) 
 first x xs = count-first (λ b. b == 91) x xs
 
 -- a caret is no bracket
-link-brackets : (kind : LabelKind) (name : List ℕ) → brackets_of (link_identifier kind name) ≡ brackets_of name
+link-brackets : (kind : LabelKind) (name : List ℕ) → brackets_of (with_caret kind name) ≡ brackets_of name
 link-brackets kind name = go (is_footnote kind)
   where
     go : (b : Bool) → brackets_of (elim b [ true ↦ 94 ∷ name | false ↦ name ]) ≡ brackets_of name
@@ -65,7 +65,7 @@ unknown-by : (s : Setting) (kind : LabelKind) (name : List ℕ) (n : ℕ) → n 
     IsUnknown s kind name
 unknown-by s kind name n e f d = record {
   call = calls (is_footnote kind) f;
-  link = unlike-all s.definitions (link_identifier kind name) (ap (λ m. has_brackets m s.definitions) (link-brackets kind name ∙ sym e) ∙ d);
+  link = unlike-all s.definitions (with_caret kind name) (ap (λ m. has_brackets m s.definitions) (link-brackets kind name ∙ sym e) ∙ d);
 }
   where
     calls : (is : Bool) → (is && has_brackets n s.footnotes) ≡ false → (is && is_defined s.footnotes name) ≡ false

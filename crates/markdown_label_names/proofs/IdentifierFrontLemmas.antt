@@ -15,7 +15,7 @@ use Rattle.caseless.proofs.CaselessLemmas.{default_case_fold-append}
 use Rattle.caseless.specs.Caseless.{default_case_fold}
 use Rattle.markdown_util.specs.Identifier.{separates_words, is_nonempty, joined_words, identifier_of}
 use Rattle.markdown_content.specs.declared.label_kind.LabelKind.{LabelKind}
-use Rattle.markdown_model.specs.LabelEnd.{is_footnote, link_identifier}
+use Rattle.markdown_model.specs.LabelEnd.{is_footnote, with_caret}
 use Rattle.markdown_model.specs.Setting.{Setting, is_defined}
 use Rattle.markdown_label_names.specs.IdentifierFronts.{AreCuts, IsUnknown, begins_one, begins_defined}
 
@@ -150,7 +150,7 @@ none-begins (d ∷ ds) front more h =
     or_from (bytes_eq (front ++ more) d) (is_defined ds (front ++ more)) (not-begun d front more parts.0) (none-begins ds front more parts.1)
 
 link-front : (kind : LabelKind) (front more : List ℕ) →
-    link_identifier kind (front ++ more) ≡ link_identifier kind front ++ more
+    with_caret kind (front ++ more) ≡ with_caret kind front ++ more
 link-front kind front more = go (is_footnote kind)
   where
     go : (b : Bool) →
@@ -161,10 +161,10 @@ link-front kind front more = go (is_footnote kind)
 pub unknown-by : (s : Setting) (kind : LabelKind) (front name : List ℕ) → IsFrontOf front name →
     begins_defined s kind front ≡ false → IsUnknown s kind name
 unknown-by s kind front name b h =
-    let parts = or_parts (is_footnote kind && begins_one s.footnotes front) (begins_one s.definitions (link_identifier kind front)) h in
+    let parts = or_parts (is_footnote kind && begins_one s.footnotes front) (begins_one s.definitions (with_caret kind front)) h in
     subst (IsUnknown s kind) (sym b.1) (record {
       call = calls (is_footnote kind) parts.0;
-      link = ap (is_defined s.definitions) (link-front kind front b.0) ∙ none-begins s.definitions (link_identifier kind front) b.0 parts.1;
+      link = ap (is_defined s.definitions) (link-front kind front b.0) ∙ none-begins s.definitions (with_caret kind front) b.0 parts.1;
     })
   where
     calls : (is : Bool) → is && begins_one s.footnotes front ≡ false →
@@ -191,4 +191,4 @@ front-cuts bs i j k n cuts after last =
 pub unknown-nothing : (s : Setting) (kind : LabelKind) (name : List ℕ) → s.definitions ≡ [] → s.footnotes ≡ [] →
     IsUnknown s kind name
 unknown-nothing s kind name d f =
-    record { call = ap (λ fs. is_footnote kind && is_defined fs name) f ∙ and-false (is_footnote kind); link = ap (λ ds. is_defined ds (link_identifier kind name)) d }
+    record { call = ap (λ fs. is_footnote kind && is_defined fs name) f ∙ and-false (is_footnote kind); link = ap (λ ds. is_defined ds (with_caret kind name)) d }

@@ -3,11 +3,12 @@ use Rattle.std.proofs.Common.{◌≡◌, ◌∙◌, sym, ap, ℕ, ◌+◌, ◌<�
 use Rattle.std.proofs.lemmas.Bool.{le-ltb, lt-ltb}
 use Rattle.std.proofs.lemmas.List.{at_drop_all, at_drop_more}
 use Rattle.markdown_content.specs.Codes.{carriage_return, is_line_ending_byte}
-use Rattle.markdown_model.specs.LabelEnd.{begins_counted, characters_of, is_blank_byte, is_too_long}
+use Rattle.markdown_content.specs.declared.label_kind.LabelKind.{LabelKind}
+use Rattle.markdown_model.specs.LabelEnd.{begins_counted, characters_of, is_blank_byte, is_too_long, with_caret}
 
 -- so many characters may still come where these are counted
-abbrev pub IsCounting : List ℕ → ℕ → ℕ → Bool → Bool → Type 0
-IsCounting text i left indent returned = characters_of false false text + left ≡ 999 + characters_of indent returned (drop i text)
+abbrev pub IsCounting : LabelKind → List ℕ → ℕ → ℕ → Bool → Bool → Type 0
+IsCounting kind text i left indent returned = characters_of false false (with_caret kind text) + left ≡ 999 + characters_of indent returned (drop i text)
 
 abbrev pub weight : Bool → ℕ
 weight counts = if counts then 1 else 0
@@ -17,23 +18,23 @@ next : (text : List ℕ) (i : ℕ) (indent returned : Bool) → i < length text 
     ≡ weight (begins_counted indent returned (get_or text i 0)) + characters_of (is_line_ending_byte (get_or text i 0) || (indent && is_blank_byte (get_or text i 0))) (get_or text i 0 == carriage_return) (drop (i + 1) text)
 next text i indent returned h = at_drop_more (characters_of indent returned) text i 0 h
 
-pub counting-step : (text : List ℕ) (i left left' : ℕ) (indent returned indent' counts : Bool) → i < length text → IsCounting text i left indent returned →
+pub counting-step : (kind : LabelKind) (text : List ℕ) (i left left' : ℕ) (indent returned indent' counts : Bool) → i < length text → IsCounting kind text i left indent returned →
     counts ≡ begins_counted indent returned (get_or text i 0) → left ≡ weight counts + left' →
-    indent' ≡ (is_line_ending_byte (get_or text i 0) || (indent && is_blank_byte (get_or text i 0))) → IsCounting text (i + 1) left' indent' (get_or text i 0 == carriage_return)
-counting-step text i left left' indent returned indent' counts h k e m n =
+    indent' ≡ (is_line_ending_byte (get_or text i 0) || (indent && is_blank_byte (get_or text i 0))) → IsCounting kind text (i + 1) left' indent' (get_or text i 0 == carriage_return)
+counting-step kind text i left left' indent returned indent' counts h k e m n =
     let rest : ℕ = characters_of (is_line_ending_byte (get_or text i 0) || (indent && is_blank_byte (get_or text i 0))) (get_or text i 0 == carriage_return) (drop (i + 1) text) in
     let here : characters_of indent returned (drop i text) ≡ weight counts + rest = next text i indent returned h ∙ ap (λ b. weight b + rest) (sym e) in
-    let sum : characters_of false false text + left' ≡ 999 + rest = omega (arith, k, here, m) in
+    let sum : characters_of false false (with_caret kind text) + left' ≡ 999 + rest = omega (arith, k, here, m) in
     sum ∙ ap (λ b. 999 + characters_of b (get_or text i 0 == carriage_return) (drop (i + 1) text)) (sym n)
 
-pub counting-past : (text : List ℕ) (i : ℕ) (indent returned : Bool) → i < length text → IsCounting text i 0 indent returned →
-    true ≡ begins_counted indent returned (get_or text i 0) → true ≡ is_too_long text
-counting-past text i indent returned h k e =
+pub counting-past : (kind : LabelKind) (text : List ℕ) (i : ℕ) (indent returned : Bool) → i < length text → IsCounting kind text i 0 indent returned →
+    true ≡ begins_counted indent returned (get_or text i 0) → true ≡ is_too_long (with_caret kind text)
+counting-past kind text i indent returned h k e =
     let rest : ℕ = characters_of (is_line_ending_byte (get_or text i 0) || (indent && is_blank_byte (get_or text i 0))) (get_or text i 0 == carriage_return) (drop (i + 1) text) in
     let here : characters_of indent returned (drop i text) ≡ 1 + rest = next text i indent returned h ∙ ap (λ b. weight b + rest) (sym e) in
-    sym (lt-ltb 999 (characters_of false false text) (omega (arith, k, here)))
+    sym (lt-ltb 999 (characters_of false false (with_caret kind text)) (omega (arith, k, here)))
 
-pub counting-end : (text : List ℕ) (i left : ℕ) (indent returned : Bool) → length text ≤ i → IsCounting text i left indent returned → false ≡ is_too_long text
-counting-end text i left indent returned h k =
+pub counting-end : (kind : LabelKind) (text : List ℕ) (i left : ℕ) (indent returned : Bool) → length text ≤ i → IsCounting kind text i left indent returned → false ≡ is_too_long (with_caret kind text)
+counting-end kind text i left indent returned h k =
     let none : characters_of indent returned (drop i text) ≡ 0 = at_drop_all (characters_of indent returned) text i h in
-    sym (le-ltb 999 (characters_of false false text) (omega (arith, k, none)))
+    sym (le-ltb 999 (characters_of false false (with_caret kind text)) (omega (arith, k, none)))

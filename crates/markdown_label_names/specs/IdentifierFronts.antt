@@ -5,7 +5,7 @@ use Rattle.std.specs.Str.{IsCharBoundary}
 use Rattle.markdown_notes.specs.BracketIndex.{counted, has_brackets}
 use Rattle.markdown_notes.specs.declared.name_index.Names.{Names}
 use Rattle.markdown_content.specs.declared.label_kind.LabelKind.{LabelKind}
-use Rattle.markdown_model.specs.LabelEnd.{is_footnote, link_identifier}
+use Rattle.markdown_model.specs.LabelEnd.{is_footnote, with_caret}
 use Rattle.markdown_model.specs.Setting.{Setting, is_defined}
 
 -- both ends of a part of a text stand between characters
@@ -21,7 +21,7 @@ begins_one definitions front = list_any (λ definition. starts_with (◌==◌) d
 
 -- what a label of this kind may stand for begins so
 abbrev pub begins_defined : Setting → LabelKind → List ℕ → Bool
-begins_defined s kind front = (is_footnote kind && begins_one s.footnotes front) || begins_one s.definitions (link_identifier kind front)
+begins_defined s kind front = (is_footnote kind && begins_one s.footnotes front) || begins_one s.definitions (with_caret kind front)
 
 -- it is known that none of these names that a label of this kind, from an index of the document to another, may stand for has as many
 -- opening brackets as that part of the document
@@ -32,4 +32,4 @@ lacks_count names kind from to =
 -- nothing is defined that a label of this kind with this identifier may stand for
 pub record IsUnknown (s : Setting) (kind : LabelKind) (name : List ℕ) : Type 0 where
   pub call : is_footnote kind && is_defined s.footnotes name ≡ false
-  pub link : is_defined s.definitions (link_identifier kind name) ≡ false
+  pub link : is_defined s.definitions (with_caret kind name) ≡ false

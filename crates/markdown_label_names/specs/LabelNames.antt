@@ -8,14 +8,17 @@ use Rattle.markdown_event.specs.declared.event.Event.{Event}
 use Rattle.markdown_event.specs.declared.event.Point.{Point}
 use Rattle.markdown_engine.specs.declared.tokenizer.Tokenizer.{Tokenizer}
 use Rattle.markdown_plan.specs.Characters.{bytes_of}
-use Rattle.markdown_model.specs.LabelEnd.{is_footnote, label_name, link_identifier, name_between}
-use Rattle.markdown_model.specs.Setting.{Setting, defines, is_defined}
+use Rattle.markdown_model.specs.LabelEnd.{is_footnote, label_name, name_between, names_definition, names_footnote}
+use Rattle.markdown_model.specs.Setting.{Setting}
 use Rattle.markdown_label_names.specs.LabelSetting.{setting_in, IsListed}
 
 -- whether a label of this kind with this identifier is defined as a link's, and none where it is a footnote call
-abbrev pub link_as : Setting → LabelKind → List ℕ → Option Bool
-link_as s kind name =
-    if is_footnote kind && is_defined s.footnotes name then None else Some (defines s (link_identifier kind name))
+abbrev pub link_as : Setting → LabelKind → Option (List ℕ) → Option Bool
+link_as s kind name = if is_footnote kind && names_footnote s name then None else Some (names_definition s kind name)
+
+-- a label without a caret, whose text this is, names a definition itself
+abbrev pub names_itself : Setting → ℕ → ℕ → Bool
+names_itself s from to = names_definition s LabelKind.Link (label_name s LabelKind.Link from to)
 
 abbrev pub point_or : Option Event → Point
 point_or None = document_start
@@ -29,9 +32,9 @@ place_at es n = point_or (slice_get es n)
 abbrev pub identifier_between : Tokenizer → ℕ → ℕ → List ℕ
 identifier_between T m n = name_between (setting_in T) (place_at T.events m).index (place_at T.events n).index
 
--- that of a label itself whose text this is
-abbrev pub label_between : Tokenizer → ℕ → ℕ → List ℕ
-label_between T m n = label_name (setting_in T) (place_at T.events m).index (place_at T.events n).index
+-- that of a label of this kind itself whose text this is
+abbrev pub label_between : Tokenizer → LabelKind → ℕ → ℕ → Option (List ℕ)
+label_between T kind m n = label_name (setting_in T) kind (place_at T.events m).index (place_at T.events n).index
 
 -- When the bytes between two events are whole characters.
 

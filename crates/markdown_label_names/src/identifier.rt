@@ -1,17 +1,17 @@
 //! Identifiers of labels.
 #![tactic(auto)]
 
-ghost use Rattle.std.specs.Prelude.{◌≡◌, map, ◌&&◌, string_bytes, IfOk, IfSome, OnOk, OnErr, IsTrue, false};
+ghost use Rattle.std.specs.Prelude.{◌≡◌, map, string_bytes, IfOk, IfSome, OnOk, OnErr, IsTrue, Some, false};
 ghost use Rattle.std.specs.List.{list_any};
 ghost use Rattle.std.specs.Str.{bytes_eq};
 ghost use Rattle.markdown_plan.specs.Characters.{bytes_of};
 ghost use Rattle.markdown_content.specs.PlaceInDocument.{IsPlaceOf};
 ghost use Rattle.markdown_label_names.specs.LabelNames.{AreAround};
 ghost use Rattle.markdown_label_names.specs.IdentifierFronts.{AreCuts};
-ghost use Rattle.markdown_label_names.specs.LabelNames.{identifier_between, label_between, link_as};
+ghost use Rattle.markdown_label_names.specs.LabelNames.{identifier_between, label_between, link_as, names_itself};
 ghost use Rattle.markdown_label_names.specs.LabelSetting.{setting_in, IsListed};
-ghost use Rattle.markdown_model.specs.LabelEnd.{is_footnote, label_name, link_identifier, name_between, no_name};
-ghost use Rattle.markdown_model.specs.Setting.{brackets_are_escaped, defines, is_defined, is_of_label, rules};
+ghost use Rattle.markdown_model.specs.LabelEnd.{is_footnote, label_name, name_between, with_caret};
+ghost use Rattle.markdown_model.specs.Setting.{brackets_are_escaped, defines, is_defined, is_of_label};
 
 use crate::label_text::{is_whole, label_name, name_between};
 use crate::lookup::{is_ruled_out, letters_end};
@@ -48,7 +48,7 @@ pub(crate) fn link_identifier(
     kind: LabelKind,
     name: &str,
 ) -> Result<String, AllocError>
-    ensures { IfOk result (λ text. string_bytes text ≡ link_identifier kind name.now) }
+    ensures { IfOk result (λ text. string_bytes text ≡ with_caret kind name.now) }
 {
     let mut text = String::new(alloc);
     if is_footnote(kind) {
@@ -116,7 +116,7 @@ fn names_definition(tokenizer: &Tokenizer, name: &str) -> bool
 // Whether a label of this kind with this identifier is defined as a link's. `None` where it is a footnote call.
 fn link_as(tokenizer: &Tokenizer, kind: LabelKind, name: &str) -> Result<Option<bool>, AllocError>
     requires { IsListed tokenizer.now }
-    ensures { IfOk result (λ link. link ≡ link_as (setting_in tokenizer.now) kind name.now) }
+    ensures { IfOk result (λ link. link ≡ link_as (setting_in tokenizer.now) kind (Some name.now)) }
 {
     if !is_footnote(kind) {
         return Ok(Some(names_definition(tokenizer, name)));
@@ -126,20 +126,6 @@ fn link_as(tokenizer: &Tokenizer, kind: LabelKind, name: &str) -> Result<Option<
     }
     let text = link_identifier(tokenizer.alloc, kind, name)?;
     Ok(Some(names_definition(tokenizer, text.as_str())))
-}
-
-// Whether a footnote is called by a label that is too long.
-fn calls_without_name(tokenizer: &Tokenizer, kind: LabelKind) -> bool
-    requires { IsListed tokenizer.now }
-    ensures { result ≡ (rules (setting_in tokenizer.now)).definitions_have_labels && (is_footnote kind && is_defined (setting_in tokenizer.now).footnotes no_name) }
-{
-    tokenizer
-        .parse_state
-        .options
-        .rules()
-        .definitions_have_labels
-        && is_footnote(kind)
-        && names_footnote(tokenizer, "[")
 }
 
 // As `link_as`, of the label whose text goes from an index to another.
@@ -152,13 +138,15 @@ fn link_from(
     requires cuts { AreCuts (bytes_of tokenizer.now) start end }
     requires listed { IsListed tokenizer.now }
     requires own { IsPlaceOf (bytes_of tokenizer.now) tokenizer.now.cursor }
-    ensures { IfOk result (λ link. link ≡ link_as (setting_in tokenizer.now) kind (label_name (setting_in tokenizer.now) start end)) }
+    ensures { IfOk result (λ link. link ≡ link_as (setting_in tokenizer.now) kind (label_name (setting_in tokenizer.now) kind start end)) }
 {
-    if !calls_without_name(tokenizer, kind) && is_ruled_out(tokenizer, kind, start, end)? {
+    if is_ruled_out(tokenizer, kind, start, end)? {
         return Ok(Some(false));
     }
-    let name = label_name(tokenizer, start, end)?;
-    link_as(tokenizer, kind, name.as_str())
+    match label_name(tokenizer, kind, start, end)? {
+        Some(name) => link_as(tokenizer, kind, name.as_str()),
+        None => Ok(Some(false)),
+    }
 }
 
 /// Answers whether a label of this kind, whose text stands between two events that are given by their numbers, is defined as a link's; `None` where it
@@ -172,7 +160,7 @@ pub fn link_between(
     to: usize,
 ) -> Result<Option<bool>, AllocError>
     requires { AreAround tokenizer.old from to }
-    ensures link { IfOk result (λ link. link ≡ link_as (setting_in tokenizer.old) kind (label_between tokenizer.old from to)) }
+    ensures link { IfOk result (λ link. link ≡ link_as (setting_in tokenizer.old) kind (label_between tokenizer.old kind from to)) }
     ensures same { OnOk result (tokenizer.new ≡ tokenizer.old) }
     ensures err { OnErr result (IsTrue tokenizer.new.failed) }
 {
@@ -238,7 +226,7 @@ fn is_label_within(tokenizer: &Tokenizer, start: usize, end: usize) -> Result<bo
     requires cuts { AreCuts (bytes_of tokenizer.now) start end }
     requires listed { IsListed tokenizer.now }
     requires own { IsPlaceOf (bytes_of tokenizer.now) tokenizer.now.cursor }
-    ensures { IfOk result (λ defined. defined ≡ defines (setting_in tokenizer.now) (label_name (setting_in tokenizer.now) start end)) }
+    ensures { IfOk result (λ defined. defined ≡ names_itself (setting_in tokenizer.now) start end) }
 {
     if !tokenizer
         .parse_state
@@ -264,7 +252,7 @@ pub fn is_label_from(
     requires cuts { AreCuts (bytes_of tokenizer.old) start end }
     requires listed { IsListed tokenizer.old }
     requires own { IsPlaceOf (bytes_of tokenizer.old) tokenizer.old.cursor }
-    ensures defined { IfOk result (λ defined. defined ≡ defines (setting_in tokenizer.old) (label_name (setting_in tokenizer.old) start end)) }
+    ensures defined { IfOk result (λ defined. defined ≡ names_itself (setting_in tokenizer.old) start end) }
     ensures same { OnOk result (tokenizer.new ≡ tokenizer.old) }
     ensures err { OnErr result (IsTrue tokenizer.new.failed) }
 {

@@ -1,21 +1,22 @@
 //! The texts of labels, and their identifiers: by CommonMark a text is the content's, so what the content leaves out is no part of it.
 #![tactic(auto)]
 
-ghost use Rattle.std.specs.Prelude.{◌≡◌, IfOk, IsTrue, IsUtf8, false, slice_range, string_bytes, true};
+ghost use Rattle.std.specs.Prelude.{◌≡◌, IfOk, IsTrue, IsUtf8, false, option_map, slice_range, string_bytes, true};
 ghost use Rattle.markdown_content.specs.Codes.{is_line_ending_byte};
 ghost use Rattle.markdown_content.specs.PlaceInDocument.{IsPlaceOf};
 ghost use Rattle.markdown_plan.specs.Characters.{bytes_of};
 ghost use Rattle.markdown_label_names.specs.IdentifierFronts.{AreCuts};
 ghost use Rattle.markdown_label_names.specs.LabelSetting.{setting_in};
-ghost use Rattle.markdown_model.specs.LabelEnd.{begins_counted, is_blank_byte, is_too_long, label_name, name_between, text_between};
+ghost use Rattle.markdown_model.specs.LabelEnd.{begins_counted, is_blank_byte, is_too_long, label_name, name_between, text_between, with_caret};
 ghost use Rattle.markdown_model.specs.Setting.{rules};
 
+use crate::identifier::is_footnote;
 use markdown_content::util::slice::Slice;
-use markdown_engine::tokenizer::Tokenizer;
+use markdown_engine::tokenizer::{LabelKind, Tokenizer};
 use markdown_util::util::normalize_identifier::identifier_by;
 use std::alloc::AllocError;
 
-// How many characters a link label has at most.
+// How many characters stand between the brackets of a link label at most.
 const MOST: usize = 999;
 
 // Whether the text from an index to another is that part of the document, so that no content leaves out any of it.
@@ -92,11 +93,11 @@ fn begins_counted(indent: bool, returned: bool, byte: u8) -> bool
     !(indent && is_blank(byte)) && !(128..192).contains(&byte)
 }
 
-// Whether a text is too long for a link label.
-fn is_too_long(text: &[u8]) -> bool
-    ensures { result ≡ is_too_long text.now }
+// Whether the text of a label of this kind is too long for a link label. The caret of a footnote start counts too.
+fn is_too_long(kind: LabelKind, text: &[u8]) -> bool
+    ensures { result ≡ is_too_long (with_caret kind text.now) }
 {
-    let mut left = MOST;
+    let mut left = MOST - usize::from(is_footnote(kind));
     let mut indent = false;
     let mut returned = false;
     for &byte in text {
@@ -112,37 +113,43 @@ fn is_too_long(text: &[u8]) -> bool
     false
 }
 
-// Whether the text from an index to another is too long for a link label.
-fn has_long_text(tokenizer: &Tokenizer, start: usize, end: usize) -> Result<bool, AllocError>
+// Whether the text of a label of this kind, from an index to another, is too long for a link label.
+fn has_long_text(
+    tokenizer: &Tokenizer,
+    kind: LabelKind,
+    start: usize,
+    end: usize,
+) -> Result<bool, AllocError>
     requires { AreCuts (bytes_of tokenizer.now) start end }
-    ensures { IfOk result (λ long. long ≡ is_too_long (text_between (setting_in tokenizer.now) start end)) }
+    ensures { IfOk result (λ long. long ≡ is_too_long (with_caret kind (text_between (setting_in tokenizer.now) start end))) }
 {
     if is_whole(tokenizer, start, end) {
         let between = Slice::from_indices(tokenizer.parse_state.bytes, start, end);
-        return Ok(is_too_long(between.bytes));
+        return Ok(is_too_long(kind, between.bytes));
     }
     let text = joined(tokenizer, start, end)?;
-    Ok(is_too_long(text.as_slice()))
+    Ok(is_too_long(kind, text.as_slice()))
 }
 
-// The identifier of a label that stands for itself, whose text goes from an index to another: that of a bracket, which no definition has, where it is too
-// long for a link label.
+// The identifier of a label of this kind itself, whose text goes from an index to another. `None` where it is too long for a link label.
 pub(crate) fn label_name(
     tokenizer: &Tokenizer,
+    kind: LabelKind,
     start: usize,
     end: usize,
-) -> Result<String, AllocError>
+) -> Result<Option<String>, AllocError>
     requires cuts { AreCuts (bytes_of tokenizer.now) start end }
     requires own { IsPlaceOf (bytes_of tokenizer.now) tokenizer.now.cursor }
-    ensures { IfOk result (λ name. string_bytes name ≡ label_name (setting_in tokenizer.now) start end) }
+    ensures { IfOk result (λ name. option_map string_bytes name ≡ label_name (setting_in tokenizer.now) kind start end) }
 {
     let limited = tokenizer
         .parse_state
         .options
         .rules()
         .definitions_have_labels;
-    if limited && has_long_text(tokenizer, start, end)? {
-        return String::from_str(tokenizer.alloc, "[");
+    if limited && has_long_text(tokenizer, kind, start, end)? {
+        return Ok(None);
     }
-    name_between(tokenizer, start, end)
+    let name = name_between(tokenizer, start, end)?;
+    Ok(Some(name))
 }

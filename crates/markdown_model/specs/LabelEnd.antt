@@ -1,5 +1,5 @@
 -- Label ends (CommonMark 6.3 and 6.4; footnote calls): which start a `]` belongs to, and what it makes.
-use Rattle.std.specs.Prelude.{ℕ, zero, suc, ◌+◌, ◌==◌, Bool, true, false, ◌&&◌, ◌||◌, not, nat_lt, if◌then◌else◌, List, [], ◌∷◌, codes, slice_range, Option, Some, None}
+use Rattle.std.specs.Prelude.{ℕ, zero, suc, ◌+◌, ◌==◌, Bool, true, false, ◌&&◌, ◌||◌, not, nat_lt, if◌then◌else◌, List, [], ◌∷◌, slice_range, Option, Some, None}
 use Rattle.std.specs.Str.{byte}
 use Rattle.std.specs.List.{list_any}
 use Rattle.markdown_event.specs.declared.event.Name.{Name}
@@ -92,22 +92,22 @@ characters_of indent returned (b ∷ bs) =
     (if begins_counted indent returned b then 1 else 0)
     + characters_of (is_line_ending_byte b || (indent && is_blank_byte b)) (b == carriage_return) bs
 
--- a text is too long for a link label (CommonMark 6.3)
+-- a text between brackets is too long for a link label (CommonMark 6.3)
 abbrev pub is_too_long : List ℕ → Bool
 is_too_long text = nat_lt 999 (characters_of false false text)
 
--- the identifier of what is no link label: by CommonMark nothing is defined that has it
-abbrev pub no_name : List ℕ
-no_name = codes "["
+-- with the caret of a footnote start, which stands between the brackets too, before the text of the label
+abbrev pub with_caret : LabelKind → List ℕ → List ℕ
+with_caret kind text = elim (is_footnote kind) [ true ↦ byte "^" ∷ text | false ↦ text ]
 
--- the identifier of the text of a label itself, which by CommonMark has to be a link label
-abbrev pub label_name : Setting → ℕ → ℕ → List ℕ
-label_name s from to =
-    if (rules s).definitions_have_labels && is_too_long (text_between s from to) then no_name else name_between s from to
+-- the identifier of the text of a label itself; none where it is no link label, as by CommonMark it has to be
+abbrev pub label_name : Setting → LabelKind → ℕ → ℕ → Option (List ℕ)
+label_name s kind from to =
+    if (rules s).definitions_have_labels && is_too_long (with_caret kind (text_between s from to)) then None else Some (name_between s from to)
 
 -- a label's own identifier: from the end of its start to its `]`
-unfoldable pub label_identifier : Setting → Label → List Code → List ℕ
-label_identifier s l back = label_name s (stop_of document_start l.marker).index (start_of back).index
+unfoldable pub label_identifier : Setting → Label → List Code → Option (List ℕ)
+label_identifier s l back = label_name s l.kind (stop_of document_start l.marker).index (start_of back).index
 
 -- a full reference's: that of its text, from Enter to Exit
 unfoldable pub reference_identifier : Setting → Forest → List ℕ
@@ -152,20 +152,26 @@ after_label s defined =
     (shortcut defined))
 
 -- Outcomes. A footnote start with a defined footnote makes a call, and nothing follows it. With an
--- undefined one it is a link's start, and its caret stands before the identifier.
+-- undefined one it is a link's start, and its caret stands before the identifier. A label without an
+-- identifier names nothing.
 
 abbrev pub link_kind : LabelKind → LabelKind
 link_kind kind = elim (is_footnote kind) [ true ↦ LabelKind.GfmUndefinedFootnote | false ↦ kind ]
 
-abbrev pub link_identifier : LabelKind → List ℕ → List ℕ
-link_identifier kind name = elim (is_footnote kind) [ true ↦ byte "^" ∷ name | false ↦ name ]
+abbrev pub names_footnote : Setting → Option (List ℕ) → Bool
+names_footnote s None = false
+names_footnote s (Some name) = is_defined s.footnotes name
+
+abbrev pub names_definition : Setting → LabelKind → Option (List ℕ) → Bool
+names_definition s kind None = false
+names_definition s kind (Some name) = defines s (with_caret kind name)
 
 unfoldable pub footnote_call : Setting → Label → List Code → Reading (LabelKind × Forest)
-footnote_call s l back = provided (is_footnote l.kind && is_defined s.footnotes (label_identifier s l back)) >> gives (LabelKind.GfmFootnote, empty)
+footnote_call s l back = provided (is_footnote l.kind && names_footnote s (label_identifier s l back)) >> gives (LabelKind.GfmFootnote, empty)
 
 unfoldable pub link_or_image : Setting → Label → List Code → Reading (LabelKind × Forest)
 link_or_image s l back = do
-  tail ← after_label s (defines s (link_identifier l.kind (label_identifier s l back)))
+  tail ← after_label s (names_definition s l.kind (label_identifier s l back))
   gives (link_kind l.kind, tail)
 
 -- what the end `back` of a label makes, with what follows it

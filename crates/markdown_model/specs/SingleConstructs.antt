@@ -17,10 +17,10 @@ use Rattle.markdown_model.specs.CodeTests.{is_value}
 use Rattle.markdown_model.specs.Elements.{switched, attention_run, label_start_image, gfm_label_start_footnote, label_start_link}
 use Rattle.markdown_model.specs.Grammar.{Reading, ◌>>=◌, ◌>>◌, gives, either, provided, one}
 use Rattle.markdown_model.specs.HtmlText.{html_text}
-use Rattle.markdown_model.specs.LabelEnd.{Element, plain, starts, ends, is_footnote, label_name, after_label, link_kind, link_identifier}
+use Rattle.markdown_model.specs.LabelEnd.{Element, plain, starts, ends, is_footnote, label_name, after_label, link_kind, names_footnote, names_definition}
 use Rattle.markdown_model.specs.LeafConstructs.{character_escape, hard_break_escape, character_reference, span_here, code_names, math_names, autolink, gfm_task_list_item_check}
 use Rattle.markdown_model.specs.GfmAutolinkLiteral.{gfm_autolink_literal_protocol, gfm_autolink_literal_www}
-use Rattle.markdown_model.specs.Setting.{Setting, defines, is_defined}
+use Rattle.markdown_model.specs.Setting.{Setting}
 
 -- Whether an escape ends right before the place, by the events before.
 
@@ -115,16 +115,16 @@ pub record WaitingStart : Type 0 where
   pub barred : Bool
 
 -- what an end makes, by the kind of its start and the identifier of its label, where the start is not barred
-unfoldable pub outcome : Setting → LabelKind → List ℕ → Reading (LabelKind × Forest)
+unfoldable pub outcome : Setting → LabelKind → Option (List ℕ) → Reading (LabelKind × Forest)
 outcome s kind name =
     either
-    (provided (is_footnote kind && is_defined s.footnotes name) >> gives (LabelKind.GfmFootnote, empty))
-    (after_label s (defines s (link_identifier kind name)) >>= λ tail. gives (link_kind kind, tail))
+    (provided (is_footnote kind && names_footnote s name) >> gives (LabelKind.GfmFootnote, empty))
+    (after_label s (names_definition s kind name) >>= λ tail. gives (link_kind kind, tail))
 
 -- what an end makes whose `]` this is
 abbrev pub outcome_at : Setting → Option WaitingStart → List Code → Reading (LabelKind × Forest)
 outcome_at s None back cs = None
-outcome_at s (Some l) back cs = (provided (not l.barred) >> outcome s l.kind (label_name s l.stop.index (start_of back).index)) cs
+outcome_at s (Some l) back cs = (provided (not l.barred) >> outcome s l.kind (label_name s l.kind l.stop.index (start_of back).index)) cs
 
 -- the end's `]`, and what it makes with what follows it
 abbrev pub label_end_here : Setting → Option WaitingStart → Reading (List Code × (LabelKind × Forest))

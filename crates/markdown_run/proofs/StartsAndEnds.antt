@@ -97,7 +97,7 @@ unfolding outcome
 covers-outcome-at s None back = record { at = λ cs. tt }
 covers-outcome-at s (Some l) back = record { at = λ cs. (inside).at cs }
   where
-    inside : Covers outcome_codes [] (provided (not l.barred) >> outcome s l.kind (label_name s l.stop.index (start_of back).index))
+    inside : Covers outcome_codes [] (provided (not l.barred) >> outcome s l.kind (label_name s l.kind l.stop.index (start_of back).index))
     inside =
         if_passed outcome_codes [] (not l.barred) _
         (one_of outcome_codes [] _ _ (if_passed outcome_codes [] _ _ (given outcome_codes [] (LabelKind.GfmFootnote, empty) refl))

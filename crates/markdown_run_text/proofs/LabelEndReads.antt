@@ -1,5 +1,5 @@
 -- The end of a label is read as the definitions read it, where it is read what follows its `]`.
-use Rattle.std.proofs.Common.{◌≡◌, ℕ, ◌&&◌, not, Bool, true, false, List, [], ◌∷◌, ◌++◌, None, Some, refl, sym, ap, ◌∙◌}
+use Rattle.std.proofs.Common.{◌≡◌, ℕ, ◌&&◌, not, Bool, true, false, List, [], ◌∷◌, ◌++◌, Option, None, Some, refl, sym, ap, ◌∙◌}
 use Rattle.std.proofs.lemmas.Bool.{not-true}
 use Rattle.markdown_content.specs.Codes.{Code}
 use Rattle.markdown_content.specs.Tree.{Forest, leaf, leaf_codes}
@@ -13,7 +13,7 @@ use Rattle.markdown_engine.proofs.ReadingSequences.{scratched-same}
 use Rattle.markdown_engine.proofs.SolidTrees.{IsSolid-group, IsSolid-leaf}
 use Rattle.markdown_engine.proofs.TreeEvents.{ahead-past, ops-past}
 use Rattle.markdown_label.specs.LabelEnd.{Ends, end_made, end_ops, end_tree, ended, is_on, kind_set, made, made_here, outcome_by, starts_set}
-use Rattle.markdown_label_names.specs.LabelNames.{place_at}
+use Rattle.markdown_label_names.specs.LabelNames.{names_itself, place_at}
 use Rattle.markdown_label.specs.LabelFields.{bars, with_kind}
 use Rattle.markdown_label_names.specs.LabelSetting.{setting_in}
 use Rattle.markdown_label.proofs.LabelEndLemmas.{ahead-made}
@@ -21,8 +21,8 @@ use Rattle.markdown_label.proofs.LabelEndReadings.{outcome-tail}
 use Rattle.markdown_label.proofs.LabelEndStartLaw.{reading-at}
 use Rattle.markdown_model.specs.CodeTests.{is_value}
 use Rattle.markdown_model.specs.Grammar.{gives}
-use Rattle.markdown_model.specs.LabelEnd.{after_label, is_footnote, is_image, label_name, link_identifier, link_kind}
-use Rattle.markdown_model.specs.Setting.{Setting, defines, is_defined}
+use Rattle.markdown_model.specs.LabelEnd.{after_label, is_footnote, is_image, label_name, link_kind, names_definition, names_footnote}
+use Rattle.markdown_model.specs.Setting.{Setting}
 use Rattle.markdown_model.specs.SingleConstructs.{outcome}
 use Rattle.markdown_model.proofs.GrammarSteps.{bind-some, switched-on}
 use Rattle.markdown_partial.specs.LinkedTreeOps.{linked_ops}
@@ -64,11 +64,18 @@ takes-by LabelKind.GfmFootnote inactive h = cc
 takes : (l : Kept.LabelStart) → takes_resource l.kind l.inactive ≡ true → TakesStart l
 takes l h = let p = takes-by l.kind l.inactive h in record { active = p.0; plain = p.1.0; same = p.1.1 }
 
+-- without a caret the kind is no part of what the label names itself
+itself-by : (kind : LabelKind) (s : Setting) (from to : ℕ) → is_footnote kind ≡ false →
+    names_definition s kind (label_name s kind from to) ≡ names_itself s from to
+itself-by LabelKind.Image s from to h = refl
+itself-by LabelKind.Link s from to h = refl
+itself-by LabelKind.GfmUndefinedFootnote s from to h = refl
+itself-by LabelKind.GfmFootnote s from to h = cc
+
 -- the label of the last of these starts, whose `]` this is, is defined, if that is asked for
 abbrev pub AnswersBy : Tokenizer → Bool → Code → List Kept.LabelStart → Type 0
 AnswersBy T asks x [] = Unit {0}
-AnswersBy T asks x (l ∷ ls) =
-    asks ≡ true → defines (setting_in T) (label_name (setting_in T) (place_at T.events l.start.1).index x.start.index) ≡ true
+AnswersBy T asks x (l ∷ ls) = asks ≡ true → names_itself (setting_in T) (place_at T.events l.start.1).index x.start.index ≡ true
 
 -- nothing is asked of the label
 pub asks-nothing : (T : Tokenizer) (x : Code) (ls : List Kept.LabelStart) → AnswersBy T false x ls
@@ -99,22 +106,22 @@ module _ (T : Tokenizer) (asks : Bool) (read : Tokenizer → Tokenizer) (x : Cod
     abbrev s : Setting
     s = setting_in T
 
-    abbrev name : List ℕ
-    name = label_name s (place_at T.events l.start.1).index x.start.index
+    abbrev name : Option (List ℕ)
+    name = label_name s l.kind (place_at T.events l.start.1).index x.start.index
 
     -- the label is defined, if that is asked for
     abbrev Answers : Type 0
-    Answers = asks ≡ true → defines s name ≡ true
+    Answers = asks ≡ true → names_itself s (place_at T.events l.start.1).index x.start.index ≡ true
 
-    named : Answers → asks ≡ true → defines s (link_identifier l.kind name) ≡ true
-    named a h = ap (λ b. defines s (elim b [ true ↦ 94 ∷ name | false ↦ name ])) takes.plain ∙ a h
+    named : Answers → asks ≡ true → names_definition s l.kind name ≡ true
+    named a h = itself-by l.kind s (place_at T.events l.start.1).index x.start.index takes.plain ∙ a h
 
     outcome-is : Answers → outcome_by T.tokenize_state.label_starts T (x ∷ []) later ≡ Some ((link_kind l.kind, k.tree), k.rest)
     outcome-is a =
         ap (λ y. outcome_by y T (x ∷ []) later) top
         ∙ switched-on (outcome s l.kind name) (not (bars l)) later (ap not takes.active)
-        ∙ outcome-tail s l.kind name later k.tree k.rest (ap (λ z. z && is_defined s.footnotes name) takes.plain)
-        (k.holds (defines s (link_identifier l.kind name)) (named a))
+        ∙ outcome-tail s l.kind name later k.tree k.rest (ap (λ z. z && names_footnote s name) takes.plain)
+        (k.holds (names_definition s l.kind name) (named a))
 
     starts-there : P.tokenize_state.label_starts ≡ l ∷ ls
     unfolding past scratched

@@ -21,9 +21,9 @@ use Rattle.markdown_label.proofs.LabelEndLemmas.{cursor-before}
 use Rattle.markdown_label.proofs.AfterLabelSound.{tails-are-sound}
 use Rattle.markdown_model.specs.CodeTests.{is_value}
 use Rattle.markdown_model.specs.Grammar.{Reading, ◌>>=◌, ◌>>◌, gives, provided, one}
-use Rattle.markdown_model.specs.LabelEnd.{is_footnote, link_kind}
+use Rattle.markdown_model.specs.LabelEnd.{is_footnote, link_kind, names_footnote}
 use Rattle.markdown_model.specs.Passes.{start_tree}
-use Rattle.markdown_model.specs.Setting.{Setting, is_defined}
+use Rattle.markdown_model.specs.Setting.{Setting}
 use Rattle.markdown_model.proofs.NoLinkInConstructs.{PassesValue, Yields, yields_bind, yields_gives, yields_passed, yields_either}
 use Rattle.markdown_model.proofs.GrammarSteps.{switched-off}
 use Rattle.markdown_run_text.specs.Row.{begins, past_mark, kinds_of, IsStartMarker, IsMade}
@@ -103,15 +103,15 @@ call-kind : (start : LabelKind) (b : Bool) → is_footnote start && b ≡ true �
 call-kind LabelKind.GfmFootnote b e = refl
 call-kind _ b e = cc
 
-outcome-is : (s : Setting) (start : LabelKind) (name : List ℕ) → Yields (IsOutcome start) (outcome s start name)
+outcome-is : (s : Setting) (start : LabelKind) (name : Option (List ℕ)) → Yields (IsOutcome start) (outcome s start name)
 unfolding outcome
 outcome-is s start name =
-    yields_either _ _ _ (call (is_footnote start && is_defined s.footnotes name) refl)
+    yields_either _ _ _ (call (is_footnote start && names_footnote s name) refl)
     (yields_bind (λ t. IsQuiet false t) _ _ _ (quiet_after_label s _) λ tail k. yields_gives _ _ (inr refl, runless-quiet tail k))
   where
-    call : (b : Bool) → is_footnote start && is_defined s.footnotes name ≡ b →
+    call : (b : Bool) → is_footnote start && names_footnote s name ≡ b →
         Yields (IsOutcome start) (provided b >> gives (LabelKind.GfmFootnote, empty))
-    call true e = yields_passed _ _ _ (yields_gives _ _ (inl (call-kind start (is_defined s.footnotes name) e), tt))
+    call true e = yields_passed _ _ _ (yields_gives _ _ (inl (call-kind start (names_footnote s name) e), tt))
     call false e = record { at = λ cs. subst (λ o. PassesValue (IsOutcome start) o) (sym (switched-off _ false cs refl)) tt }
 
 -- the outcome of an end is that of the last start

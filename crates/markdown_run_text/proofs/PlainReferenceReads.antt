@@ -25,12 +25,12 @@ use Rattle.markdown_engine.proofs.PlaceAfterCodes.{stop-moved}
 use Rattle.markdown_label_names.specs.IdentifierFronts.{AreCuts}
 use Rattle.markdown_label.specs.LabelEnd.{AllEndBetween, Ends, EndsBetween, LabelEndStartReady, end_ops, ended, is_on, made_here}
 use Rattle.markdown_label_names.proofs.BytesBetween.{max-between}
-use Rattle.markdown_label_names.specs.LabelNames.{place_at}
+use Rattle.markdown_label_names.specs.LabelNames.{names_itself, place_at}
 use Rattle.markdown_label_names.specs.LabelSetting.{setting_in}
 use Rattle.markdown_label.proofs.LabelEndReadings.{after-bracket, after-other, full-first}
 use Rattle.markdown_model.specs.CodeTests.{is_among, is_between, is_value, is_whitespace_code, next_is}
 use Rattle.markdown_model.specs.Grammar.{gives, one, up_to}
-use Rattle.markdown_model.specs.LabelEnd.{full_reference, label_name, name_between, reference_identifier, shortcut}
+use Rattle.markdown_model.specs.LabelEnd.{full_reference, name_between, names_definition, reference_identifier, shortcut}
 use Rattle.markdown_model.specs.Resource.{begins_character, counted, label, reference_names, string_group}
 use Rattle.markdown_model.specs.Setting.{Setting, defines, rules}
 use Rattle.markdown_model.proofs.GrammarSteps.{after-some, bind-some, if-false, if-true, one-here, provided-true, switched-on}
@@ -232,9 +232,9 @@ module _ (T : Tokenizer) (ready : LabelEndStartReady T) (here : is_some_value 93
         (subst (λ (q : Point). IsCharBoundary (bytes_of T) q.index) (sym (point_ahead p a.code _ a.codes)) begins)
         start end from to
 
-    pub named-is : defines (setting_in T) (label_name (setting_in T) start end) ≡ is_named T.tokenize_state.label_starts T
+    pub named-is : names_itself (setting_in T) start end ≡ is_named T.tokenize_state.label_starts T
     named-is =
-        ap (defines (setting_in T)) (label-between (setting_in T) (place_at T.events l.start.1).index (point_of T.cursor).index start end from to)
+        ap (names_definition (setting_in T) LabelKind.Link) (label-between (setting_in T) LabelKind.Link (place_at T.events l.start.1).index (point_of T.cursor).index start end from to)
         ∙ sym (ap (λ ks. is_named ks T) top)
 
 -- By what stands behind the `]`.
@@ -266,7 +266,7 @@ full-here T front h =
 own-answers : (T : Tokenizer) (x : Code) → point_of T.cursor ≡ x.start → (ls : List Kept.LabelStart) → is_named ls T ≡ true → AnswersBy T true x ls
 own-answers T x e [] h = tt
 own-answers T x e (l ∷ ls) h = λ asked.
-    sym (ap (λ (q : Point). defines (setting_in T) (label_name (setting_in T) (place_at T.events l.start.1).index q.index)) e) ∙ h
+    sym (ap (λ (q : Point). names_itself (setting_in T) (place_at T.events l.start.1).index q.index) e) ∙ h
 
 -- where one stands, it is read
 pub reference-ends : (T U : Tokenizer) → reference_here T ≡ true → U ≡ made_here (reference_read (done end_ops (ended T))) → Ends T U

@@ -1,10 +1,11 @@
 -- The text from one index to another is that up to the later of the two: where the second is not behind the first, it is empty.
-use Rattle.std.proofs.Common.{◌≡◌, ℕ, zero, suc, ◌-◌, ◌++◌, Bool, true, false, if◌then◌else◌, ◌&&◌, List, [], ◌∷◌, take, drop, slice_range, refl, sym, ap, ◌∙◌, arith}
+use Rattle.std.proofs.Common.{◌≡◌, ℕ, zero, suc, ◌-◌, ◌++◌, Bool, true, false, if◌then◌else◌, ◌&&◌, List, [], ◌∷◌, None, Some, take, drop, slice_range, refl, sym, ap, ◌∙◌, arith}
 use Rattle.std.specs.Prelude.{max, min}
 use Rattle.std.proofs.Math.Nat.{le-max_left, min-le_left, sub-add-eq-max}
 use Rattle.markdown_content.specs.Codes.{Code}
 use Rattle.markdown_content.specs.ContentBytes.{bytes_of_code, bytes_within}
-use Rattle.markdown_model.specs.LabelEnd.{is_too_long, label_name, name_between, no_name, text_between}
+use Rattle.markdown_content.specs.declared.label_kind.LabelKind.{LabelKind}
+use Rattle.markdown_model.specs.LabelEnd.{is_too_long, label_name, name_between, text_between, with_caret}
 use Rattle.markdown_model.specs.Setting.{Setting, rules}
 use Rattle.markdown_util.specs.Identifier.{identifier_by}
 
@@ -39,7 +40,7 @@ pub name-between : (s : Setting) (i j start end : ℕ) → start ≡ i → end �
     name_between s start end ≡ name_between s i j
 name-between s i j start end e h = ap (identifier_by (rules s).nul_is_replaced) (text-between s i j start end e h)
 
-pub label-between : (s : Setting) (i j start end : ℕ) → start ≡ i → end ≡ max j start →
-    label_name s start end ≡ label_name s i j
-label-between s i j start end e h =
-    ap (λ text. if (rules s).definitions_have_labels && is_too_long text then no_name else identifier_by (rules s).nul_is_replaced text) (text-between s i j start end e h)
+pub label-between : (s : Setting) (kind : LabelKind) (i j start end : ℕ) → start ≡ i → end ≡ max j start →
+    label_name s kind start end ≡ label_name s kind i j
+label-between s kind i j start end e h =
+    ap (λ text. if (rules s).definitions_have_labels && is_too_long (with_caret kind text) then None else Some (identifier_by (rules s).nul_is_replaced text)) (text-between s i j start end e h)

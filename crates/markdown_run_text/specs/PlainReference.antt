@@ -9,9 +9,9 @@ use Rattle.markdown_engine.specs.Operations.{current_of}
 use Rattle.markdown_engine.specs.declared.tokenizer.LabelStart as Kept
 use Rattle.markdown_engine.specs.declared.tokenizer.Tokenizer.{Tokenizer}
 use Rattle.markdown_label.specs.LabelEnd.{is_on}
-use Rattle.markdown_label_names.specs.LabelNames.{place_at}
+use Rattle.markdown_label_names.specs.LabelNames.{names_itself, place_at}
 use Rattle.markdown_label_names.specs.LabelSetting.{setting_in}
-use Rattle.markdown_model.specs.LabelEnd.{label_name, name_between}
+use Rattle.markdown_model.specs.LabelEnd.{name_between}
 use Rattle.markdown_model.specs.Setting.{Setting, defines}
 use Rattle.markdown_run_text.specs.PlacesPassed.{is_some_value}
 use Rattle.markdown_run_text.specs.PlainResource.{between_read, may_make}
@@ -45,8 +45,7 @@ names_at s p = text_at p && defines s (name_at s p)
 -- the label from the last of these starts to the place names a definition itself
 abbrev pub is_named : List Kept.LabelStart → Tokenizer → Bool
 is_named [] T = false
-is_named (l ∷ ls) T =
-    defines (setting_in T) (label_name (setting_in T) (place_at T.events l.start.1).index (point_of T.cursor).index)
+is_named (l ∷ ls) T = names_itself (setting_in T) (place_at T.events l.start.1).index (point_of T.cursor).index
 
 -- by the code behind the `]` at the place: what follows names a definition, or where it cannot, the label does
 abbrev pub refers_by : Option ℕ → Tokenizer → Bool

@@ -14,7 +14,7 @@ link_from-link-requires-clause-cuts c =
 pub returns-clause-link : goal.returns-clause-link
 returns-clause-link c =
     let T : Tokenizer = c.args.tokenizer.now in
-    let name = lent-label T c.args.from c.args.to c.at-start.result c.at.result c.requires c.at-start.ensures c.at.ensures c.max-end.result c.max-end.ensures in
-    subst (λ found. IfOk found (λ link. link ≡ link_as (setting_in T) c.args.kind (label_between T c.args.from c.args.to)))
+    let name = lent-label T c.args.from c.args.to c.at-start.result c.at.result c.requires c.at-start.ensures c.at.ensures c.args.kind c.max-end.result c.max-end.ensures in
+    subst (λ found. IfOk found (λ link. link ≡ link_as (setting_in T) c.args.kind (label_between T c.args.kind c.args.from c.args.to)))
     (sym c.noted.ensures.same)
     (IfOk-weaker c.link_from-link.result _ _ (λ link k. k ∙ ap (link_as (setting_in T) c.args.kind) name) c.link_from-link.ensures)

@@ -10,8 +10,8 @@ loop-byte-init c = omega arith
 
 pub returns-then-left-eq0 : goal.returns-then-left-eq0
 returns-then-left-eq0 c =
-    counting-past c.args.text.now c.loop-byte.byte-index c.loop-byte.indent c.loop-byte.returned c.loop-byte-test.true
-    (subst (λ left. IsCounting c.args.text.now c.loop-byte.byte-index left c.loop-byte.indent c.loop-byte.returned) c.if-left-eq0.true c.loop-byte.invariant)
+    counting-past c.args.kind c.args.text.now c.loop-byte.byte-index c.loop-byte.indent c.loop-byte.returned c.loop-byte-test.true
+    (subst (λ left. IsCounting c.args.kind c.args.text.now c.loop-byte.byte-index left c.loop-byte.indent c.loop-byte.returned) c.if-left-eq0.true c.loop-byte.invariant)
     (sym c.if-begins_counted.true ∙ c.begins_counted.ensures)
 
 pub loop-byte-preserved : goal.loop-byte-preserved
@@ -30,12 +30,12 @@ loop-byte-preserved c =
     ] in
     elim c.if-begins_counted.branch [
       | then-begins_counted+else-left-eq0 w ↦
-          counting-step c.args.text.now i c.loop-byte.left c.if-begins_counted.left c.loop-byte.indent c.loop-byte.returned c.if-is_line_ending.indent true c.loop-byte-test.true c.loop-byte.invariant
+          counting-step c.args.kind c.args.text.now i c.loop-byte.left c.if-begins_counted.left c.loop-byte.indent c.loop-byte.returned c.if-is_line_ending.indent true c.loop-byte-test.true c.loop-byte.invariant
           (sym w.if-begins_counted.true ∙ c.begins_counted.ensures) (omega (arith, w.left-is, w.if-left-eq0.false)) indent
       | else-begins_counted w ↦
-          counting-step c.args.text.now i c.loop-byte.left c.if-begins_counted.left c.loop-byte.indent c.loop-byte.returned c.if-is_line_ending.indent false c.loop-byte-test.true c.loop-byte.invariant
+          counting-step c.args.kind c.args.text.now i c.loop-byte.left c.if-begins_counted.left c.loop-byte.indent c.loop-byte.returned c.if-is_line_ending.indent false c.loop-byte-test.true c.loop-byte.invariant
           (sym w.if-begins_counted.false ∙ c.begins_counted.ensures) (omega (arith, w.left-is)) indent
     ]
 
 pub returns : goal.returns
-returns c = counting-end c.args.text.now c.loop-byte.byte-index c.loop-byte.left c.loop-byte.indent c.loop-byte.returned (omega (arith, c.loop-byte-test.false)) c.loop-byte.invariant
+returns c = counting-end c.args.kind c.args.text.now c.loop-byte.byte-index c.loop-byte.left c.loop-byte.indent c.loop-byte.returned (omega (arith, c.loop-byte-test.false)) c.loop-byte.invariant
