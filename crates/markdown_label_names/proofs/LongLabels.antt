@@ -1,14 +1,26 @@
 -- A count of characters that stops at the limit of a link label.
-use Rattle.std.proofs.Common.{◌≡◌, ◌∙◌, sym, ap, ℕ, ◌+◌, ◌<◌, ◌≤◌, Bool, true, false, ◌&&◌, ◌||◌, ◌==◌, if◌then◌else◌, List, drop, length, get_or, arith}
+use Rattle.std.proofs.Common.{◌≡◌, ◌∙◌, sym, ap, ℕ, ◌+◌, ◌-◌, ◌<◌, ◌≤◌, Bool, true, false, ◌&&◌, ◌||◌, ◌==◌, if◌then◌else◌, List, ◌∷◌, drop, length, get_or, refl, arith}
+use mir.Val.{bool_byte}
 use Rattle.std.proofs.lemmas.Bool.{le-ltb, lt-ltb}
 use Rattle.std.proofs.lemmas.List.{at_drop_all, at_drop_more}
 use Rattle.markdown_content.specs.Codes.{carriage_return, is_line_ending_byte}
 use Rattle.markdown_content.specs.declared.label_kind.LabelKind.{LabelKind}
-use Rattle.markdown_model.specs.LabelEnd.{begins_counted, characters_of, is_blank_byte, is_too_long, with_caret}
+use Rattle.markdown_model.specs.LabelEnd.{begins_counted, characters_of, is_blank_byte, is_footnote, is_too_long, with_caret}
 
 -- so many characters may still come where these are counted
 abbrev pub IsCounting : LabelKind → List ℕ → ℕ → ℕ → Bool → Bool → Type 0
 IsCounting kind text i left indent returned = characters_of false false (with_caret kind text) + left ≡ 999 + characters_of indent returned (drop i text)
+
+-- before the text, the caret of a footnote start alone is counted
+pub counting-start : (kind : LabelKind) (text : List ℕ) (has_caret : Bool) → has_caret ≡ is_footnote kind →
+    IsCounting kind text 0 (999 - bool_byte has_caret) false false
+counting-start kind text has_caret e =
+    ap (λ b. characters_of false false (with_caret kind text) + (999 - bool_byte b)) e ∙ go (is_footnote kind)
+  where
+    go : (b : Bool) →
+        characters_of false false (elim b [ true ↦ 94 ∷ text | false ↦ text ]) + (999 - bool_byte b) ≡ 999 + characters_of false false text
+    go true = let one : characters_of false false (94 ∷ text) ≡ 1 + characters_of false false text = refl in omega (arith, one)
+    go false = omega arith
 
 abbrev pub weight : Bool → ℕ
 weight counts = if counts then 1 else 0

@@ -15,6 +15,7 @@ use Rattle.markdown_content.specs.Content.{has_no_blank_line}
 use Rattle.markdown_content.specs.Place.{Place, ahead_at, code_at, exit_point, moved, point_of}
 use Rattle.markdown_content.specs.Stretch.{is_free, stops, stretch}
 use Rattle.markdown_content.specs.Tree.{Forest, empty, leaf, group, ◌⊕◌}
+use Rattle.markdown_content.specs.declared.label_kind.LabelKind.{LabelKind}
 use Rattle.markdown_event.specs.declared.event.Name.TheVariants as N
 use Rattle.markdown_event.specs.declared.event.Point.{Point}
 use Rattle.markdown_engine.specs.Operations.{ahead, applied, current_of, done, scratched}

@@ -79,7 +79,7 @@ choices = (refl, refl, refl, refl, refl, refl, refl, refl, refl, refl, refl, ref
 
 label_sizes : LabelSizes
 unfolding computed
-label_sizes = (refl, refl, refl, refl, refl, refl, refl, refl, refl, refl)
+label_sizes = (refl, refl, refl, refl, refl, refl, refl, refl, refl, refl, refl, refl, refl, refl, refl, refl, refl, refl, refl, refl, refl)
 
 pub returns : goal.returns
 returns c = (escapes, character_references, whitespace, raw_text, autolinks, html_text, html_tags, task_list_item_checks, emphasis, links, labels, references, footnotes, gfm_autolink_literals, emails, resources, switches, choices, label_sizes)

@@ -1,12 +1,12 @@
 use Rattle.std.proofs.Common.{◌≡◌, ◌∙◌, sym, ap, ◌||◌, ◌&&◌, true, false, get_or, subst, arith}
 use Rattle.markdown_content.specs.Codes.{is_line_ending_byte}
 use Rattle.markdown_model.specs.LabelEnd.{is_blank_byte}
-use Rattle.markdown_label_names.proofs.LongLabels.{counting-end, counting-past, counting-step, IsCounting}
+use Rattle.markdown_label_names.proofs.LongLabels.{counting-end, counting-past, counting-start, counting-step, IsCounting}
 use Rattle.markdown_label_names.proofs.label_text.is_too_long.Goals as goal
 use Rattle.markdown_label_names.proofs.label_text.is_too_long.Goals.{then-begins_counted+else-left-eq0, else-begins_counted, then-is_line_ending, else-is_line_ending+then-indent, else-is_line_ending+else-indent}
 
 pub loop-byte-init : goal.loop-byte-init
-loop-byte-init c = omega arith
+loop-byte-init c = omega (arith, counting-start c.args.kind c.args.text.now c.is_footnote.result c.is_footnote.ensures)
 
 pub returns-then-left-eq0 : goal.returns-then-left-eq0
 returns-then-left-eq0 c =
