@@ -1,11 +1,11 @@
 -- The codes of a content from a place on.
-use Rattle.std.proofs.Common.{ℕ, Bool, true, false, not, ◌&&◌, ◌==◌, ◌≡◌, arith, List, [], ◌∷◌, ◌++◌, filter, refl, sym, ap, subst, ◌∙◌, IsTrue}
+use Rattle.std.proofs.Common.{ℕ, Bool, true, false, not, ◌&&◌, ◌==◌, ◌≡◌, arith, List, [], ◌∷◌, ◌++◌, filter, refl, sym, ap, ◌∙◌, IsTrue}
 use Rattle.std.proofs.lemmas.Bool.{both_ways, and_parts, eqb-true, not-false}
 use Rattle.std.proofs.lemmas.Bool.Decides.{nat_tests}
 use Rattle.markdown_event.specs.declared.event.Point.{Point}
 use Rattle.markdown_content.specs.declared.parser.Piece.{Piece}
 use Rattle.markdown_content.specs.Codes.{Code, codes_of, place_of, point_at, is_at_or_after, is_code_before, is_line_ending}
-use Rattle.markdown_content.specs.Content.{content_of, content_end, piece_codes, is_place, is_piece, are_pieces, ends_line, is_one_line}
+use Rattle.markdown_content.specs.Content.{content_of, content_end, piece_codes, is_place, are_pieces, ends_line}
 use Rattle.markdown_content.specs.DocumentWalk.{codes_after, IsPoint}
 use Rattle.markdown_content.specs.PlaceInDocument.{is_open, codes_in, IsInFirstPiece, IsEntered, EndsLine}
 use Rattle.markdown_content.proofs.PlaceOrder.{is_before, before-self}
@@ -16,12 +16,6 @@ use Rattle.markdown_content.proofs.DocumentPlaces.{stands-point, codes-point, th
 use Rattle.markdown_content.proofs.WalkSteps.{not_past, not_past-back}
 
 -- What the pieces of a content are.
-
--- what the definition says of a piece and those after it
-abbrev is_followed : List ℕ → Piece → List Piece → Bool
-is_followed bytes piece [] = true
-is_followed bytes piece (next ∷ more) =
-    ends_line (piece_codes (codes_of bytes) piece) && (is_at_or_after piece.end next.start && is_one_line bytes piece.end next.start)
 
 pub record IsPieceRow (bytes : List ℕ) (piece : Piece) (rest : List Piece) : Type 0 where
   pub start : is_place bytes piece.start ≡ true

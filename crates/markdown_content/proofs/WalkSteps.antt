@@ -1,15 +1,15 @@
 -- One step of a walk toward a place.
-use Rattle.std.proofs.Common.{ℕ, ◌+◌, ◌-◌, ◌*◌, ◌<◌, ◌≤◌, Bool, true, false, not, ◌&&◌, ◌==◌, ◌≡◌, arith, List, length, sym, ap, subst, ◌∙◌, IsTrue, inl, inr}
+use Rattle.std.proofs.Common.{ℕ, ◌+◌, ◌-◌, ◌*◌, ◌<◌, ◌≤◌, Bool, true, false, not, ◌&&◌, ◌==◌, ◌≡◌, arith, List, length, sym, subst, ◌∙◌, IsTrue, inl, inr}
 use Rattle.std.proofs.lemmas.Bool.{cases_Bool, not-true, not_from_false}
 use Rattle.std.proofs.lemmas.Bool.Decides.{nat_tests}
 use Rattle.markdown_event.specs.declared.event.Point.{Point}
-use Rattle.markdown_content.specs.Codes.{place_of, point_at, is_at_or_after}
+use Rattle.markdown_content.specs.Codes.{place_of, is_at_or_after}
 use Rattle.markdown_content.specs.Content.{is_place}
 use Rattle.markdown_content.specs.DocumentWalk.{IsPoint, next_point}
 use Rattle.markdown_content.proofs.PlaceOrder.{is_before, at_or_after-is, same_place}
 use Rattle.markdown_content.proofs.DocumentCodes.{stop_at}
 use Rattle.markdown_content.proofs.DocumentWalkLemmas.{few-end}
-use Rattle.markdown_content.proofs.DocumentPlaces.{stands-point, there, toward, IsToward, same-pair}
+use Rattle.markdown_content.proofs.DocumentPlaces.{stands-point, there, toward, IsToward}
 
 -- how far a place is from the end of its document, in codes at most
 abbrev pub codes_left_at : List ℕ → Point → ℕ
@@ -59,11 +59,6 @@ stride bytes p at h place forward other =
       | inl k ↦ stride_before bytes p at h place k
       | inr k ↦ absurd (other (same_place (place_of p) at k (not_past (place_of p) at forward)))
     ]
-
--- a place that is reached
-pub reached : (bytes : List ℕ) (p : Point) (at : ℕ × ℕ) → IsPoint bytes p → p.index ≡ at.0 → p.vs ≡ at.1 →
-    p ≡ point_at bytes at
-reached bytes p at h i v = sym h.here ∙ ap (λ (x : ℕ × ℕ). point_at bytes x) (same-pair p.index p.vs at i v)
 
 not_at : (a b c d : ℕ) (r : Bool) → r ≡ not (a == c && b == d) → r ≡ true → (a ≡ c) × (b ≡ d) → ⊥
 not_at a b c d r e h k = grind (arith, nat_tests)

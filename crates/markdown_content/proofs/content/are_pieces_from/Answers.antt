@@ -1,4 +1,4 @@
-use Rattle.std.proofs.Common.{ℕ, ◌-◌, ◌≡◌, ◌≤◌, ◌∙◌, ◌∷◌, ◌&&◌, ◌==◌, [], true, false, List, length, take, take_all, drop, get_or, sym, ap, refl, subst, arith, length-take-le, IsTrue}
+use Rattle.std.proofs.Common.{ℕ, ◌-◌, ◌≡◌, ◌≤◌, ◌∙◌, ◌∷◌, ◌&&◌, ◌==◌, [], true, false, List, length, take, take_all, drop, get_or, sym, ap, refl, arith, length-take-le, IsTrue}
 use borrow.Author.Tests.{eqb-true}
 use Rattle.std.proofs.Math.Bool.{and-true}
 use Rattle.std.proofs.lemmas.Bool.{and_from}
@@ -45,9 +45,7 @@ first-passed bytes (piece ∷ rest) d s some h = record {
 
 last-passed : (bytes : List ℕ) (pieces rest : List Piece) (k : ℕ) (s : Stretch) → length rest ≤ k →
     ArePiecesLeft bytes pieces (drop k rest) s → true ≡ are_pieces bytes pieces
-last-passed bytes pieces rest k s past h =
-    let e : ArePiecesLeft bytes pieces [] s = subst (λ (x : List Piece). ArePiecesLeft bytes pieces x s) (drop_all k rest past) h in
-    sym (and_from (is_piece bytes e.last && true) true (and_from (is_piece bytes e.last) true e.end.piece_is refl) refl) ∙ e.same
+last-passed bytes pieces rest k s past h = grind (arith, drop_all, and_from)
 
 pub is_piece-requires-clause-forward : goal.is_piece-requires-clause-forward
 is_piece-requires-clause-forward c =
@@ -79,9 +77,7 @@ returns-in_default-pass_next c =
     passing-stop c.args.bytes.now c.args.pieces.now rest c.loop-piece.piece-index (record { start = (0, 0); end = (0, 0) }) c.loop-piece.last c.loop-piece-test.true c.loop-piece.invariant c.in_default-pass_next.ensures
 
 pub loop-piece-preserved : goal.loop-piece-preserved
-loop-piece-preserved c =
-    let rest : List Piece = take (length c.args.pieces.now - 1) (drop 1 c.args.pieces.now) in
-    passing-step c.args.bytes.now c.args.pieces.now rest c.loop-piece.piece-index (record { start = (0, 0); end = (0, 0) }) c.loop-piece.last c.in-Some-pass_next.next c.loop-piece-test.true c.loop-piece.invariant c.in-Some-pass_next.ensures
+loop-piece-preserved c = grind (arith, passing-step)
 
 pub returns : goal.returns
 returns c =

@@ -1,13 +1,11 @@
 use Rattle.std.proofs.Common.{◌≡◌, ◌<◌, ◌≤◌, ◌∙◌, ◌==◌, ◌||◌, sym, refl, arith, ℕ}
 use Rattle.std.proofs.lemmas.Bool.{both_ways}
 use Rattle.markdown_event.specs.declared.event.Point.{Point}
-use Rattle.markdown_content.specs.Codes.{place_of}
 use Rattle.markdown_content.proofs.PlaceOrder.{is_before}
 use Rattle.markdown_content.proofs.WalkTargets.{IsReaching, reaching-start, reaching-next, reaching-less, reaching-past, left-past, reaching-end, reaching-none, both-tests, not-both}
 use Rattle.markdown_content.proofs.WalkSteps.{codes_left_at}
 use Rattle.markdown_content.specs.declared.content.Stretch.{Stretch}
 use Rattle.markdown_content.proofs.content.walk_on.Goals as goal
-use Rattle.markdown_content.proofs.content.walk_on.Goals.{then-loop-stretch-test+else-is_before, else-loop-stretch-test}
 
 pub loop-stretch-init : goal.loop-stretch-init
 loop-stretch-init c = reaching-start c.args.bytes.now c.args.point c.args.place c.requires.is_point c.requires.forward
@@ -37,12 +35,4 @@ returns-then-eq c =
     reaching-end c.args.bytes.now c.args.point c.args.place c.loop-stretch.stretch c.loop-stretch.invariant same.0 same.1
 
 pub returns-else-eq : goal.returns-else-eq
-returns-else-eq c =
-    let p : Point = c.loop-stretch.stretch.point in
-    reaching-none c.args.bytes.now c.args.point c.args.place c.loop-stretch.stretch c.loop-stretch.invariant
-    (λ lt before.
-    elim c.loop-stretch-test.branch [
-      | then-loop-stretch-test+else-is_before w ↦ both_ways (is_before (place_of p) c.args.place) (sym w.is_before.ensures ∙ w.if-is_before.false) before
-      | else-loop-stretch-test w ↦ absurd (omega (arith, lt, w.loop-stretch-test.false))
-    ])
-    (not-both p.index p.vs c.args.place.0 c.args.place.1 c.eq.result c.eq.ensures c.if-eq.false)
+returns-else-eq c = grind (arith, reaching-none, both_ways, not-both)

@@ -1,4 +1,4 @@
-use Rattle.std.proofs.Common.{ℕ, ◌≡◌, ◌<◌, ◌≤◌, ◌+◌, ◌-◌, ◌∷◌, [], ◌==◌, ◌||◌, ◌&&◌, nat_lt, Bool, true, false, not, List, length, get_or, inl, inr, subst, arith}
+use Rattle.std.proofs.Common.{ℕ, ◌≡◌, ◌<◌, ◌≤◌, ◌+◌, ◌-◌, ◌∷◌, [], ◌==◌, ◌||◌, ◌&&◌, nat_lt, Bool, true, false, not, List, length, get_or, subst, arith}
 use Rattle.std.proofs.lemmas.Bool.{cases_lt}
 use Rattle.markdown_content.specs.PlainBytes.{ArePlain, is_plain}
 use Rattle.markdown_content.proofs.cursor.few_groups_end.Goals as goal
@@ -17,11 +17,7 @@ few-plain (a ∷ b ∷ d ∷ set) x some few h = absurd (omega (arith, few))
 
 few-more : (set bytes : List ℕ) (from at n : ℕ) → 0 < length set → length set ≤ 2 → ArePlain set bytes from at →
     ArePlain (get_or set 0 0 ∷ get_or set (length set - 1) 0 ∷ []) bytes at (at + n) → ArePlain set bytes from (at + n)
-few-more set bytes from at n some few before here i low high =
-    elim (cases_lt i at) [
-      | inl l ↦ before i low l
-      | inr l ↦ few-plain set (get_or bytes i 0) some few (here i l high)
-    ]
+few-more set bytes from at n some few before here i low high = grind (arith, cases_lt, few-plain)
 
 pub loop-index-preserved : goal.loop-index-preserved
 loop-index-preserved c =

@@ -15,10 +15,7 @@ loop-at-init c =
     ∙ sym (content-bytes c.args.text.now c.args.from c.args.to c.args.bytes.now c.args.pieces.now c.requires.content.in_order))
 
 pub returns-then-to-piece : goal.returns-then-to-piece
-returns-then-to-piece c =
-    sym (append-nil c.loop-at.out.items)
-    ∙ ap (λ bs. c.loop-at.out.items ++ bs) (sym (row-dropped c.args.text.now c.args.from c.args.to c.args.bytes.now c.args.pieces.now c.loop-at.at nowhere c.requires.content.in_order c.loop-at-test.true c.if-to-piece.true))
-    ∙ c.loop-at.invariant
+returns-then-to-piece c = grind (arith, append-nil, row-dropped)
 
 pub loop-at-preserved : goal.loop-at-preserved
 loop-at-preserved c =

@@ -1,6 +1,6 @@
 -- At each code among the bytes one fewer is left to be found.
-use Rattle.std.proofs.Common.{◌≡◌, ◌+◌, ◌≤◌, Some, length, sym, subst, ◌∙◌, arith}
-use Rattle.markdown_content.specs.Place.{Place, ahead_at, code_at, moved}
+use Rattle.std.proofs.Common.{◌≡◌, Some, sym, subst, ◌∙◌, arith}
+use Rattle.markdown_content.specs.Place.{Place, code_at}
 use Rattle.markdown_content.proofs.ByteCounts.{AreLeftToFind, left-start, left-one, left-other, left-stretch, left-none}
 use Rattle.markdown_content.proofs.PlaceRules.{left_moved}
 use Rattle.markdown_content.proofs.StretchLemmas.{left-behind}
@@ -18,12 +18,7 @@ returns-in_default c =
     c.loop-left-test.true (sym c.seek.ensures.code ∙ c.in_default.is)
 
 pub loop-left-smaller : goal.loop-left-smaller
-loop-left-smaller c =
-    let q : Place = c.seek.new.self in
-    let here : code_at q ≡ Some c.in-Some.code = sym c.seek.ensures.code ∙ c.in-Some.is in
-    let one : length (ahead_at (moved q)) + 1 ≡ length (ahead_at q) = left_moved q c.in-Some.code here in
-    left-behind c.args.bytes.now c.loop-left.place q c.consume.new.self c.in-Some.code c.seek.ensures.place here
-    (subst (λ (p : Place). length (ahead_at p) + 1 ≤ length (ahead_at q)) (sym c.consume.ensures) (omega (arith, one)))
+loop-left-smaller c = grind (arith, left_moved, left-behind)
 
 pub loop-left-preserved : goal.loop-left-preserved
 loop-left-preserved c =

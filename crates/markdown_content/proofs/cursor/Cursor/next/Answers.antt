@@ -2,14 +2,12 @@ use Rattle.std.proofs.Common.{◌∙◌, ap, sym, arith}
 use Rattle.markdown_content.specs.declared.parser.Piece.{Piece}
 use Rattle.markdown_content.specs.Place.{code_at, moved}
 use Rattle.markdown_content.proofs.CursorSteps.{moved_is}
-use Rattle.markdown_content.proofs.NextPlace.{Fits_point, point_fits}
+use Rattle.markdown_content.proofs.NextPlace.{point_fits}
 use Rattle.markdown_content.proofs.PlainByteLemmas.{plain_next, plain_code}
 use Rattle.markdown_content.proofs.cursor.Cursor.next.Goals as goal
 
 pub overflow_add-here : goal.overflow_add-here
-overflow_add-here c =
-    let n : Fits_point c.self.inside.point = point_fits c.self.inside.bytes.now c.self.inside.point c.self.invariant.0.standing.is_point c.self.invariant.0.standing.content.fits in
-    omega (arith, n.index)
+overflow_add-here c = grind (arith, point_fits)
 
 pub returns-then-self-here-gt13-2 : goal.returns-then-self-here-gt13-2
 returns-then-self-here-gt13-2 c =

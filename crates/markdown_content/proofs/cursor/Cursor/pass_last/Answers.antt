@@ -4,15 +4,13 @@ use Rattle.markdown_content.specs.Stretch.{past_stretch}
 use Rattle.markdown_content.specs.declared.parser.Piece.{Piece}
 use Rattle.markdown_content.proofs.ByteSetLemmas.{plain-parts}
 use Rattle.markdown_content.proofs.CursorSteps.{at_code}
-use Rattle.markdown_content.proofs.NextPlace.{Fits_point, point_fits}
+use Rattle.markdown_content.proofs.NextPlace.{point_fits}
 use Rattle.markdown_content.proofs.PlainByteLemmas.{open-before-end, past_last, plain_last}
 use Rattle.markdown_content.proofs.StretchLemmas.{past-byte}
 use Rattle.markdown_content.proofs.cursor.Cursor.pass_last.Goals as goal
 
 pub overflow_add-past : goal.overflow_add-past
-overflow_add-past c =
-    let n : Fits_point c.self.inside.point = point_fits c.self.inside.bytes.now c.self.inside.point c.self.invariant.0.standing.is_point c.self.invariant.0.standing.content.fits in
-    omega (arith, n.column)
+overflow_add-past c = grind (arith, point_fits)
 
 pub overflow_add-self : goal.overflow_add-self
 overflow_add-self c =

@@ -2,19 +2,15 @@ use Rattle.std.proofs.Common.{◌<◌, ◌∙◌, ap, sym, arith, get_or}
 use Rattle.markdown_content.specs.declared.parser.Piece.{Piece}
 use Rattle.markdown_content.specs.Place.{code_at, moved}
 use Rattle.markdown_content.proofs.CursorSteps.{at_code, moved_is}
-use Rattle.markdown_content.proofs.NextPlace.{Fits_point, point_fits}
+use Rattle.markdown_content.proofs.NextPlace.{point_fits}
 use Rattle.markdown_content.proofs.PlainByteLemmas.{open-before-end, feed_next, feed_code}
 use Rattle.markdown_content.proofs.cursor.Cursor.pass_line_feed.Goals as goal
 
 pub overflow_add-at : goal.overflow_add-at
-overflow_add-at c =
-    let n : Fits_point c.self.inside.point = point_fits c.self.inside.bytes.now c.self.inside.point c.self.invariant.0.standing.is_point c.self.invariant.0.standing.content.fits in
-    omega (arith, n.index)
+overflow_add-at c = grind (arith, point_fits)
 
 pub overflow_add-point : goal.overflow_add-point
-overflow_add-point c =
-    let n : Fits_point c.self.inside.point = point_fits c.self.inside.bytes.now c.self.inside.point c.self.invariant.0.standing.is_point c.self.invariant.0.standing.content.fits in
-    omega (arith, n.line)
+overflow_add-point c = grind (arith, point_fits)
 
 pub overflow_add-self : goal.overflow_add-self
 overflow_add-self c =

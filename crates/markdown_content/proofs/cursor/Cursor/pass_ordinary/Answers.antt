@@ -1,7 +1,7 @@
 use Rattle.std.proofs.Common.{rules, ◌∙◌, ap, sym, arith}
 use Rattle.markdown_content.specs.Place.{moved}
 use Rattle.markdown_content.proofs.CursorSteps.{at_some, moved_is}
-use Rattle.markdown_content.proofs.NextPlace.{Fits_point, point_fits}
+use Rattle.markdown_content.proofs.NextPlace.{point_fits}
 use Rattle.markdown_content.proofs.PlainByteLemmas.{plain_next}
 use Rattle.markdown_content.proofs.cursor.Cursor.pass_ordinary.Goals as goal
 
@@ -16,9 +16,7 @@ pub bounds-self-inside-self-inside : goal.bounds-self-inside-self-inside
 bounds-self-inside-self-inside c = (at_some c.args.self.now c.self.invariant.0 c.self.view_is c.requires).in_pieces
 
 pub overflow_add-point : goal.overflow_add-point
-overflow_add-point c =
-    let n : Fits_point c.self.inside.point = point_fits c.self.inside.bytes.now c.self.inside.point c.self.invariant.0.standing.is_point c.self.invariant.0.standing.content.fits in
-    omega (arith, n.column)
+overflow_add-point c = grind (arith, point_fits)
 
 pub overflow_add-self : goal.overflow_add-self
 overflow_add-self c = omega (arith, (at_some c.args.self.now c.self.invariant.0 c.self.view_is c.requires).count)

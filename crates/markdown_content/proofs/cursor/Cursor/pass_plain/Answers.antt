@@ -1,19 +1,15 @@
 use Rattle.std.proofs.Common.{◌∙◌, ap, sym, arith, ◌-◌, ℕ}
 use Rattle.markdown_content.specs.Stretch.{past_stretch}
 use Rattle.markdown_content.specs.declared.parser.Piece.{Piece}
-use Rattle.markdown_content.proofs.NextPlace.{Fits_point, point_fits}
+use Rattle.markdown_content.proofs.NextPlace.{point_fits}
 use Rattle.markdown_content.proofs.StretchLemmas.{plain_run}
 use Rattle.markdown_content.proofs.cursor.Cursor.pass_plain.Goals as goal
 
 pub overflow_add-next : goal.overflow_add-next
-overflow_add-next c =
-    let n : Fits_point c.self.inside.point = point_fits c.self.inside.bytes.now c.self.inside.point c.self.invariant.0.standing.is_point c.self.invariant.0.standing.content.fits in
-    omega (arith, n.column, c.plain_end.ensures.to, c.min-end.ensures, c.self.invariant.0.standing.content.fits)
+overflow_add-next c = grind (arith, point_fits)
 
 pub overflow_add-self-2 : goal.overflow_add-self-2
-overflow_add-self-2 c =
-    let n : Fits_point c.self.inside.point = point_fits c.self.inside.bytes.now c.self.inside.point c.self.invariant.0.standing.is_point c.self.invariant.0.standing.content.fits in
-    omega (arith, n.index, n.vs, c.self.invariant.0.standing.count, c.plain_end.ensures.to, c.min-end.ensures, c.self.invariant.0.standing.content.fits)
+overflow_add-self-2 c = grind (arith, point_fits)
 
 pub invariant_of-self : goal.invariant_of-self
 invariant_of-self c =

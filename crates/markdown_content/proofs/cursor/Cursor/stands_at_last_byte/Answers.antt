@@ -4,7 +4,7 @@ use Rattle.markdown_content.specs.declared.parser.Piece.{Piece}
 use Rattle.markdown_content.specs.Place.{Place, code_at, moved}
 use Rattle.markdown_content.proofs.ContentLines.{text-last}
 use Rattle.markdown_content.proofs.CursorSteps.{at_code, moved_is}
-use Rattle.markdown_content.proofs.NextPlace.{Fits_point, point_fits}
+use Rattle.markdown_content.proofs.NextPlace.{point_fits}
 use Rattle.markdown_content.proofs.PlainByteLemmas.{open-before-end, plain_code, plain_last}
 use Rattle.markdown_content.proofs.cursor.Cursor.stands_at_last_byte.Goals as goal
 
@@ -19,11 +19,7 @@ pub overflow_add-self-inside : goal.overflow_add-self-inside
 overflow_add-self-inside c = omega (arith, c.self.told)
 
 pub overflow_add-self-inside-else-end-ne0 : goal.overflow_add-self-inside-else-end-ne0
-overflow_add-self-inside-else-end-ne0 c =
-    let n : Fits_point c.self.inside.point = point_fits c.self.inside.bytes.now c.self.inside.point c.self.invariant.0.standing.is_point c.self.invariant.0.standing.content.fits in
-    omega (arith, n.index)
+overflow_add-self-inside-else-end-ne0 c = grind (arith, point_fits)
 
 pub bounds-self-inside-self-inside-2 : goal.bounds-self-inside-self-inside-2
-bounds-self-inside-self-inside-2 c =
-    let d : Piece = record { start = (0, 0); end = (0, 0) } in
-    (at_code c.self.invariant.0 (open-before-end c.self.inside.pieces.now c.self.inside.piece c.self.inside.point d c.if-self.false (omega (arith, c.if-self-end.false)))).in_bytes
+bounds-self-inside-self-inside-2 c = grind (arith, at_code, open-before-end)

@@ -5,22 +5,10 @@ use Rattle.markdown_content.proofs.NestingLemmas.{reached-start, reached-past_en
 use Rattle.markdown_content.proofs.util.slice.Position.from_exit_event.Goals as goal
 
 pub loop-awaited-preserved-in-Enter : goal.loop-awaited-preserved-in-Enter
-loop-awaited-preserved-in-Enter c =
-    let some = reached-start c.args.events.now c.loop-awaited.at c.loop-awaited.awaited _ c.loop-awaited.invariant.own c.requires.own c.loop-awaited-test.true in
-    record {
-      back = omega arith;
-      few = omega arith;
-      own = reached-past_enter c.args.events.now c.loop-awaited.at c.loop-awaited.awaited _ _ c.loop-awaited.invariant.own c.loop-awaited-test.true some (omega arith) c.in-Enter.is;
-    }
+loop-awaited-preserved-in-Enter c = grind (arith, reached-start, reached-past_enter)
 
 pub loop-awaited-preserved : goal.loop-awaited-preserved
-loop-awaited-preserved c =
-    let some = reached-start c.args.events.now c.loop-awaited.at c.loop-awaited.awaited _ c.loop-awaited.invariant.own c.requires.own c.loop-awaited-test.true in
-    record {
-      back = omega arith;
-      few = omega arith;
-      own = reached-past_exit c.args.events.now c.loop-awaited.at c.loop-awaited.awaited _ _ c.loop-awaited.invariant.own c.loop-awaited-test.true some (omega arith) c.in-Exit.is;
-    }
+loop-awaited-preserved c = grind (arith, reached-start, reached-past_exit)
 
 pub returns-clause-start : goal.returns-clause-start
 returns-clause-start c =

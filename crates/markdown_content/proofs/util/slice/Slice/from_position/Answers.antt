@@ -1,4 +1,4 @@
-use Rattle.std.proofs.Common.{◌∙◌, ◌≤◌, length, rules}
+use Rattle.std.proofs.Common.{◌∙◌, arith}
 use Rattle.markdown_content.proofs.DocumentPlaces.{stands-point}
 use Rattle.markdown_content.proofs.VirtualSpaces.{before-is, after-is, byte_from-in, byte_from-order, index_fits}
 use Rattle.markdown_content.proofs.util.slice.Slice.from_position.Goals as goal
@@ -10,10 +10,7 @@ pub first_byte-requires-2 : goal.first_byte-requires-2
 first_byte-requires-2 c = index_fits c.args.bytes.now c.args.position.now.end c.requires.end c.requires.fits
 
 pub slice_bounds-result-end : goal.slice_bounds-result-end
-slice_bounds-result-end c =
-    let order : c.first_byte.result ≤ c.first_byte-2.result = rw (c.first_byte.ensures, c.first_byte-2.ensures) (byte_from-order c.args.position.now.start c.args.position.now.end c.requires.in_order) in
-    let low : c.first_byte-2.result ≤ length c.args.bytes.now = rw c.first_byte-2.ensures (byte_from-in c.args.bytes.now c.args.position.now.end c.requires.end) in
-    search rules
+slice_bounds-result-end c = grind (arith, byte_from-order, byte_from-in)
 
 pub columns_before-requires-clause-from_one : goal.columns_before-requires-clause-from_one
 columns_before-requires-clause-from_one c =
