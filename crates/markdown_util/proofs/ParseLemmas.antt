@@ -1,5 +1,5 @@
 -- How a text with references is parsed: what stands before an `&`, and the `&` itself.
-use Rattle.std.proofs.Common.{◌≡◌, ◌≢◌, ◌∙◌, sym, ap, refl, ℕ, zero, suc, ◌+◌, false, eqb, List, [], ◌∷◌, ◌++◌, append-nil, append_assoc, drop, Some, None}
+use Rattle.std.proofs.Common.{◌≡◌, ◌≢◌, ◌∙◌, sym, ap, refl, ℕ, zero, suc, ◌+◌, false, eqb, List, [], ◌∷◌, ◌++◌, append-nil, append_assoc, drop, Some, None, arith}
 use Rattle.std.specs.List.{All, after_first, position_or_len}
 use Rattle.std.proofs.lemmas.List.Elements.{All-head, All-tail}
 use Rattle.markdown_util.proofs.ValueBytes.{eqb_off}
@@ -37,21 +37,15 @@ parsed-lone table after e = rw (e, parsed_after) refl
 
 pub turn-plain : (table : Table) (done before after rest total : List ℕ) → done ++ parsed_after table 0 rest ≡ total → rest ≡ before ++ 38 ∷ after → All (λ b. b ≢ 38) before
     → (done ++ before) ++ parsed_after table 0 (38 ∷ after) ≡ total
-turn-plain table done before after rest total h e plain =
-    append_assoc done before (parsed_after table 0 (38 ∷ after))
-    ∙ ap (λ bs. done ++ bs) (sym (ap (parsed_after table 0) e ∙ parsed-plain table before (38 ∷ after) plain)) ∙ h
+turn-plain table done before after rest total h e plain = grind (arith, append_assoc, parsed-plain)
 
 pub turn-reference : (table : Table) (done after text total : List ℕ) → done ++ parsed_after table 0 (38 ∷ after) ≡ total → reference_text table after ≡ Some text
     → (done ++ text) ++ parsed_after table 0 (after_first is_semicolon after) ≡ total
-turn-reference table done after text total h e =
-    append_assoc done text (parsed_after table 0 (after_first is_semicolon after))
-    ∙ ap (λ bs. done ++ bs) (sym (parsed-reference table after text e)) ∙ h
+turn-reference table done after text total h e = grind (arith, append_assoc, parsed-reference)
 
 pub turn-lone : (table : Table) (done after total : List ℕ) → done ++ parsed_after table 0 (38 ∷ after) ≡ total → reference_text table after ≡ None
     → (done ++ 38 ∷ []) ++ parsed_after table 0 after ≡ total
-turn-lone table done after total h e =
-    append_assoc done (38 ∷ []) (parsed_after table 0 after)
-    ∙ ap (λ bs. done ++ bs) (sym (parsed-lone table after e)) ∙ h
+turn-lone table done after total h e = grind (arith, append_assoc, parsed-lone)
 
 pub turn-end : (table : Table) (done rest total : List ℕ) → done ++ parsed_after table 0 rest ≡ total →
     All (λ b. b ≢ 38) rest → done ++ rest ≡ total

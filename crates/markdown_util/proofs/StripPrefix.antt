@@ -51,9 +51,7 @@ split_once-none bs r h e = go r (split_parts 38 bs r h (lit< tt)) e
 
 pub split_once-some : (bs : List ℕ) (r : Option (Bor (List ℕ) × Bor (List ℕ))) (before after : Bor (List ℕ)) →
     IsSplitOnceResult 38 bs r → r ≡ Some (before, after) → IsFirstAmpersand bs before.now after.now
-split_once-some bs r before after h e =
-    let parts = subst (λ (o : Option (Bor (List ℕ) × Bor (List ℕ))). MatchOption o ((i : ℕ) → i < length bs → get_or bs i 0 ≢ 38) (λ x. (bs ≡ x.0.now ++ 38 ∷ x.1.now) × ((i : ℕ) → i < length x.0.now → get_or x.0.now i 0 ≢ 38))) e (split_parts 38 bs r h (lit< tt)) in
-    record { is = parts.0; plain = apart before.now parts.1 }
+split_once-some bs r before after h e = grind (arith, split_parts, lit<, apart)
 
 get_or-seam : (front : List ℕ) (b : ℕ) (back : List ℕ) → get_or (front ++ b ∷ back) (length front) 0 ≡ b
 get_or-seam [] b back = refl

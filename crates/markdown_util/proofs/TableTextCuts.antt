@@ -1,5 +1,5 @@
 -- A table as one text is cut where a line starts, and the line there is parted from those behind it.
-use Rattle.std.proofs.Common.{◌≡◌, ◌≢◌, ◌∙◌, sym, ap, refl, subst, ℕ, zero, suc, ◌<◌, ◌≤◌, ◌+◌, ◌-◌, ◌/◌, get_or, true, not, ◌&&◌, eqb, List, [], ◌∷◌, ◌++◌, length, take, drop, All, inl, inr, arith}
+use Rattle.std.proofs.Common.{◌≡◌, ◌≢◌, ◌∙◌, sym, ap, refl, subst, ℕ, zero, suc, ◌<◌, ◌≤◌, ◌+◌, ◌-◌, ◌/◌, get_or, true, not, eqb, List, [], ◌∷◌, ◌++◌, length, take, drop, All, inl, inr, arith}
 use Rattle.std.specs.List.{list_all}
 use Rattle.std.specs.Str.{IsUtf8, IsCharBoundary}
 use Rattle.std.proofs.Math.Seq.{take-append-add, drop-append-add}
@@ -48,10 +48,7 @@ record Parts (row : List ℕ × List ℕ) : Type 0 where
   both : lacks 32 (row.0 ++ (59 ∷ row.1)) ≡ true
 
 parts-of : (row : List ℕ × List ℕ) → is_parted row ≡ true → Parts row
-parts-of row h =
-    let first = and_parts (lacks 59 row.0) (lacks 32 row.0 && lacks 32 row.1) h in
-    let second = and_parts (lacks 32 row.0) (lacks 32 row.1) first.1 in
-    record { name = first.0; text = second.1; both = list_all-append _ row.0 (59 ∷ row.1) ∙ and_from _ _ second.0 second.1 }
+parts-of row h = grind (arith, and_parts, list_all-append, and_from)
 
 -- a line and what stands behind it, cut at the `;`
 line-parted : (row : List ℕ × List ℕ) (rest : List ℕ) → line_text row ++ rest ≡ row.0 ++ (59 ∷ (row.1 ++ (32 ∷ rest)))
@@ -127,12 +124,7 @@ pub record IsStart (text : List ℕ) (at : ℕ) : Type 0 where
 
 halfway : {row : List ℕ × List ℕ} {rows : Table} {text : List ℕ} {at : ℕ} → IsTableText (row ∷ rows) text → IsStart text at →
     IsCutAt (row ∷ rows) at
-halfway {row} {rows} {text} {at} t s =
-    let size = ap length t.is in
-    let near = s.near in
-    let some : 0 < length (line_text row) = omega (arith, length-append row.0 (59 ∷ (row.1 ++ (32 ∷ [])))) in
-    let inside : at < length (table_text (row ∷ rows)) = omega (arith, length-append (line_text row) (table_text rows)) in
-    cut (row ∷ rows) at t.parted inside (subst (λ (x : List ℕ). StartsLine x at) t.is s.starts)
+halfway {row} {rows} {text} {at} t s = grind (arith, length-append, cut)
 
 -- what stands behind a cut is a line, and then other lines
 rest-is : {rows : Table} {text rest : List ℕ} {at : ℕ} → IsTableText rows text → rest ≡ drop at text → (c : IsCutAt rows at) →

@@ -1,5 +1,5 @@
 -- A whole reference, from its marker and its value.
-use Rattle.std.proofs.Common.{◌≡◌, ◌≢◌, ◌∙◌, sym, ap, refl, subst, ℕ, zero, suc, ◌<◌, ◌≤◌, ◌^◌, lit<, add-one, get_or, Bool, true, false, cond, ◌&&◌, ◌||◌, eqb, ◌⊎◌, inl, inr, List, [], ◌∷◌, ◌++◌, length, take, drop, nat_lt, nat_le, Option, Some, None, arith}
+use Rattle.std.proofs.Common.{◌≡◌, ◌≢◌, ◌∙◌, sym, ap, refl, subst, ℕ, zero, suc, ◌<◌, ◌≤◌, lit<, add-one, get_or, Bool, true, false, cond, ◌&&◌, ◌||◌, eqb, ◌⊎◌, inl, inr, List, [], ◌∷◌, ◌++◌, length, take, drop, nat_lt, nat_le, Option, Some, None, arith}
 use Rattle.std.specs.List.{list_all, list_any, prefix_len, before_first, after_first}
 use Rattle.std.specs.Str.{IsUtf8, IsCharBoundary, bytes_eq}
 use Rattle.std.specs.Str.Parse.{AllDigits}
@@ -50,9 +50,7 @@ named-guarded table sound name = go (named_value table name) refl (is_value 38 n
 
 text-at : (table : Table) (front back : List ℕ) → NoSemicolon front →
     reference_text table (front ++ 59 ∷ back) ≡ inner_text table front
-text-at table front back none =
-    let text = front ++ 59 ∷ back in
-    ap (λ b. pick b (inner_text table (before_first is_semicolon text)) None) (any-semicolon front back) ∙ ap (inner_text table) (before-semicolon front back none)
+text-at table front back none = grind (arith, any-semicolon, before-semicolon)
 
 text-none : (table : Table) (after : List ℕ) → list_any is_semicolon after ≡ false → reference_text table after ≡ None
 text-none table after e = ap (λ b. pick b (inner_text table (before_first is_semicolon after)) None) e
@@ -123,10 +121,7 @@ pub record AreValueBytes (marker : ℕ) (value : List ℕ) : Type 0 where
   pub all : list_all (is_value_byte marker) value ≡ true
 
 pub value_parts : (marker : ℕ) (value : List ℕ) → is_value marker value ≡ true → AreValueBytes marker value
-value_parts marker value h =
-    let parts = and_parts (nat_lt 0 (length value) && nat_le (length value) (value_size_max marker)) (list_all (is_value_byte marker) value) h in
-    let sizes = and_parts (nat_lt 0 (length value)) (nat_le (length value) (value_size_max marker)) parts.0 in
-    record { some = ltb-true 0 (length value) sizes.0; few = leb-true (length value) (value_size_max marker) sizes.1; all = parts.1 }
+value_parts marker value h = grind (arith, and_parts, ltb-true, leb-true)
 
 -- a value, and a `;` right after it
 pub record IsWholeReference (table : Table) (marker : ℕ) (after value rest : List ℕ) : Type 0 where
@@ -200,16 +195,10 @@ value_byte_ascii marker b h = go (eqb marker 38) (eqb marker 35) h
     go false false h = grind (arith, nat_tests)
 
 decimal_number : (value : List ℕ) → AreValueBytes 35 value → IsNumber 10 value
-decimal_number value h =
-    let digits = all_digits 10 is_ascii_digit decimal_digit value h.all in
-    let power : 10 ^ length value ≤ 10 ^ 7 = pow-le-pow_right (lit< tt) h.few in
-    record { numeral = (h.some, digits); small = omega (arith, digits_value-lt 10 value digits) }
+decimal_number value h = grind (arith, all_digits, decimal_digit, pow-le-pow_right, lit<, digits_value-lt)
 
 hexadecimal_number : (value : List ℕ) → AreValueBytes 120 value → IsNumber 16 value
-hexadecimal_number value h =
-    let digits = all_digits 16 is_ascii_hexdigit hexadecimal_digit value h.all in
-    let power : 16 ^ length value ≤ 16 ^ 6 = pow-le-pow_right (lit< tt) h.few in
-    record { numeral = (h.some, digits); small = omega (arith, digits_value-lt 16 value digits) }
+hexadecimal_number value h = grind (arith, all_digits, hexadecimal_digit, pow-le-pow_right, lit<, digits_value-lt)
 
 pub number_from_value : (marker : ℕ) (value : List ℕ) → IsReferenceMarker marker → is_value marker value ≡ true → marker ≢ 38 →
     IsNumber (radix_of marker) value

@@ -1,4 +1,4 @@
-use Rattle.std.proofs.Common.{rules, refl}
+use Rattle.std.proofs.Common.{rules, refl, arith}
 use Rattle.std.specs.Str.{IsUtf8}
 use Rattle.markdown_util.specs.Reference.{html_rows}
 use Rattle.markdown_util.proofs.HalvedText.{left-before, left-behind, found, none-left, before-shorter, behind-shorter}
@@ -35,6 +35,4 @@ loop-line-preserved c =
     record { utf8 = utf8; left = left-before left (c.in-Some.ensures left.rows left.text.lines) c.in-Greater.ensures }
 
 pub returns : goal.returns
-returns c =
-    let left = c.loop-line.invariant.left in
-    none-left left (rw c.in_default.is at c.middle.ensures left.rows left.text.lines)
+returns c = grind (arith, none-left)

@@ -1,4 +1,4 @@
-use Rattle.std.proofs.Common.{◌≡◌, ◌∙◌, sym, ap, subst, List, ℕ, IfOk, IsAscii, string_bytes}
+use Rattle.std.proofs.Common.{◌≡◌, ◌∙◌, sym, ap, subst, List, ℕ, IfOk, string_bytes, arith}
 use Rattle.std.specs.Str.{chars, encode_utf8_all}
 use Rattle.std.proofs.lemmas.Str.{chars_from_encodes}
 use Rattle.caseless.specs.Caseless.{default_case_fold}
@@ -8,9 +8,7 @@ use Rattle.markdown_util.proofs.util.normalize_identifier.normalize_identifier.G
 
 pub returns-then-is_ascii : goal.returns-then-is_ascii
 unfolding identifier_of
-returns-then-is_ascii c =
-    let ascii : IsAscii (string_bytes c.in_ok-joined.joined) = subst IsAscii c.as_str.ensures.value c.if-is_ascii.ensures.cases in
-    c.make_ascii_lowercase.ensures.bytes ∙ sym (folded-ascii (joined_words (chars c.args.value.now)) (string_bytes c.in_ok-joined.joined) c.in_ok-joined.ensures ascii)
+returns-then-is_ascii c = grind (arith, string_bytes, folded-ascii)
 
 pub returns : goal.returns
 unfolding identifier_of
