@@ -1,5 +1,5 @@
 -- What follows the end of a label is sound, at every place.
-use Rattle.std.proofs.Common.{◌≡◌, ℕ, not, Some, List, [], ◌∷◌, subst}
+use Rattle.std.proofs.Common.{◌≡◌, ℕ, not, Option, Some, List, [], ◌∷◌, subst}
 use Rattle.markdown_content.specs.Codes.{Code}
 use Rattle.markdown_engine.specs.Operations.{ahead}
 use Rattle.markdown_content.specs.Tree.{Forest}
@@ -14,7 +14,7 @@ use Rattle.markdown_label.specs.LabelFields.{bars}
 use Rattle.markdown_label.specs.LabelEnd.{outcome_by, end_reading}
 use Rattle.markdown_model.specs.SingleConstructs.{outcome}
 
-sound-outcome : (s : Setting) (kind : LabelKind) (name : List ℕ) → Yields (λ o. IsSoundTail o.1) (outcome s kind name)
+sound-outcome : (s : Setting) (kind : LabelKind) (name : Option (List ℕ)) → Yields (λ o. IsSoundTail o.1) (outcome s kind name)
 unfolding outcome
 sound-outcome s kind name =
     yields_either _ _ _ (yields_passed _ _ _ (yields_gives _ _ (record { tail = tt; lines = tt }))) (yields_bind IsSoundTail _ _ _ (sound-after s _) λ tail k. yields_gives _ _ k)
