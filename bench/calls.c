@@ -63,7 +63,7 @@ static size_t room;
 
 static int read_one(const char *text, size_t len) {
     markdown_inline_piece piece = {0, 0, 0, 0};
-    markdown_inline_input input = {(const uint8_t *)text, len, &piece, 1, NULL, 0, NULL, 0, NULL, 0, MARKDOWN_INLINE_CRATE};
+    markdown_inline_input input = {(const uint8_t *)text, len, &piece, 1, NULL, 0, NULL, 0, NULL, 0, MARKDOWN_INLINE_CRATE, 0};
     size_t count;
     uint32_t status;
     piece.end = len;
@@ -81,11 +81,11 @@ static int write_html(const char *text, size_t len, const content *contents, siz
     static markdown_inline_content texts[1 << 12];
     static size_t ends[1 << 12];
     static uint8_t html[1 << 22];
-    markdown_inline_input input = {(const uint8_t *)text, len, pieces, count, NULL, 0, NULL, 0, NULL, 0, MARKDOWN_INLINE_CRATE};
+    markdown_inline_input input = {(const uint8_t *)text, len, pieces, count, NULL, 0, NULL, 0, NULL, 0, MARKDOWN_INLINE_CRATE, 0};
     markdown_inline_outcome outcome;
     for (size_t at = 0; at < count; at++) {
         pieces[at] = (markdown_inline_piece){contents[at].from, 0, contents[at].from + contents[at].len, 0};
-        texts[at] = (markdown_inline_content){{at, at + 1}, 0};
+        texts[at] = (markdown_inline_content){{at, at + 1}, 0, 0};
     }
     return markdown_inline_htmls(&input, NULL, 0, texts, count, 0, 100000, html, sizeof html, ends, count, &outcome) != MARKDOWN_INLINE_DONE;
 }

@@ -100,7 +100,7 @@ int main(int argc, char **argv) {
     if (!bytes || !labels || !ranges) return MARKDOWN_INLINE_NO_MEMORY;
     len = without_line_ending(bytes, len);
     markdown_inline_piece whole = {0, 0, len, 0};
-    markdown_inline_input input = {bytes, len, &whole, 1, labels, 0, ranges, 0, ranges + argc, 0, MARKDOWN_INLINE_CRATE};
+    markdown_inline_input input = {bytes, len, &whole, 1, labels, 0, ranges, 0, ranges + argc, 0, MARKDOWN_INLINE_CRATE, 0};
     int is_known = argc > 1 && (!strcmp(argv[1], "text") || !strcmp(argv[1], "string"));
     for (int at = 2; at < argc && is_known; at++) {
         is_known = bit_of(argv[at]) != 0 || define(argv[at], "label=", labels, &input, ranges, &input.definitions_len)

@@ -16,6 +16,7 @@
  * - No pointer is kept after a call, and nothing has to be freed. There is no state: calls on several threads do not meet.
  * - Memory comes from malloc, and is given back before the call ends. Where it is refused, a call answers MARKDOWN_INLINE_NO_MEMORY.
  * - The stack that a call takes does not grow with its input.
+ * - Words that are `reserved` have to be 0, since a later version may give bits of them a meaning. This one does not look at them.
  */
 #ifndef MARKDOWN_INLINE_H
 #define MARKDOWN_INLINE_H
@@ -323,7 +324,7 @@ typedef struct markdown_inline_input {
     size_t definitions_len;
     const markdown_inline_range *footnotes;
     size_t footnotes_len;
-    uint32_t options;
+    uint32_t options, reserved;
 } markdown_inline_input;
 
 /* The beginning or the end of something. An event with none inside it stands for the text between its Enter and its Exit; but text that is read
@@ -365,7 +366,7 @@ typedef struct markdown_inline_leaf {
  * resolved. `has_title` is 0 where it has no title; then `title` is not looked at. */
 typedef struct markdown_inline_target {
     markdown_inline_range destination, title;
-    uint32_t has_title;
+    uint32_t has_title, reserved;
 } markdown_inline_target;
 
 /* One of many contents of a document: the numbers of its pieces among those of the input. `first_of_item` is 0 where it is not the first of a list
@@ -373,7 +374,7 @@ typedef struct markdown_inline_target {
  * at. */
 typedef struct markdown_inline_content {
     markdown_inline_range pieces;
-    uint32_t first_of_item;
+    uint32_t first_of_item, reserved;
 } markdown_inline_content;
 
 /* How far a call for many comes: how many of the first contents or strings are written, how many elements all have that are read, and the number of what is

@@ -16,7 +16,7 @@ static void want(const char *what, int holds) {
 }
 
 static markdown_inline_input input_of(const char *text, const markdown_inline_piece *piece) {
-    markdown_inline_input input = {(const uint8_t *)text, strlen(text), piece, 1, NULL, 0, NULL, 0, NULL, 0, MARKDOWN_INLINE_COMMONMARK};
+    markdown_inline_input input = {(const uint8_t *)text, strlen(text), piece, 1, NULL, 0, NULL, 0, NULL, 0, MARKDOWN_INLINE_COMMONMARK, 0};
     return input;
 }
 
@@ -234,7 +234,7 @@ static void test_references(void) {
 /* A document with a task, and a block quote of two lines, and contents of it. */
 static const char some[] = "[x] *a*\n\n> b\n> `c` [d]\n\n";
 static const markdown_inline_piece some_pieces[] = {{0, 0, 7, 0}, {11, 0, 13, 0}, {15, 0, 22, 0}, {0, 0, 9, 0}, {0, 0, 99, 0}};
-static const markdown_inline_content some_contents[] = {{{0, 1}, 1}, {{0, 1}, 0}, {{1, 3}, 0}, {{3, 3}, 0}};
+static const markdown_inline_content some_contents[] = {{{0, 1}, 1, 0}, {{0, 1}, 0, 0}, {{1, 3}, 0, 0}, {{3, 3}, 0, 0}};
 static const markdown_inline_range some_label = {0, 1};
 
 static markdown_inline_input some_input(void) {
@@ -315,8 +315,8 @@ static void test_texts_refused(void) {
     static const struct {
         markdown_inline_content content;
         uint32_t status;
-    } wrong[] = {{{{4, 5}, 0}, MARKDOWN_INLINE_NO_CONTENT}, {{{5, 6}, 0}, MARKDOWN_INLINE_NO_CONTENT}, {{{1, 0}, 0}, MARKDOWN_INLINE_NO_CONTENT},
-        {{{SIZE_MAX, SIZE_MAX}, 0}, MARKDOWN_INLINE_NO_CONTENT}, {{{3, 4}, 0}, MARKDOWN_INLINE_BLANK_LINE}};
+    } wrong[] = {{{{4, 5}, 0, 0}, MARKDOWN_INLINE_NO_CONTENT}, {{{5, 6}, 0, 0}, MARKDOWN_INLINE_NO_CONTENT}, {{{1, 0}, 0, 0}, MARKDOWN_INLINE_NO_CONTENT},
+        {{{SIZE_MAX, SIZE_MAX}, 0, 0}, MARKDOWN_INLINE_NO_CONTENT}, {{{3, 4}, 0, 0}, MARKDOWN_INLINE_BLANK_LINE}};
     static const markdown_inline_range ranges[] = {{0, 1}, {0, 2}, {1, 0}};
     markdown_inline_input input = some_input();
     markdown_inline_content contents[4];
@@ -348,7 +348,7 @@ static void test_short_texts(void) {
     /* In the order in which they begin: `[a]`, `[b][A]`, the image, `[f](g)` that refers to none, `[^n]` inside brackets, `[b]`, `[^M]`, `[a][]`. */
     static const uint32_t wanted[] = {1, 1, 2, MARKDOWN_INLINE_NO_DEFINITION, 1, 0, 0, 1};
     markdown_inline_piece piece = whole(text);
-    markdown_inline_content content = {{0, 1}, 0};
+    markdown_inline_content content = {{0, 1}, 0, 0};
     markdown_inline_input input = input_of(text, &piece);
     markdown_inline_event events[256];
     markdown_inline_short_event found[256];
@@ -394,7 +394,7 @@ static void test_the_header(void) {
     want("one piece with the mark of a quote in it", markdown_inline_text(&input, events, 64, &count) == MARKDOWN_INLINE_DONE);
     /* Contents in any order, twice, with no piece, with an empty piece, and beside pieces that are none. */
     static const markdown_inline_piece pieces[] = {{0, 0, 1, 0}, {2, 0, 3, 0}, {2, 0, 2, 0}, {9, 0, 5, 0}};
-    static const markdown_inline_content contents[] = {{{1, 2}, 0}, {{0, 1}, 0}, {{0, 1}, 0}, {{0, 0}, 0}, {{2, 3}, 0}};
+    static const markdown_inline_content contents[] = {{{1, 2}, 0, 0}, {{0, 1}, 0, 0}, {{0, 1}, 0, 0}, {{0, 0}, 0, 0}, {{2, 3}, 0, 0}};
     markdown_inline_outcome outcome;
     size_t ends[5];
     input = input_of("a\nb", pieces);
@@ -431,7 +431,7 @@ static void test_ids(void) {
 static void want_html(const char *text, uint32_t options, const char *html) {
     /* The label `d` leads to `/e` with the title `f`, `g` to `h`. */
     static const markdown_inline_range labels[] = {{0, 1}, {4, 5}};
-    static const markdown_inline_target targets[] = {{{1, 3}, {3, 4}, 1}, {{5, 6}, {SIZE_MAX, 0}, 0}};
+    static const markdown_inline_target targets[] = {{{1, 3}, {3, 4}, 1, 0}, {{5, 6}, {SIZE_MAX, 0}, 0, 0}};
     markdown_inline_piece piece = whole(text);
     markdown_inline_input input = input_of(text, &piece);
     uint8_t found[256], before[256];
@@ -460,7 +460,7 @@ static void test_html(void) {
     want_html("<b>[a](javascript:b)", MARKDOWN_INLINE_HTML_ANY_LINK, "&lt;b&gt;<a href=\"javascript:b\">a</a>");
     markdown_inline_piece piece = whole("[a]"), past = {0, 0, 9, 0};
     markdown_inline_range label = {1, 2}, bad = {0, 9};
-    markdown_inline_target targets[] = {{{1, 2}, {0, 9}, 1}, {{0, 9}, {0, 0}, 0}, {{1, 0}, {0, 0}, 0}, {{1, 2}, {0, 9}, 0}}, two_bytes = {{1, 3}, {0, 0}, 0};
+    markdown_inline_target targets[] = {{{1, 2}, {0, 9}, 1, 0}, {{0, 9}, {0, 0}, 0, 0}, {{1, 0}, {0, 0}, 0, 0}, {{1, 2}, {0, 9}, 0, 0}}, two_bytes = {{1, 3}, {0, 0}, 0, 0};
     markdown_inline_input input = input_of("[a]", &piece);
     uint8_t found[64];
     size_t count = 77;
@@ -533,9 +533,9 @@ static void test_strings(void) {
 /* A document of three paragraphs, with its definition behind its labels: `d` leads to `/e` with the title `f`; and a footnote `g`. */
 static const char many[] = "[a][d] b[^g]\n\n*c* [D][]\n\nh[^g] ![d]";
 static const markdown_inline_piece many_pieces[] = {{0, 0, 12, 0}, {14, 0, 23, 0}, {25, 0, 35, 0}, {0, 0, 14, 0}};
-static const markdown_inline_content many_contents[] = {{{0, 1}, 0}, {{1, 2}, 0}, {{2, 3}, 0}};
+static const markdown_inline_content many_contents[] = {{{0, 1}, 0, 0}, {{1, 2}, 0, 0}, {{2, 3}, 0, 0}};
 static const markdown_inline_range many_labels[] = {{0, 1}, {4, 5}};
-static const markdown_inline_target many_targets[] = {{{1, 3}, {3, 4}, 1}};
+static const markdown_inline_target many_targets[] = {{{1, 3}, {3, 4}, 1, 0}};
 /* What CommonMark and GitHub write of them: the second call of a footnote has its number, and an id of its own. */
 static const char *const many_html[] = {"<a href=\"/e\" title=\"f\">a</a> b<sup><a href=\"#user-content-fn-g\" id=\"user-content-fnref-g\" data-footnote-ref=\"\" "
     "aria-describedby=\"footnote-label\">1</a></sup>", "<em>c</em> <a href=\"/e\" title=\"f\">D</a>",
@@ -757,8 +757,8 @@ static int call_once(const char *call) {
     const char *text = "> a *b* [c] `d` <e f='g'>\n> &amp; https://h.i [j](k)";
     markdown_inline_piece pieces[] = {{2, 0, 26, 0}, {28, 0, 0, 0}};
     markdown_inline_range label = {0, 1};
-    markdown_inline_target target = {{0, 1}, {0, 1}, 1};
-    markdown_inline_content contents[] = {{{0, 2}, 0}, {{1, 2}, 1}};
+    markdown_inline_target target = {{0, 1}, {0, 1}, 1, 0};
+    markdown_inline_content contents[] = {{{0, 2}, 0, 0}, {{1, 2}, 1, 0}};
     markdown_inline_input input = input_of(text, pieces);
     static markdown_inline_short_event short_events[256];
     markdown_inline_outcome outcome;

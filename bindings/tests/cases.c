@@ -100,7 +100,7 @@ static uint32_t answer_leaves(const markdown_inline_input *input) {
 
 /* Appends the target that a word names to the labels. */
 static markdown_inline_target read_target(char *word, size_t *len) {
-    markdown_inline_target target = {{*len, 0}, {0, 0}, 0};
+    markdown_inline_target target = {{*len, 0}, {0, 0}, 0, 0};
     char *title = strchr(word, ':');
     if (title) *title++ = 0;
     target.destination.end = *len = append(labels, *len, word + 1);
@@ -222,7 +222,7 @@ static uint32_t answer_shorts(const markdown_inline_input *input, char **words) 
 
 /* Answers a case. */
 static void answer(char **words) {
-    markdown_inline_input input = {document, 0, pieces, 0, labels, 0, definitions, 0, footnotes, 0, (uint32_t)strtoul(words[1], NULL, 10)};
+    markdown_inline_input input = {document, 0, pieces, 0, labels, 0, definitions, 0, footnotes, 0, (uint32_t)strtoul(words[1], NULL, 10), 0};
     for (char *word; (word = next(&words[2])) != NULL; input.pieces_len++) {
         markdown_inline_piece *it = &pieces[input.pieces_len];
         sscanf(word, "%zu.%zu-%zu.%zu", &it->start, &it->start_vs, &it->end, &it->end_vs);

@@ -456,7 +456,7 @@ static size_t parts_len;
 
 static void lend_case(const drawn *it) {
     int is_long = it->bytes_len > BYTES;
-    markdown_inline_input whole = {NULL, it->bytes_len, NULL, it->pieces_len, NULL, it->labels_len, NULL, it->definitions_len, NULL, it->footnotes_len, it->options};
+    markdown_inline_input whole = {NULL, it->bytes_len, NULL, it->pieces_len, NULL, it->labels_len, NULL, it->definitions_len, NULL, it->footnotes_len, it->options, 0};
     whole.bytes = (const uint8_t *)lend(&of_bytes, it->bytes, is_long ? 0 : it->bytes_len, 1);
     whole.pieces = (const markdown_inline_piece *)lend(&of_pieces, it->pieces, it->pieces_len, sizeof *it->pieces);
     whole.labels = (const uint8_t *)lend(&of_labels, it->labels, it->labels_len, 1);
@@ -767,7 +767,7 @@ static size_t text_by_events(uint32_t options, const uint8_t *bytes, size_t len,
     const uint32_t how = options & (MARKDOWN_INLINE_OPTION_HTML_REFERENCES | MARKDOWN_INLINE_OPTION_STANDARD_RULES);
     static markdown_inline_event events[16 * PARTS_MOST * BYTES];
     markdown_inline_piece piece = {0, 0, 0, 0};
-    markdown_inline_input one = {bytes, len, &piece, 1, NULL, 0, NULL, 0, NULL, 0, MARKDOWN_INLINE_CRATE | how};
+    markdown_inline_input one = {bytes, len, &piece, 1, NULL, 0, NULL, 0, NULL, 0, MARKDOWN_INLINE_CRATE | how, 0};
     size_t events_len = 0, written = 0, more = 0;
     piece.end = len;
     want("a string of UTF-8 has events", markdown_inline_string(&one, events, sizeof events / sizeof *events, &events_len) == MARKDOWN_INLINE_DONE);

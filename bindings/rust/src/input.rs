@@ -181,6 +181,7 @@ impl<'a> Input<'a> {
             destination: self.labelled(destination.as_ref()),
             title: self.labelled(title.unwrap_or("").as_bytes()),
             has_title: u32::from(title.is_some()),
+            reserved: 0,
         };
         self.targets.push(target);
     }
@@ -619,6 +620,7 @@ impl<'a> Input<'a> {
             footnotes: self.footnotes.as_ptr(),
             footnotes_len: self.footnotes.len(),
             options: self.options.bits(),
+            reserved: 0,
         }
     }
 }

@@ -51,6 +51,7 @@ pub(crate) struct RawInput {
     pub footnotes: *const RawRange,
     pub footnotes_len: usize,
     pub options: u32,
+    pub reserved: u32,
 }
 
 /// An event as it crosses.
@@ -105,6 +106,7 @@ pub(crate) struct RawTarget {
     pub destination: RawRange,
     pub title: RawRange,
     pub has_title: u32,
+    pub reserved: u32,
 }
 
 /// A content as it crosses.
@@ -113,6 +115,7 @@ pub(crate) struct RawTarget {
 pub(crate) struct RawContent {
     pub pieces: RawRange,
     pub first_of_item: u32,
+    pub reserved: u32,
 }
 
 /// How far a call for many comes.

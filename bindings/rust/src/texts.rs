@@ -41,6 +41,7 @@ impl RawContent {
                 end: content.pieces.end,
             },
             first_of_item: u32::from(content.first_of_item),
+            reserved: 0,
         }
     }
 }
