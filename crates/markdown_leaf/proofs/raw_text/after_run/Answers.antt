@@ -1,5 +1,5 @@
 -- The two ends, from what each step leaves of the fields.
-use Rattle.std.proofs.Common.{◌≡◌, ◌≢◌, sym, ap, ◌∙◌, arith}
+use Rattle.std.proofs.Common.{◌≡◌, ◌≢◌, sym, ap, ◌∙◌}
 use Rattle.std.proofs.lemmas.Bool.{eq-eqb, ne_eqb}
 use Rattle.markdown_engine.specs.Operations.{Exit, applied, scratched}
 use Rattle.markdown_engine.specs.StateRuns.{stepped}
@@ -12,7 +12,7 @@ use Rattle.markdown_engine.proofs.OperationFields.{scratch-applied}
 use Rattle.markdown_model.proofs.GrammarSteps.{if-true, if-false}
 use Rattle.markdown_plan.specs.LateNames.{renamed}
 use Rattle.markdown_plan.specs.ScratchFields.{with_size_b}
-use Rattle.markdown_plan.proofs.RenameLemmas.{scratch-renamed, rename_rules}
+use Rattle.markdown_plan.proofs.RenameLemmas.{scratch-renamed}
 use Rattle.markdown_leaf.specs.RawText.{after_run, rested}
 use Rattle.markdown_leaf.proofs.raw_text.after_run.Goals as goal
 
@@ -42,11 +42,3 @@ pub returns-in_ok-exit-3 : goal.returns-in_ok-exit-3
 unfolding scratched
 returns-in_ok-exit-3 c =
     (other c.args.tokenizer.now c.rename_entered.new.tokenizer c.exit-else-tokenizer.new.self c.if-tokenizer.false c.in_ok-rename_entered.ensures.ok c.in_ok-exit-3.ensures.ok, tt)
-
-pub exit-requires-then-tokenizer : goal.exit-requires-then-tokenizer
-unfolding scratched
-exit-requires-then-tokenizer c = grind (arith, rename_rules)
-
-pub exit-requires-else-tokenizer : goal.exit-requires-else-tokenizer
-unfolding scratched
-exit-requires-else-tokenizer c = grind (arith, rename_rules)
