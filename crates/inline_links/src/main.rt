@@ -93,8 +93,11 @@ fn tell(rt: &HostRuntime, file: Option<&str>, fault: &Fault) -> u8 {
     fault.status()
 }
 
-// Lists files, past those that are not read. Answers the status of the first fault.
-fn list_files(rt: &HostRuntime, files: &[String], is_json: bool) -> u8 {
+// Lists files, past those that are not read, or standard input where none is named. Answers the status of the first fault.
+fn list_files(rt: &HostRuntime, files: &[String], is_json: bool) -> Result<u8, Fault> {
+    if files.is_empty() {
+        list(rt, None, is_json)?;
+    }
     let mut status = 0;
     for file in files {
         let Err(fault) = list(rt, Some(file.as_str()), is_json) else {
@@ -108,7 +111,7 @@ fn list_files(rt: &HostRuntime, files: &[String], is_json: bool) -> u8 {
             break;
         }
     }
-    status
+    Ok(status)
 }
 
 // What the words ask for that stand behind the program's name.
@@ -120,22 +123,20 @@ fn asked(rt: &HostRuntime) -> Result<Asked, Fault> {
     }
 }
 
-// Does what the words ask. Answers the status.
-fn run(rt: &HostRuntime) -> u8 {
-    let done = match asked(rt) {
-        Ok(Asked::Links { is_json, files }) if !files.is_empty() => {
-            return list_files(rt, files.as_slice(), is_json);
+// Does what the words ask. Answers the status, where each fault of a file was told.
+fn run(rt: &HostRuntime) -> Result<u8, Fault> {
+    match asked(rt)? {
+        Asked::Page(page) => {
+            print(rt, page)?;
+            Ok(0)
         }
-        Ok(Asked::Links { is_json, .. }) => list(rt, None, is_json),
-        Ok(Asked::Page(page)) => print(rt, page),
-        Err(fault) => Err(fault),
-    };
-    match done {
-        Ok(()) => 0,
-        Err(fault) => tell(rt, None, &fault),
+        Asked::Links { is_json, files } => list_files(rt, files.as_slice(), is_json),
     }
 }
 
 fn main(rt: HostRuntime) -> ExitCode {
-    ExitCode::from(run(&rt))
+    match run(&rt) {
+        Ok(status) => ExitCode::from(status),
+        Err(fault) => ExitCode::from(tell(&rt, None, &fault)),
+    }
 }
