@@ -85,15 +85,12 @@ pub(crate) fn fill_many<T>(
             let at = Some(many);
             refusal = Some(Refusal { error, at });
         }
-        // SAFETY: with each status so many ends are written behind those before, and as many elements as the last of them says.
-        unsafe { ends.set_len(from + outcome.done) };
-        ends[from..].iter_mut().for_each(|end| *end += written);
-        let end = ends.last().copied().unwrap_or(0);
-        unsafe { found.set_len(end) };
+        // SAFETY: with each status as many are written as the outcome says.
+        unsafe { take(found, ends, outcome.done) };
         if ends.len() == many {
             return refusal.map_or(Ok(()), Err);
         }
-        let mut missing = outcome.count - (end - written);
+        let mut missing = outcome.count - (found.len() - written);
         if !goes_on {
             found.clear();
             ends.clear();
@@ -103,6 +100,18 @@ pub(crate) fn fill_many<T>(
             return none_of(found, ends, Error::NoMemory.into());
         }
     }
+}
+
+/// Counts what a call has written behind what stands in both vectors: so many ends, and the elements that they count.
+///
+/// # Safety
+///
+/// So many ends stand behind those of the vector, within its room, and as many elements as the last of them says behind the elements.
+unsafe fn take<T>(found: &mut Vec<T>, ends: &mut Vec<usize>, done: usize) {
+    let (from, written) = (ends.len(), found.len());
+    ends.set_len(from + done);
+    ends[from..].iter_mut().for_each(|end| *end += written);
+    found.set_len(ends.last().copied().unwrap_or(0));
 }
 
 /// The refusal, with no answers.

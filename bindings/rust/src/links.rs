@@ -55,6 +55,29 @@ fn scheme_of(name: Name) -> &'static str {
 }
 
 impl Walk {
+    /// Passes the events of a content.
+    fn pass(
+        &mut self,
+        document: &[u8],
+        content: usize,
+        events: impl Iterator<Item = (Event, ShortEvent)>,
+    ) {
+        let (mut starts, mut depth) = (Vec::new(), 0);
+        for (event, short) in events {
+            if is_literal(event.name) && depth > 0 {
+                continue;
+            }
+            if event.is_enter() {
+                starts.push(event.point.index);
+                depth += usize::from(event.name == Name::Link);
+                self.enter(content, event, short);
+            } else {
+                depth -= usize::from(event.name == Name::Link);
+                self.exit(document, starts.pop().unwrap_or(0), event);
+            }
+        }
+    }
+
     fn enter(&mut self, content: usize, event: Event, short: ShortEvent) {
         if is_link(event.name) {
             self.open.push(self.found.len());
@@ -135,20 +158,7 @@ impl Input<'_> {
         let (all, shorts) = (self.texts(contents)?, self.short_texts(contents)?);
         let mut walk = Walk::default();
         for (content, (events, shorts)) in all.iter().zip(&shorts).enumerate() {
-            let (mut starts, mut depth) = (Vec::new(), 0);
-            for (event, short) in events.iter().zip(shorts) {
-                if is_literal(event.name) && depth > 0 {
-                    continue;
-                }
-                if event.is_enter() {
-                    starts.push(event.point.index);
-                    depth += usize::from(event.name == Name::Link);
-                    walk.enter(content, event, short);
-                } else {
-                    depth -= usize::from(event.name == Name::Link);
-                    walk.exit(self.document(), starts.pop().unwrap_or(0), event);
-                }
-            }
+            walk.pass(self.document(), content, events.iter().zip(shorts));
         }
         self.led(walk)
     }
