@@ -1,0 +1,37 @@
+-- The tree of blocks (CommonMark 3.2, 4 and 5).
+use Rattle.std.specs.Prelude.{ℕ, Bool, List}
+use Rattle.markdown_content.specs.Codes.{Code}
+
+-- the marker of a list item: a bullet's value; the delimiter and the number of an ordered one (5.2)
+pub data Marker : Type 0 where
+  bullet : ℕ → Marker
+  ordered : ℕ → ℕ → Marker
+
+-- what holds blocks; of an item also the columns that its further lines are indented by (5.1, 5.2)
+pub data Container : Type 0 where
+  quote : Container
+  item : Marker → ℕ → Container
+
+-- how code is fenced: the value, how often it stands, and the columns before it (4.5)
+pub record Fence : Type 0 where
+  pub value : ℕ
+  pub count : ℕ
+  pub columns : ℕ
+
+-- What holds no blocks (4). A blank line is one. A heading has its level and its text, and so has a paragraph that an underline made a heading. Fenced
+-- code has its info string and its lines, HTML its kind and its lines; the Bool says that they are ended, so that no line goes on with them.
+pub data Leaf : Type 0 where
+  blank : Leaf
+  thematic_break : Leaf
+  heading : ℕ → List Code → Leaf
+  underlined : ℕ → List Code → Leaf
+  paragraph : List Code → Leaf
+  indented_code : List (List Code) → Leaf
+  fenced_code : Fence → List Code → List (List Code) → Bool → Leaf
+  html : ℕ → List Code → Bool → Leaf
+
+-- Siblings, the newest last. A container holds what is inside it.
+pub data Tree : Type 0 where
+  nothing : Tree
+  and_leaf : Tree → Leaf → Tree
+  and_container : Tree → Container → Tree → Tree
