@@ -1,0 +1,4 @@
+-- The rows of this crate, and their words.
+pub mod BlockNotation
+pub mod StandardBlocks
+pub mod ChosenBlocks
