@@ -1,8 +1,17 @@
 -- Laws on the tree of blocks.
-use Rattle.std.specs.Prelude.{◌≡◌, List, [], ◌∷◌, Some, Bool}
-use Rattle.markdown_content.specs.Codes.{Code}
-use Rattle.markdown_block_model.specs.BlockTree.{Container, Tree, and_container}
+use Rattle.std.specs.Prelude.{◌≡◌, ◌⊎◌, ℕ, suc, ◌<◌, List, [], ◌∷◌, length, Option, Some, Bool, true, false, find}
+use Rattle.std.specs.Str.{byte}
+use Rattle.std.specs.List.{list_any}
+use Rattle.markdown_content.specs.Codes.{Code, is_blank}
+use Rattle.markdown_model.specs.CodeTests.{is_whitespace_code}
+use Rattle.markdown_block_model.specs.LineRests.{is_blank_line}
+use Rattle.markdown_block_model.specs.BlockTree.{bullet, Container, quote, item, Tree, nothing, and_container}
+use Rattle.markdown_block_model.specs.LeafStarts.{is_break}
+use Rattle.markdown_block_model.specs.BlockStarts.{with_rest}
 use Rattle.markdown_block_model.specs.DocumentBlocks.{rest_inside, read_lines}
+use Rattle.markdown_block_model.specs.LinkDefinitions.{Definition, identifier, is_called, first_ones}
+
+-- Containers (5.1, 5.2).
 
 -- each line goes on with the container, and the rest inside it is the other line
 abbrev pub GoOn : Container → List (List Code) → List (List Code) → Type 0
@@ -11,8 +20,60 @@ GoOn c [] (l ∷ ls) = ⊥
 GoOn c (q ∷ qs) [] = ⊥
 GoOn c (q ∷ qs) (l ∷ ls) = ((inside : Tree) → rest_inside c inside q ≡ Some l) × GoOn c qs ls
 
--- what the lines of a container are inside it, that they are in its contents (5.1, 5.2)
+-- what the lines of a container are inside it, that they are in its contents
 abbrev pub ContainersHold : Type 0
 ContainersHold =
     (has_text : List Code → Bool) (c : Container) (qs ls : List (List Code)) (before inside : Tree) → GoOn c qs ls
     → read_lines has_text qs (and_container before c inside) ≡ and_container before c (read_lines has_text ls inside)
+
+-- each line is so to the other line
+abbrev pub Each : (List Code → List Code → Type 0) → List (List Code) → List (List Code) → Type 0
+Each R [] [] = Unit {0}
+Each R [] (l ∷ ls) = ⊥
+Each R (q ∷ qs) [] = ⊥
+Each R (q ∷ qs) (l ∷ ls) = R q l × Each R qs ls
+
+-- the first line is the other one behind a code of this value and a blank
+pub record IsMarked (v : ℕ) (q l : List Code) : Type 0 where
+  pub marker : Code
+  pub space : Code
+  pub marks : marker.value ≡ v
+  pub is_space : is_blank space ≡ true
+  pub whole : q ≡ marker ∷ space ∷ l
+
+-- it is the other one behind two blanks
+pub record IsIndented (q l : List Code) : Type 0 where
+  pub first : Code
+  pub second : Code
+  pub first_blank : is_blank first ≡ true
+  pub second_blank : is_blank second ≡ true
+  pub whole : q ≡ first ∷ second ∷ l
+
+-- `>` and a blank before each line make one quote of what the lines are (5.1, the first rule)
+abbrev pub QuotesHold : Type 0
+QuotesHold =
+    (has_text : List Code → Bool) (q l : List Code) (qs ls : List (List Code)) → IsMarked (byte ">") q l → Each (IsMarked (byte ">")) qs ls → is_blank_line l ≡ false
+    → read_lines has_text (q ∷ qs) nothing ≡ and_container nothing quote (read_lines has_text (l ∷ ls) nothing)
+
+-- a bullet and a blank before the first line, and two blanks before each further one, make an item of what the lines are (5.2, the first rule). The first
+-- line begins with no whitespace, and is no break with the bullet.
+abbrev pub ItemsHold : Type 0
+ItemsHold =
+    (has_text : List Code → Bool) (v : ℕ) (c : Code) (q l : List Code) (qs ls : List (List Code))
+    → (v ≡ byte "-") ⊎ ((v ≡ byte "+") ⊎ (v ≡ byte "*")) → IsMarked v q (c ∷ l) → is_whitespace_code c ≡ false → is_break q ≡ false → Each IsIndented qs ls
+    → read_lines has_text (q ∷ qs) nothing ≡ and_container nothing (item (bullet v) 2) (read_lines has_text ((c ∷ l) ∷ ls) nothing)
+
+-- The number of containers that begin with a line, which the definition counts down, is enough: with more steps nothing more begins.
+abbrev pub StepsSuffice : Type 0
+StepsSuffice = (n : ℕ) (cs : List Code) (siblings : Tree) → length cs < n → with_rest n cs siblings ≡ with_rest (suc (length cs)) cs siblings
+
+-- Definitions (4.7).
+
+abbrev pub AreDifferent : List Definition → Type 0
+AreDifferent [] = Unit {0}
+AreDifferent (d ∷ ds) = (list_any (is_called (identifier d)) ds ≡ false) × AreDifferent ds
+
+-- of those that count no two have one identifier, and by each identifier one finds the first of all that have it
+pub record OneDefinition : Type 0 where
+  pub differ : (ds : List Definition) → AreDifferent (first_ones ds)
+  pub first : (name : List ℕ) (ds : List Definition) → find (is_called name) (first_ones ds) ≡ find (is_called name) ds

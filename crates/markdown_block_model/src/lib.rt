@@ -4,9 +4,29 @@
 //! the check proves it.
 #![tactic(auto)]
 
-ghost use Rattle.markdown_block_model.specs.BlockLaws.{ContainersHold};
+ghost use Rattle.markdown_block_model.specs.BlockLaws.{ContainersHold, QuotesHold, ItemsHold, StepsSuffice, OneDefinition};
 
 /// A container holds what its lines are inside it (CommonMark 5.1 and 5.2).
 pub fn containers_hold()
     ensures { ContainersHold }
+{}
+
+/// `>` and a blank before each line make one quote of what the lines are (CommonMark 5.1, the first rule).
+pub fn quotes_hold()
+    ensures { QuotesHold }
+{}
+
+/// A bullet and a blank before the first line, and two blanks before each further one, make an item of what the lines are (CommonMark 5.2, the first rule).
+pub fn items_hold()
+    ensures { ItemsHold }
+{}
+
+/// The number of steps that the definition counts down is enough: a line begins no more containers than it has codes.
+pub fn steps_suffice()
+    ensures { StepsSuffice }
+{}
+
+/// Of several definitions with one identifier the first counts (CommonMark 4.7).
+pub fn one_definition()
+    ensures { OneDefinition }
 {}

@@ -1,0 +1,200 @@
+-- A marker before each line makes a container of the lines (CommonMark 5.1 and 5.2, the first rule of each).
+use Rattle.std.proofs.Common.{◌≡◌, ◌⊎◌, inl, inr, ℕ, zero, suc, ◌+◌, ◌<◌, ◌≤◌, refl, sym, ap, subst, ◌∙◌, List, [], ◌∷◌, length, drop, Bool, true, false, ◌&&◌, ◌||◌, not, ◌==◌, nat_lt, nat_le, Option, Some, None, if◌then◌else◌, rules, arith}
+use Rattle.std.proofs.lemmas.Bool.Decides.{nat_tests}
+use Rattle.std.specs.Str.{byte}
+use Rattle.std.specs.List.{list_any}
+use Rattle.markdown_content.specs.Codes.{Code, is_blank, is_line_ending}
+use Rattle.markdown_model.specs.CodeTests.{is_value, is_whitespace_code, next_is}
+use Rattle.markdown_model.specs.Grammar.{span}
+use Rattle.markdown_block_model.specs.LineRests.{indent, trimmed, is_blank_line, past_blank, skip, is_gap, count_first, first_value, trimmed_end, only_if}
+use Rattle.markdown_block_model.specs.BlockTree.{Marker, bullet, Container, quote, item, Leaf, blank, thematic_break, fenced_code, Tree, nothing, and_leaf, and_container}
+use Rattle.markdown_block_model.specs.LeafStarts.{is_break, heading_of, heading_at, may_be_info, fence_of, fence_at}
+use Rattle.markdown_block_model.specs.HtmlStarts.{kind_of, kind_behind, html_kind, html_of, html_at}
+use Rattle.markdown_block_model.specs.ContainerStarts.{behind_quote, in_quote, quote_at, bullet_at, ordered_at, or_else, padding, may_begin, item_of, item_by, item_at}
+use Rattle.markdown_block_model.specs.BlockStarts.{Begun, leaf_begins, container_begins, leaf_begun, container_begun, first_of, begun_near, begun_far, begun, with_found, with_rest, with_line}
+use Rattle.markdown_block_model.specs.DocumentBlocks.{rest_in_item, rest_inside, read_lines}
+use Rattle.markdown_block_model.specs.BlockLaws.{GoOn, Each, IsMarked, IsIndented, QuotesHold, ItemsHold}
+use Rattle.markdown_block_model.proofs.ContainersHold.{containers_hold}
+use Rattle.markdown_block_model.proofs.ContainersTakeACode.{steps_suffice}
+
+span-pass : (p : Code → Bool) (c : Code) (cs : List Code) → p c ≡ true → span p (c ∷ cs) ≡ (c ∷ (span p cs).0, (span p cs).1)
+span-pass p c cs e = rw (e, span) refl
+
+span-stop : (p : Code → Bool) (c : Code) (cs : List Code) → p c ≡ false → span p (c ∷ cs) ≡ ([], c ∷ cs)
+span-stop p c cs e = rw (e, span) refl
+
+-- a line that is not blank makes of a document what begins with it
+filled-line : (cs : List Code) → is_blank_line cs ≡ false → with_line cs nothing ≡ with_rest (suc (length cs)) cs nothing
+filled-line cs h = ap (λ v. if v then and_leaf nothing blank else with_rest (suc (length cs)) cs nothing) h
+
+-- a container that begins with a line, and what is inside it
+first-line : (q l : List Code) (c : Container) → is_blank_line q ≡ false → is_blank_line l ≡ false → length l < length q → begun false false q ≡ Some (container_begins c l)
+    → with_line q nothing ≡ and_container nothing c (with_line l nothing)
+first-line q l c hq hl shorter h =
+    filled-line q hq
+    ∙ ap (with_found (λ rest. with_rest (length q) rest nothing) q nothing) h
+    ∙ ap (and_container nothing c) (steps_suffice (length q) l nothing shorter)
+    ∙ ap (and_container nothing c) (sym (filled-line l hl))
+
+starts-other : (c : Code) (cs : List Code) → is_whitespace_code c ≡ false → is_blank_line (c ∷ cs) ≡ false
+starts-other c cs h = ap (λ v. v && is_blank_line cs) h
+
+-- Quotes.
+
+quoted : (m s : Code) (l : List Code) → m.value ≡ byte ">" → is_blank s ≡ true → behind_quote (m ∷ s ∷ l) ≡ Some l
+quoted m s l h b =
+    let other : is_blank m ≡ false = ap (λ n. n == 32 || n == 9) h in
+    let marks : is_value (byte ">") m ≡ true = ap (λ n. n == byte ">") h in
+    ap (λ (x : List Code × List Code). only_if (nat_lt (length x.0) 4 && next_is (is_value (byte ">")) x.1) (skip 1 (drop 1 x.1))) (span-stop is_blank m (s ∷ l) other)
+    ∙ ap (λ v. only_if v (past_blank (s ∷ l))) marks
+    ∙ ap (λ v. Some (if v then l else s ∷ l)) b
+
+goes-on-quote : (q l : List Code) → IsMarked (byte ">") q l → behind_quote q ≡ Some l
+goes-on-quote q l h = ap behind_quote h.whole ∙ quoted h.marker h.space l h.marks h.is_space
+
+go-on-quote : (qs ls : List (List Code)) → Each (IsMarked (byte ">")) qs ls → GoOn quote qs ls
+go-on-quote [] [] h = tt
+go-on-quote [] (l ∷ ls) h = absurd h
+go-on-quote (q ∷ qs) [] h = absurd h
+go-on-quote (q ∷ qs) (l ∷ ls) h = (λ inside. goes-on-quote q l h.0, go-on-quote qs ls h.1)
+
+first-quote : (o : Option (List Code)) (bs : List (Option Begun)) (l : List Code) → o ≡ Some l → first_of (container_begun (in_quote o) ∷ bs) ≡ Some (container_begins quote l)
+first-quote o bs l h = ap (λ v. first_of (container_begun (in_quote v) ∷ bs)) h
+
+marked-indent : (m : Code) (cs : List Code) → is_blank m ≡ false → indent (m ∷ cs) ≡ 0
+marked-indent m cs h = ap (λ (x : List Code × List Code). length x.0) (span-stop is_blank m cs h)
+
+marked-trimmed : (m : Code) (cs : List Code) → is_blank m ≡ false → trimmed (m ∷ cs) ≡ m ∷ cs
+marked-trimmed m cs h = ap (λ (x : List Code × List Code). x.1) (span-stop is_blank m cs h)
+
+begun-behind : (m : Code) (cs : List Code) → is_blank m ≡ false → begun false false (m ∷ cs) ≡ begun_near false false (m ∷ cs)
+begun-behind m cs h = ap (λ n. if nat_lt n 4 then begun_near false false (m ∷ cs) else begun_far false (m ∷ cs)) (marked-indent m cs h)
+
+quote-begins : (m s : Code) (l : List Code) → m.value ≡ byte ">" → is_blank s ≡ true → begun false false (m ∷ s ∷ l) ≡ Some (container_begins quote l)
+quote-begins m s l h b =
+    begun-behind m (s ∷ l) (ap (λ n. n == 32 || n == 9) h) ∙ first-quote (behind_quote (m ∷ s ∷ l)) _ l (quoted m s l h b)
+
+pub quotes_hold : QuotesHold
+quotes_hold has_text q l qs ls h hs f =
+    ap (read_lines has_text qs) (ap (λ x. with_line x nothing) h.whole ∙ first-line (h.marker ∷ h.space ∷ l) l quote filled f (omega arith) (quote-begins h.marker h.space l h.marks h.is_space))
+    ∙ containers_hold has_text quote qs ls nothing (with_line l nothing) (go-on-quote qs ls hs)
+  where
+    filled : is_blank_line (h.marker ∷ h.space ∷ l) ≡ false
+    filled = starts-other h.marker (h.space ∷ l) (ap (λ n. (n == 32 || n == 9) || n == 10) h.marks)
+
+-- Items.
+
+-- a value that begins nothing else than a break or an item
+record BeginsAnItem (v : ℕ) : Type 0 where
+  is_bullet : (v == byte "-" || (v == byte "+" || v == byte "*")) ≡ true
+  no_blank : (v == 32 || v == 9) ≡ false
+  no_whitespace : ((v == 32 || v == 9) || v == 10) ≡ false
+  no_quote : (v == byte ">") ≡ false
+  no_heading : (v == byte "#") ≡ false
+  no_tilde : (v == byte "~") ≡ false
+  no_accent : (v == byte "`") ≡ false
+  no_tag : (v == byte "<") ≡ false
+
+bullets : (v : ℕ) → (v ≡ byte "-") ⊎ ((v ≡ byte "+") ⊎ (v ≡ byte "*")) → BeginsAnItem v
+bullets v (inl h) = subst BeginsAnItem (sym h) (record { is_bullet = refl; no_blank = refl; no_whitespace = refl; no_quote = refl; no_heading = refl; no_tilde = refl; no_accent = refl; no_tag = refl })
+bullets v (inr (inl h)) = subst BeginsAnItem (sym h) (record { is_bullet = refl; no_blank = refl; no_whitespace = refl; no_quote = refl; no_heading = refl; no_tilde = refl; no_accent = refl; no_tag = refl })
+bullets v (inr (inr h)) = subst BeginsAnItem (sym h) (record { is_bullet = refl; no_blank = refl; no_whitespace = refl; no_quote = refl; no_heading = refl; no_tilde = refl; no_accent = refl; no_tag = refl })
+
+and-false : (b : Bool) → (b && false) ≡ false
+and-false true = refl
+and-false false = refl
+
+same-either : (b : Bool) (n : ℕ) → (if b then n else n) ≡ n
+same-either true n = refl
+same-either false n = refl
+
+no-heading : (m : Code) (cs : List Code) → is_value (byte "#") m ≡ false → heading_at (m ∷ cs) ≡ None
+no-heading m cs h = ap (λ (x : List Code × List Code). heading_of (length x.0) (drop (length x.0) (m ∷ cs))) (span-stop (is_value (byte "#")) m cs h)
+
+no-fence : (n count : ℕ) (info : List Code) → (n == byte "~") ≡ false → (n == byte "`") ≡ false → fence_of 0 n count info ≡ None
+no-fence n count info h k =
+    let code : Leaf = fenced_code (record { value = n; count = count; columns = 0 }) (trimmed_end (trimmed info)) [] false in
+    let barred : may_be_info n info ≡ false = ap (λ v. v || (n == byte "`" && not (list_any (is_value n) info))) h ∙ ap (λ v. v && not (list_any (is_value n) info)) k in
+    ap (λ v. only_if (nat_le 3 count && v) code) barred ∙ ap (λ v. only_if v code) (and-false (nat_le 3 count))
+
+no-html : (m : Code) (cs : List Code) → is_value (byte "<") m ≡ false → html_kind (m ∷ cs) ≡ 0
+no-html m cs h = ap (λ v. if v then kind_of (kind_behind cs) (m ∷ cs) else 0) h
+
+first-item : (a i : Option (Container × List Code)) (h f x : Option Leaf) (b : Bool) (c : Container) (l : List Code)
+    → a ≡ None → h ≡ None → f ≡ None → x ≡ None → b ≡ false → i ≡ Some (c, l)
+    → first_of (container_begun a ∷ leaf_begun h ∷ leaf_begun f ∷ leaf_begun x ∷ leaf_begun (only_if b thematic_break) ∷ container_begun i ∷ []) ≡ Some (container_begins c l)
+first-item a i h f x b c l e1 e2 e3 e4 e5 e6 = rw (e1, e2, e3, e4, e5, e6) refl
+
+item-padding : (s c : Code) (l : List Code) → is_blank s ≡ true → is_blank c ≡ false → padding (s ∷ c ∷ l) ≡ 1
+item-padding s c l b o =
+    let one : indent (s ∷ c ∷ l) ≡ 1 = ap (λ (x : List Code × List Code). length x.0) (span-pass is_blank s (c ∷ l) b) ∙ ap suc (marked-indent c l o) in
+    ap (λ n. if (is_blank_line (s ∷ c ∷ l) || nat_le 5 n) then 1 else n) one ∙ same-either (is_blank_line (s ∷ c ∷ l) || nat_le 5 1) 1
+
+item-here : (v : ℕ) (m s c : Code) (l : List Code) → BeginsAnItem v → m.value ≡ v → is_blank s ≡ true → is_blank c ≡ false
+    → item_at false 0 (m ∷ s ∷ c ∷ l) ≡ Some (item (bullet v) 2, c ∷ l)
+item-here v m s c l i h b o =
+    let q = m ∷ s ∷ c ∷ l in
+    let after = s ∷ c ∷ l in
+    ap (λ n. item_by false 0 q (or_else (only_if (n == byte "-" || (n == byte "+" || n == byte "*")) (bullet n, 1)) (ordered_at q))) h
+    ∙ ap (λ w. item_by false 0 q (or_else (only_if w (bullet v, 1)) (ordered_at q))) i.is_bullet
+    ∙ ap (λ w. only_if ((w || is_line_ending s) && true) (item (bullet v) (1 + padding after), skip (padding after) after)) b
+    ∙ ap (λ n. Some (item (bullet v) (1 + n), skip n after)) (item-padding s c l b o)
+    ∙ ap (λ w. Some (item (bullet v) 2, if w then c ∷ l else after)) b
+
+item-begins : (v : ℕ) (m s c : Code) (l : List Code) → BeginsAnItem v → m.value ≡ v → is_blank s ≡ true → is_whitespace_code c ≡ false → is_break (m ∷ s ∷ c ∷ l) ≡ false
+    → begun false false (m ∷ s ∷ c ∷ l) ≡ Some (container_begins (item (bullet v) 2) (c ∷ l))
+item-begins v m s c l i h b w k =
+    let q : List Code = m ∷ s ∷ c ∷ l in
+    let rest : List Code = s ∷ c ∷ l in
+    let other : is_blank m ≡ false = ap (λ n. n == 32 || n == 9) h ∙ i.no_blank in
+    let still : trimmed q ≡ q = marked-trimmed m rest other in
+    let columns : indent q ≡ 0 = marked-indent m rest other in
+    let is_none : behind_quote q ≡ None =
+    ap (λ (x : List Code × List Code). only_if (nat_lt (length x.0) 4 && next_is (is_value (byte ">")) x.1) (skip 1 (drop 1 x.1))) (span-stop is_blank m rest other)
+    ∙ ap (λ n. only_if (n == byte ">") (skip 1 rest)) h ∙ ap (λ v. only_if v (skip 1 rest)) i.no_quote in
+    let not_blank : is_blank c ≡ false = or-left (is_blank c) (is_line_ending c) w in
+    begun-behind m rest other
+    ∙ first-item (quote_at q) (item_at false (indent q) (trimmed q)) (heading_at (trimmed q)) (fence_at (indent q) (trimmed q)) (html_at false q) (is_break (trimmed q)) (item (bullet v) 2) (c ∷ l)
+    (ap in_quote is_none)
+    (ap heading_at still ∙ no-heading m rest (ap (λ n. n == byte "#") h ∙ i.no_heading))
+    (ap (λ n. fence_at n (trimmed q)) columns ∙ ap (fence_at 0) still
+    ∙ no-fence m.value (count_first m.value q) (drop (count_first m.value q) q) (ap (λ n. n == byte "~") h ∙ i.no_tilde) (ap (λ n. n == byte "`") h ∙ i.no_accent))
+    (ap (λ x. html_of false (html_kind x) q) still ∙ ap (λ n. html_of false n q) (no-html m rest (ap (λ n. n == byte "<") h ∙ i.no_tag)))
+    (ap is_break still ∙ k)
+    (ap (λ n. item_at false n (trimmed q)) columns ∙ ap (item_at false 0) still ∙ item-here v m s c l i h b not_blank)
+  where
+    or-left : (a b : Bool) → (a || b) ≡ false → a ≡ false
+    or-left true b e = e
+    or-left false b e = refl
+
+indented : (m : Marker) (inside : Tree) (a b : Code) (l : List Code) → is_blank a ≡ true → is_blank b ≡ true → rest_inside (item m 2) inside (a ∷ b ∷ l) ≡ Some l
+indented m inside a b l f s =
+    let columns : indent (a ∷ b ∷ l) ≡ suc (suc (indent l)) =
+    ap (λ (x : List Code × List Code). length x.0) (span-pass is_blank a (b ∷ l) f) ∙ ap (λ (x : List Code × List Code). suc (length x.0)) (span-pass is_blank b l s) in
+    let enough : nat_le 2 (indent (a ∷ b ∷ l)) ≡ true = grind (arith, nat_tests) in
+    ap (λ v. rest_in_item v 2 inside (a ∷ b ∷ l)) enough
+    ∙ ap (λ v. Some (past_blank (if v then b ∷ l else a ∷ b ∷ l))) f
+    ∙ ap (λ v. Some (if v then l else b ∷ l)) s
+
+go-on-item : (m : Marker) (qs ls : List (List Code)) → Each IsIndented qs ls → GoOn (item m 2) qs ls
+go-on-item m [] [] h = tt
+go-on-item m [] (l ∷ ls) h = absurd h
+go-on-item m (q ∷ qs) [] h = absurd h
+go-on-item m (q ∷ qs) (l ∷ ls) h = (one, go-on-item m qs ls h.1)
+  where
+    one : (inside : Tree) → rest_inside (item m 2) inside q ≡ Some l
+    one inside = ap (rest_inside (item m 2) inside) h.0.whole ∙ indented m inside h.0.first h.0.second l h.0.first_blank h.0.second_blank
+
+pub items_hold : ItemsHold
+items_hold has_text v c q l qs ls is_bullet h other no_break hs =
+    ap (read_lines has_text qs)
+    (ap (λ x. with_line x nothing) h.whole
+    ∙ first-line whole (c ∷ l) (item (bullet v) 2) (starts-other h.marker (h.space ∷ c ∷ l) (ap (λ n. (n == 32 || n == 9) || n == 10) h.marks ∙ i.no_whitespace)) (starts-other c l other) (omega arith)
+    (item-begins v h.marker h.space c l i h.marks h.is_space other (ap is_break (sym h.whole) ∙ no_break)))
+    ∙ containers_hold has_text (item (bullet v) 2) qs ls nothing (with_line (c ∷ l) nothing) (go-on-item (bullet v) qs ls hs)
+  where
+    whole : List Code
+    whole = h.marker ∷ h.space ∷ c ∷ l
+
+    i : BeginsAnItem v
+    i = bullets v is_bullet
