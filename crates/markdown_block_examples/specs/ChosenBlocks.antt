@@ -70,6 +70,10 @@ HtmlKinds =
     (blocks_answer (60 ∷ 80 ∷ 82 ∷ 69 ∷ 62 ∷ 10 ∷ 10 ∷ 60 ∷ 47 ∷ 115 ∷ 116 ∷ 121 ∷ 108 ∷ 101 ∷ 62 ∷ 97 ∷ 10 ∷ 98 ∷ 10 ∷ []) ≡ (markup (60 ∷ 80 ∷ 82 ∷ 69 ∷ 62 ∷ 10 ∷ 10 ∷ 60 ∷ 47 ∷ 115 ∷ 116 ∷ 121 ∷ 108 ∷ 101 ∷ 62 ∷ 97 ∷ 10 ∷ []) ∷ text (codes "b") ∷ [])) ×
     -- «<prex␊»: text «<prex»
     (blocks_answer (60 ∷ 112 ∷ 114 ∷ 101 ∷ 120 ∷ 10 ∷ []) ≡ (text (codes "<prex") ∷ [])) ×
+    -- «<pre/>␊»: text «<pre/>»
+    (blocks_answer (60 ∷ 112 ∷ 114 ∷ 101 ∷ 47 ∷ 62 ∷ 10 ∷ []) ≡ (text (codes "<pre/>") ∷ [])) ×
+    -- «</pre>␊a␊»: html «</pre>␊a␊»
+    (blocks_answer (60 ∷ 47 ∷ 112 ∷ 114 ∷ 101 ∷ 62 ∷ 10 ∷ 97 ∷ 10 ∷ []) ≡ (markup (60 ∷ 47 ∷ 112 ∷ 114 ∷ 101 ∷ 62 ∷ 10 ∷ 97 ∷ 10 ∷ []) ∷ [])) ×
     -- «<!-->␊a␊»: html «<!-->␊», text «a»
     (blocks_answer (60 ∷ 33 ∷ 45 ∷ 45 ∷ 62 ∷ 10 ∷ 97 ∷ 10 ∷ []) ≡ (markup (60 ∷ 33 ∷ 45 ∷ 45 ∷ 62 ∷ 10 ∷ []) ∷ text (codes "a") ∷ [])) ×
     -- «<?a␊␊b?>c␊d␊»: html «<?a␊␊b?>c␊», text «d»
@@ -146,6 +150,8 @@ QuotesAndLaziness =
     (blocks_answer (62 ∷ 32 ∷ 97 ∷ 10 ∷ 49 ∷ 46 ∷ 32 ∷ 98 ∷ 10 ∷ []) ≡ (in_quote ∷ text (codes "a") ∷ end ∷ in_item (ordered 46 1) false ∷ text (codes "b") ∷ end ∷ [])) ×
     -- «> a␊    b␊»: quote [text «a␊b»]
     (blocks_answer (62 ∷ 32 ∷ 97 ∷ 10 ∷ 32 ∷ 32 ∷ 32 ∷ 32 ∷ 98 ∷ 10 ∷ []) ≡ (in_quote ∷ text (97 ∷ 10 ∷ 98 ∷ []) ∷ end ∷ [])) ×
+    -- «> a␊    > b␊»: quote [text «a␊> b»]
+    (blocks_answer (62 ∷ 32 ∷ 97 ∷ 10 ∷ 32 ∷ 32 ∷ 32 ∷ 32 ∷ 62 ∷ 32 ∷ 98 ∷ 10 ∷ []) ≡ (in_quote ∷ text (97 ∷ 10 ∷ 62 ∷ 32 ∷ 98 ∷ []) ∷ end ∷ [])) ×
     -- «> a␊---␊»: quote [text «a»], break
     (blocks_answer (62 ∷ 32 ∷ 97 ∷ 10 ∷ 45 ∷ 45 ∷ 45 ∷ 10 ∷ []) ≡ (in_quote ∷ text (codes "a") ∷ end ∷ break ∷ [])) ×
     -- «> a␊===␊»: quote [text «a␊===»]
@@ -208,6 +214,8 @@ LooseRules =
     (blocks_answer (49 ∷ 46 ∷ 32 ∷ 97 ∷ 10 ∷ 10 ∷ 50 ∷ 46 ∷ 32 ∷ 98 ∷ 10 ∷ []) ≡ (in_item (ordered 46 1) false ∷ text (codes "a") ∷ end ∷ in_item (ordered 46 2) true ∷ text (codes "b") ∷ end ∷ [])) ×
     -- «- a␊␊1. b␊»: item - tight [text «a»], item 1. tight [text «b»]
     (blocks_answer (45 ∷ 32 ∷ 97 ∷ 10 ∷ 10 ∷ 49 ∷ 46 ∷ 32 ∷ 98 ∷ 10 ∷ []) ≡ (in_item (bullet 45) false ∷ text (codes "a") ∷ end ∷ in_item (ordered 46 1) false ∷ text (codes "b") ∷ end ∷ [])) ×
+    -- «1. a␊␊- b␊»: item 1. tight [text «a»], item - tight [text «b»]
+    (blocks_answer (49 ∷ 46 ∷ 32 ∷ 97 ∷ 10 ∷ 10 ∷ 45 ∷ 32 ∷ 98 ∷ 10 ∷ []) ≡ (in_item (ordered 46 1) false ∷ text (codes "a") ∷ end ∷ in_item (bullet 45) false ∷ text (codes "b") ∷ end ∷ [])) ×
     -- «- a␊␊b␊␊- c␊»: item - tight [text «a»], text «b», item - tight [text «c»]
     (blocks_answer (45 ∷ 32 ∷ 97 ∷ 10 ∷ 10 ∷ 98 ∷ 10 ∷ 10 ∷ 45 ∷ 32 ∷ 99 ∷ 10 ∷ []) ≡ (in_item (bullet 45) false ∷ text (codes "a") ∷ end ∷ text (codes "b") ∷ in_item (bullet 45) false ∷ text (codes "c") ∷ end ∷ [])) ×
     -- «- a␊␊- b␊- c␊»: item - tight [text «a»], item - loose [text «b»], item - loose [text «c»]

@@ -1,14 +1,14 @@
 -- Laws on the tree of blocks.
-use Rattle.std.specs.Prelude.{◌≡◌, ◌⊎◌, ℕ, suc, ◌<◌, List, [], ◌∷◌, length, Option, Some, Bool, true, false, find}
+use Rattle.std.specs.Prelude.{◌≡◌, ◌⊎◌, ℕ, suc, ◌<◌, List, [], ◌∷◌, ◌++◌, length, flat_map, Option, Some, Bool, true, false, find}
 use Rattle.std.specs.Str.{byte}
 use Rattle.std.specs.List.{list_any}
-use Rattle.markdown_content.specs.Codes.{Code, is_blank}
+use Rattle.markdown_content.specs.Codes.{Code, codes_of, is_blank}
 use Rattle.markdown_model.specs.CodeTests.{is_whitespace_code}
 use Rattle.markdown_block_model.specs.LineRests.{is_blank_line}
-use Rattle.markdown_block_model.specs.BlockTree.{bullet, Container, quote, item, Tree, nothing, and_container}
+use Rattle.markdown_block_model.specs.BlockTree.{bullet, Container, quote, item, Leaf, blank, thematic_break, heading, underlined, paragraph, indented_code, fenced_code, html, Tree, nothing, and_leaf, and_container}
 use Rattle.markdown_block_model.specs.LeafStarts.{is_break}
 use Rattle.markdown_block_model.specs.BlockStarts.{with_rest}
-use Rattle.markdown_block_model.specs.DocumentBlocks.{rest_inside, read_lines}
+use Rattle.markdown_block_model.specs.DocumentBlocks.{rest_inside, read_lines, blocks_of}
 use Rattle.markdown_block_model.specs.LinkDefinitions.{Definition, identifier, is_called, first_ones}
 
 -- Containers (5.1, 5.2).
@@ -62,6 +62,32 @@ ItemsHold =
     (has_text : List Code → Bool) (v : ℕ) (c : Code) (q l : List Code) (qs ls : List (List Code))
     → (v ≡ byte "-") ⊎ ((v ≡ byte "+") ⊎ (v ≡ byte "*")) → IsMarked v q (c ∷ l) → is_whitespace_code c ≡ false → is_break q ≡ false → Each IsIndented qs ls
     → read_lines has_text (q ∷ qs) nothing ≡ and_container nothing (item (bullet v) 2) (read_lines has_text ((c ∷ l) ∷ ls) nothing)
+
+-- The codes of a leaf, and those of the leaves of a tree, in order.
+
+abbrev pub leaf_text : Leaf → List Code
+leaf_text blank = []
+leaf_text thematic_break = []
+leaf_text (heading n text) = text
+leaf_text (underlined n text) = text
+leaf_text (paragraph text) = text
+leaf_text (indented_code ls) = flat_map (λ l. l) ls
+leaf_text (fenced_code f info ls ended) = info ++ flat_map (λ l. l) ls
+leaf_text (html k text ended) = text
+
+abbrev pub tree_text : Tree → List Code
+tree_text nothing = []
+tree_text (and_leaf before leaf) = tree_text before ++ leaf_text leaf
+tree_text (and_container before c inside) = tree_text before ++ tree_text inside
+
+-- some of the codes, in their order, and each once at most
+abbrev pub IsPart : List Code → List Code → Type 0
+IsPart xs [] = xs ≡ []
+IsPart xs (y ∷ ys) = IsPart xs ys ⊎ ((rest : List Code) × (xs ≡ y ∷ rest) × IsPart rest ys)
+
+-- the leaves hold codes of the document, in order: nothing is moved, doubled or made
+abbrev pub LeavesInOrder : Type 0
+LeavesInOrder = (has_text : List Code → Bool) (bytes : List ℕ) → IsPart (tree_text (blocks_of has_text bytes)) (codes_of bytes)
 
 -- The number of containers that begin with a line, which the definition counts down, is enough: with more steps nothing more begins.
 abbrev pub StepsSuffice : Type 0

@@ -64,9 +64,13 @@ kind_behind cs =
     if is_some (word "![CDATA[" cs) then 5 else (
     if begins_block_tag cs then 6 else 0)))))
 
--- the kind that this begins, by the kind that stands behind its `<`; else a tag of another name that stands alone on its line begins kind 7; 0 for none
+-- an opening tag of another name than those of raw tags, or a closing tag, and nothing else
+abbrev pub is_other_tag : List Code → Bool
+is_other_tag cs = fills_line (either (open_tag true) closing_tag cs) && not (is_tag_among raw_tags (λ rest. true) (tag_name (drop 1 cs)))
+
+-- the kind that this begins, by the kind that stands behind its `<`; else a tag that stands alone on its line begins kind 7; 0 for none
 abbrev pub kind_of : ℕ → List Code → ℕ
-kind_of k cs = if nat_le 1 k then k else (if fills_line (either (open_tag true) closing_tag cs) then 7 else 0)
+kind_of k cs = if nat_le 1 k then k else (if is_other_tag cs then 7 else 0)
 
 abbrev pub html_kind : List Code → ℕ
 html_kind cs = if next_is (is_value (byte "<")) cs then kind_of (kind_behind (drop 1 cs)) cs else 0

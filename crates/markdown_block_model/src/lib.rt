@@ -4,7 +4,7 @@
 //! the check proves it.
 #![tactic(auto)]
 
-ghost use Rattle.markdown_block_model.specs.BlockLaws.{ContainersHold, QuotesHold, ItemsHold, StepsSuffice, OneDefinition};
+ghost use Rattle.markdown_block_model.specs.BlockLaws.{ContainersHold, QuotesHold, ItemsHold, LeavesInOrder, StepsSuffice, OneDefinition};
 
 /// A container holds what its lines are inside it (CommonMark 5.1 and 5.2).
 pub fn containers_hold()
@@ -19,6 +19,11 @@ pub fn quotes_hold()
 /// A bullet and a blank before the first line, and two blanks before each further one, make an item of what the lines are (CommonMark 5.2, the first rule).
 pub fn items_hold()
     ensures { ItemsHold }
+{}
+
+/// The leaves hold codes of the document, in order: nothing is moved, doubled or made.
+pub fn leaves_in_order()
+    ensures { LeavesInOrder }
 {}
 
 /// The number of steps that the definition counts down is enough: a line begins no more containers than it has codes.

@@ -1,0 +1,376 @@
+-- The codes of the leaves stand in the document, in order.
+use Rattle.std.proofs.Common.{◌≡◌, ◌⊎◌, inl, inr, ℕ, zero, suc, ◌+◌, refl, sym, ap, subst, ◌∙◌, List, [], ◌∷◌, ◌++◌, length, drop, Bool, true, false, ◌&&◌, ◌||◌, not, ◌==◌, nat_lt, nat_le, Option, Some, None, if◌then◌else◌, flat_map, rules}
+use Rattle.std.proofs.lemmas.List.{append_assoc, append-nil}
+use Rattle.std.specs.Str.{byte}
+use Rattle.markdown_content.specs.Codes.{Code, codes_of, is_blank, is_line_ending}
+use Rattle.markdown_model.specs.CodeTests.{is_value, is_between, next_is}
+use Rattle.markdown_model.specs.Grammar.{span}
+use Rattle.markdown_block_model.specs.LineRests.{onto_line, lines_of, indent, trimmed, is_blank_line, past_blank, skip, is_gap, first_value, count_first, onto_end, without_end, trimmed_end, only_if}
+use Rattle.markdown_block_model.specs.BlockTree.{Marker, Container, quote, item, Fence, Leaf, blank, thematic_break, heading, underlined, paragraph, indented_code, fenced_code, html, Tree, nothing, and_leaf, and_container}
+use Rattle.markdown_block_model.specs.LeafStarts.{is_break, ends_blank, without_closing, heading_text, heading_of, heading_at, may_be_info, fence_of, fence_at, is_closing}
+use Rattle.markdown_block_model.specs.HtmlStarts.{html_kind, ends_html, html_of, html_at}
+use Rattle.markdown_block_model.specs.ContainerStarts.{behind_quote, in_quote, quote_at, marker_at, padding, may_begin, item_of, item_by, item_at}
+use Rattle.markdown_block_model.specs.BlockStarts.{Begun, leaf_begins, container_begins, leaf_begun, container_begun, first_of, begun, with_found, with_rest, with_begun, with_line}
+use Rattle.markdown_block_model.specs.DocumentBlocks.{with_fenced_line, with_indented_line, with_next, with_next_or_line, with_text_begun, with_text_level, heading_level, with_text_line, with_leaf_line, is_nothing, rest_in_item, rest_inside, with_lazy_line, is_lazy, with_rest_inside, read_line, read_lines, blocks_of}
+use Rattle.markdown_block_model.specs.BlockLaws.{leaf_text, tree_text, IsPart, LeavesInOrder}
+
+-- Parts of lists.
+
+none : (ys : List Code) → IsPart [] ys
+none [] = refl
+none (y ∷ ys) = inl (none ys)
+
+same : (xs : List Code) → IsPart xs xs
+same [] = refl
+same (x ∷ xs) = inr (xs, refl, same xs)
+
+both : (us bs cs ds : List Code) → IsPart us bs → IsPart cs ds → IsPart (us ++ cs) (bs ++ ds)
+both us [] cs ds h k = subst (λ x. IsPart (x ++ cs) ds) (sym h) k
+both us (b ∷ bs) cs ds (inl h) k = inl (both us bs cs ds h k)
+both us (b ∷ bs) cs ds (inr h) k = inr (h.0 ++ cs, ap (λ x. x ++ cs) h.1, both h.0 bs cs ds h.2 k)
+
+later-first : (us r cs : List Code) (c : Code) → ((x : List Code) → IsPart x r → IsPart x cs) → IsPart us (c ∷ r) → IsPart us (c ∷ cs)
+later-first us r cs c f (inl h) = inl (f us h)
+later-first us r cs c f (inr h) = inr (h.0, h.1, f h.0 h.2)
+
+later : (us bs cs : List Code) → IsPart us bs → IsPart bs cs → IsPart us cs
+later us bs [] h k = subst (λ x. IsPart us x) k h
+later us bs (c ∷ cs) h (inl k) = inl (later us bs cs h k)
+later us bs (c ∷ cs) h (inr k) = later-first us k.0 cs c (λ x i. later x k.0 cs i k.2) (subst (λ x. IsPart us x) k.1 h)
+
+front : (xs ys : List Code) → IsPart xs (xs ++ ys)
+front xs ys = subst (λ x. IsPart x (xs ++ ys)) (append-nil xs) (both xs xs [] ys (same xs) (none ys))
+
+after : (s xs ys : List Code) → IsPart xs ys → IsPart (s ++ xs) (s ++ ys)
+after s xs ys h = both s s xs ys (same s) h
+
+-- of three lists the first two stand together
+after-two : (a b xs ys : List Code) → IsPart xs (b ++ ys) → IsPart (a ++ xs) ((a ++ b) ++ ys)
+after-two a b xs ys h = subst (λ x. IsPart (a ++ xs) x) (sym (append_assoc a b ys)) (after a xs (b ++ ys) h)
+
+-- Words on a line.
+
+past : (cs : List Code) → IsPart (past_blank cs) cs
+past [] = refl
+past (c ∷ cs) = by_test (is_blank c)
+  where
+    by_test : (b : Bool) → IsPart (if b then cs else c ∷ cs) (c ∷ cs)
+    by_test true = inl (same cs)
+    by_test false = same (c ∷ cs)
+
+skipped : (n : ℕ) (cs : List Code) → IsPart (skip n cs) cs
+skipped zero cs = same cs
+skipped (suc n) cs = later (skip n (past_blank cs)) (past_blank cs) cs (skipped n (past_blank cs)) (past cs)
+
+dropped : (n : ℕ) (cs : List Code) → IsPart (drop n cs) cs
+dropped zero cs = same cs
+dropped (suc n) [] = refl
+dropped (suc n) (c ∷ cs) = inl (dropped n cs)
+
+behind-span : (p : Code → Bool) (cs : List Code) → IsPart (span p cs).1 cs
+behind-span p [] = refl
+behind-span p (c ∷ cs) = by_test (p c) (behind-span p cs)
+  where
+    by_test : (b : Bool) → IsPart (span p cs).1 cs
+        → IsPart (elim b as (λ _. List Code × List Code) [ true ↦ (c ∷ (span p cs).0, (span p cs).1) | false ↦ ([], c ∷ cs) ]).1 (c ∷ cs)
+    by_test true h = inl h
+    by_test false h = same (c ∷ cs)
+
+trims : (cs : List Code) → IsPart (trimmed cs) cs
+trims cs = behind-span is_blank cs
+
+on-end : (p : Code → Bool) (c : Code) (rest cs : List Code) → IsPart rest cs → IsPart (onto_end p c rest) (c ∷ cs)
+on-end p c [] cs h = by_test (p c)
+  where
+    by_test : (b : Bool) → IsPart (if b then [] else c ∷ []) (c ∷ cs)
+    by_test true = none (c ∷ cs)
+    by_test false = inr ([], refl, h)
+on-end p c (d ∷ ds) cs h = inr (d ∷ ds, refl, h)
+
+ends : (p : Code → Bool) (cs : List Code) → IsPart (without_end p cs) cs
+ends p [] = refl
+ends p (c ∷ cs) = on-end p c (without_end p cs) cs (ends p cs)
+
+-- What begins.
+
+abbrev HasLeaf : List Code → Option Leaf → Type 0
+HasLeaf cs None = Unit {0}
+HasLeaf cs (Some l) = IsPart (leaf_text l) cs
+
+abbrev HasRest : List Code → Option (List Code) → Type 0
+HasRest cs None = Unit {0}
+HasRest cs (Some rest) = IsPart rest cs
+
+abbrev HasInside : List Code → Option (Container × List Code) → Type 0
+HasInside cs None = Unit {0}
+HasInside cs (Some r) = IsPart r.1 cs
+
+abbrev HasBegun : List Code → Option Begun → Type 0
+HasBegun cs None = Unit {0}
+HasBegun cs (Some (leaf_begins l)) = IsPart (leaf_text l) cs
+HasBegun cs (Some (container_begins c rest)) = IsPart rest cs
+
+leaf-if : (cs : List Code) (b : Bool) (l : Leaf) → IsPart (leaf_text l) cs → HasLeaf cs (only_if b l)
+leaf-if cs true l h = h
+leaf-if cs false l h = tt
+
+rest-if : (cs : List Code) (b : Bool) (rest : List Code) → IsPart rest cs → HasRest cs (only_if b rest)
+rest-if cs true rest h = h
+rest-if cs false rest h = tt
+
+inside-if : (cs : List Code) (b : Bool) (r : Container × List Code) → IsPart r.1 cs → HasInside cs (only_if b r)
+inside-if cs true r h = h
+inside-if cs false r h = tt
+
+closes : (cs : List Code) → IsPart (heading_text cs) cs
+closes cs = by_test (ends_blank open_part)
+  where
+    open_part : List Code
+    open_part = without_end (is_value (byte "#")) cs
+
+    by_test : (b : Bool) → IsPart (if b then trimmed_end open_part else cs) cs
+    by_test true = later (trimmed_end open_part) open_part cs (ends _ open_part) (ends _ cs)
+    by_test false = same cs
+
+-- a text behind so many codes, trimmed on both sides
+between-ends : (n : ℕ) (cs : List Code) → IsPart (trimmed_end (trimmed (drop n cs))) cs
+between-ends n cs =
+    later (trimmed_end (trimmed (drop n cs))) (drop n cs) cs
+    (later (trimmed_end (trimmed (drop n cs))) (trimmed (drop n cs)) (drop n cs) (ends _ (trimmed (drop n cs))) (trims (drop n cs)))
+    (dropped n cs)
+
+heading-part : (cs : List Code) → HasLeaf cs (heading_at cs)
+heading-part cs =
+    let n = count_first (byte "#") cs in
+    let t = trimmed_end (trimmed (drop n cs)) in
+    leaf-if cs (is_between 1 6 n && is_gap (drop n cs)) (heading n (heading_text t)) (later (heading_text t) t cs (closes t) (between-ends n cs))
+
+fence-part : (columns : ℕ) (cs : List Code) → HasLeaf cs (fence_at columns cs)
+fence-part columns cs =
+    let v = first_value cs in
+    let n = count_first v cs in
+    let info = trimmed_end (trimmed (drop n cs)) in
+    leaf-if cs (nat_le 3 n && may_be_info v (drop n cs)) (fenced_code (record { value = v; count = n; columns = columns }) info [] false)
+    (subst (λ x. IsPart x cs) (sym (append-nil info)) (between-ends n cs))
+
+html-part : (after_text : Bool) (cs : List Code) → HasLeaf cs (html_at after_text cs)
+html-part after_text cs =
+    let k = html_kind (trimmed cs) in
+    leaf-if cs (not (k == 0 || (k == 7 && after_text))) (html k cs (ends_html k cs)) (same cs)
+
+behind-quote-part : (cs : List Code) → HasRest cs (behind_quote cs)
+behind-quote-part cs =
+    let t = trimmed cs in
+    rest-if cs (nat_lt (indent cs) 4 && next_is (is_value (byte ">")) t) (skip 1 (drop 1 t))
+    (later (skip 1 (drop 1 t)) t cs (later (skip 1 (drop 1 t)) (drop 1 t) t (skipped 1 (drop 1 t)) (dropped 1 t)) (trims cs))
+
+quote-part : (cs : List Code) (o : Option (List Code)) → HasRest cs o → HasInside cs (in_quote o)
+quote-part cs None h = tt
+quote-part cs (Some rest) h = h
+
+item-part : (in_paragraph : Bool) (columns : ℕ) (cs : List Code) (o : Option (Marker × ℕ)) → HasInside cs (item_by in_paragraph columns cs o)
+item-part in_paragraph columns cs None = tt
+item-part in_paragraph columns cs (Some m) =
+    let behind = drop m.1 cs in
+    inside-if cs (may_begin in_paragraph m.0 behind) (item m.0 (columns + m.1 + padding behind), skip (padding behind) behind)
+    (later (skip (padding behind) behind) behind cs (skipped (padding behind) behind) (dropped m.1 cs))
+
+of-container : (cs : List Code) (o : Option (Container × List Code)) → HasInside cs o → HasBegun cs (container_begun o)
+of-container cs None h = tt
+of-container cs (Some r) h = h
+
+-- what begins in a part
+of-container-in : (t cs : List Code) (o : Option (Container × List Code)) → IsPart t cs → HasInside t o → HasBegun cs (container_begun o)
+of-container-in t cs None p h = tt
+of-container-in t cs (Some r) p h = later r.1 t cs h p
+
+of-leaf-in : (t cs : List Code) (o : Option Leaf) → IsPart t cs → HasLeaf t o → HasBegun cs (leaf_begun o)
+of-leaf-in t cs None p h = tt
+of-leaf-in t cs (Some l) p h = later (leaf_text l) t cs h p
+
+of-first : (cs : List Code) (o : Option Begun) (os : List (Option Begun)) → HasBegun cs o → HasBegun cs (first_of os) → HasBegun cs (first_of (o ∷ os))
+of-first cs None os h k = k
+of-first cs (Some b) os h k = h
+
+of-either : (cs : List Code) (b : Bool) (o p : Option Begun) → HasBegun cs o → HasBegun cs p → HasBegun cs (if b then o else p)
+of-either cs true o p h k = h
+of-either cs false o p h k = k
+
+begun-part : (in_paragraph after_text : Bool) (cs : List Code) → HasBegun cs (begun in_paragraph after_text cs)
+begun-part in_paragraph after_text cs =
+    let t = trimmed cs in
+    let p = trims cs in
+    of-either cs (nat_lt (indent cs) 4) _ _
+    (of-first cs _ _ (of-container cs (quote_at cs) (quote-part cs (behind_quote cs) (behind-quote-part cs)))
+    (of-first cs _ _ (of-leaf-in t cs (heading_at t) p (heading-part t))
+    (of-first cs _ _ (of-leaf-in t cs (fence_at (indent cs) t) p (fence-part (indent cs) t))
+    (of-first cs _ _ (of-leaf-in cs cs (html_at after_text cs) (same cs) (html-part after_text cs))
+    (of-first cs _ _ (of-leaf-in cs cs (only_if (is_break t) thematic_break) (same cs) (leaf-if cs (is_break t) thematic_break (none cs)))
+    (of-first cs _ [] (of-container-in t cs (item_at in_paragraph (indent cs) t) p (item-part in_paragraph (indent cs) t (marker_at t))) tt))))))
+    (of-either cs (after_text || is_blank_line cs) None (Some (leaf_begins (indented_code (skip 4 cs ∷ [])))) tt
+    (subst (λ x. IsPart x cs) (sym (append-nil (skip 4 cs))) (skipped 4 cs)))
+
+-- Siblings with a line behind them.
+
+found-part : (inner : List Code → Tree) → ((rest : List Code) → IsPart (tree_text (inner rest)) rest) → (cs : List Code) (s : Tree) (o : Option Begun) → HasBegun cs o
+    → IsPart (tree_text (with_found inner cs s o)) (tree_text s ++ cs)
+found-part inner i cs s None h = by_test (is_blank_line cs)
+  where
+    by_test : (b : Bool) → IsPart (tree_text (if b then s else and_leaf s (paragraph (trimmed cs)))) (tree_text s ++ cs)
+    by_test true = front (tree_text s) cs
+    by_test false = after (tree_text s) (trimmed cs) cs (trims cs)
+found-part inner i cs s (Some (leaf_begins l)) h = after (tree_text s) (leaf_text l) cs h
+found-part inner i cs s (Some (container_begins c rest)) h = after (tree_text s) (tree_text (inner rest)) cs (later (tree_text (inner rest)) rest cs (i rest) h)
+
+rest-part : (n : ℕ) (cs : List Code) (s : Tree) → IsPart (tree_text (with_rest n cs s)) (tree_text s ++ cs)
+rest-part zero cs s = front (tree_text s) cs
+rest-part (suc n) cs s = found-part (λ rest. with_rest n rest nothing) (λ rest. rest-part n rest nothing) cs s (begun false false cs) (begun-part false false cs)
+
+with-begun-part : (cs : List Code) (b : Begun) (s : Tree) → HasBegun cs (Some b) → IsPart (tree_text (with_begun b s)) (tree_text s ++ cs)
+with-begun-part cs (leaf_begins l) s h = after (tree_text s) (leaf_text l) cs h
+with-begun-part cs (container_begins c rest) s h =
+    let inside = tree_text (with_rest (suc (length rest)) rest nothing) in
+    after (tree_text s) inside cs (later inside rest cs (rest-part (suc (length rest)) rest nothing) h)
+
+line-part : (cs : List Code) (s : Tree) → IsPart (tree_text (with_line cs s)) (tree_text s ++ cs)
+line-part cs s = by_test (is_blank_line cs)
+  where
+    by_test : (b : Bool) → IsPart (tree_text (if b then and_leaf s blank else with_rest (suc (length cs)) cs s)) (tree_text s ++ cs)
+    by_test true = after (tree_text s) [] cs (none cs)
+    by_test false = rest-part (suc (length cs)) cs s
+
+-- Leaves that a line goes on with.
+
+one-more : (ls : List (List Code)) (l : List Code) → flat_map (λ x. x) (ls ++ (l ∷ [])) ≡ flat_map (λ x. x) ls ++ l
+one-more [] l = append-nil l
+one-more (k ∷ ls) l = ap (λ x. k ++ x) (one-more ls l) ∙ sym (append_assoc k (flat_map (λ x. x) ls) l)
+
+-- lines with a part of a line behind them
+lines-part : (ls : List (List Code)) (l cs : List Code) → IsPart l cs → IsPart (flat_map (λ x. x) (ls ++ (l ∷ []))) (flat_map (λ x. x) ls ++ cs)
+lines-part ls l cs h = subst (λ x. IsPart x (flat_map (λ x. x) ls ++ cs)) (sym (one-more ls l)) (after (flat_map (λ x. x) ls) l cs h)
+
+fenced-part : (b : Bool) (f : Fence) (info : List Code) (ls : List (List Code)) (cs : List Code)
+    → IsPart (leaf_text (with_fenced_line b f info ls cs)) ((info ++ flat_map (λ x. x) ls) ++ cs)
+fenced-part true f info ls cs = front (info ++ flat_map (λ x. x) ls) cs
+fenced-part false f info ls cs = after-two info (flat_map (λ x. x) ls) (flat_map (λ x. x) (ls ++ (skip f.columns cs ∷ []))) cs (lines-part ls (skip f.columns cs) cs (skipped f.columns cs))
+
+indented-part : (b : Bool) (ls : List (List Code)) (cs : List Code) → HasLeaf (flat_map (λ x. x) ls ++ cs) (with_indented_line b ls cs)
+indented-part true ls cs = lines-part ls (skip 4 cs) cs (skipped 4 cs)
+indented-part false ls cs = leaf-if (flat_map (λ x. x) ls ++ cs) (is_blank_line cs) (indented_code (ls ++ (trimmed cs ∷ []))) (lines-part ls (trimmed cs) cs (trims cs))
+
+next-part : (l : Leaf) (cs : List Code) → HasLeaf (leaf_text l ++ cs) (with_next l cs)
+next-part (fenced_code f info ls ended) cs =
+    leaf-if ((info ++ flat_map (λ x. x) ls) ++ cs) (not ended) (with_fenced_line (is_closing f cs) f info ls cs) (fenced-part (is_closing f cs) f info ls cs)
+next-part (indented_code ls) cs = indented-part (nat_le 4 (indent cs)) ls cs
+next-part (html k text ended) cs = leaf-if (text ++ cs) (not (ended || (nat_le 6 k && is_blank_line cs))) (html k (text ++ cs) (ends_html k cs)) (same (text ++ cs))
+next-part blank cs = tt
+next-part thematic_break cs = tt
+next-part (heading n text) cs = tt
+next-part (underlined n text) cs = tt
+next-part (paragraph text) cs = tt
+
+next-or-line-part : (cs : List Code) (before : Tree) (l : Leaf) (o : Option Leaf) → HasLeaf (leaf_text l ++ cs) o
+    → IsPart (tree_text (with_next_or_line cs before l o)) ((tree_text before ++ leaf_text l) ++ cs)
+next-or-line-part cs before l (Some next) h = after-two (tree_text before) (leaf_text l) (leaf_text next) cs h
+next-or-line-part cs before l None h = line-part cs (and_leaf before l)
+
+-- Paragraphs.
+
+text-begun-part : (cs : List Code) (before : Tree) (text : List Code) (o : Option Begun) → HasBegun cs o
+    → IsPart (tree_text (with_text_begun cs before text o)) ((tree_text before ++ text) ++ cs)
+text-begun-part cs before text (Some b) h = with-begun-part cs b (and_leaf before (paragraph text)) h
+text-begun-part cs before text None h = after-two (tree_text before) text (text ++ trimmed cs) cs (after text (trimmed cs) cs (trims cs))
+
+text-level-part : (cs : List Code) (before : Tree) (text : List Code) (o : Option ℕ) → IsPart (tree_text (with_text_level cs before text o)) ((tree_text before ++ text) ++ cs)
+text-level-part cs before text (Some level) =
+    later (tree_text before ++ trimmed_end text) (tree_text before ++ text) ((tree_text before ++ text) ++ cs)
+    (after (tree_text before) (trimmed_end text) text (ends _ text)) (front (tree_text before ++ text) cs)
+text-level-part cs before text None = text-begun-part cs before text (begun true true cs) (begun-part true true cs)
+
+text-line-part : (has_text : List Code → Bool) (cs : List Code) (before : Tree) (text : List Code)
+    → IsPart (tree_text (with_text_line has_text cs before text)) ((tree_text before ++ text) ++ cs)
+text-line-part has_text cs before text = by_test (is_blank_line cs)
+  where
+    by_test : (b : Bool) → IsPart (tree_text (if b then and_leaf (and_leaf before (paragraph text)) blank else with_text_level cs before text (heading_level has_text cs text))) ((tree_text before ++ text) ++ cs)
+    by_test true = after (tree_text before ++ text) [] cs (none cs)
+    by_test false = text-level-part cs before text (heading_level has_text cs text)
+
+leaf-line-part : (has_text : List Code → Bool) (cs : List Code) (before : Tree) (l : Leaf)
+    → IsPart (tree_text (with_leaf_line has_text cs before l)) ((tree_text before ++ leaf_text l) ++ cs)
+leaf-line-part has_text cs before (paragraph text) = text-line-part has_text cs before text
+leaf-line-part has_text cs before blank = next-or-line-part cs before blank (with_next blank cs) (next-part blank cs)
+leaf-line-part has_text cs before thematic_break = next-or-line-part cs before thematic_break (with_next thematic_break cs) (next-part thematic_break cs)
+leaf-line-part has_text cs before (heading n text) = next-or-line-part cs before (heading n text) (with_next (heading n text) cs) (next-part (heading n text) cs)
+leaf-line-part has_text cs before (underlined n text) = next-or-line-part cs before (underlined n text) (with_next (underlined n text) cs) (next-part (underlined n text) cs)
+leaf-line-part has_text cs before (indented_code ls) = next-or-line-part cs before (indented_code ls) (with_next (indented_code ls) cs) (next-part (indented_code ls) cs)
+leaf-line-part has_text cs before (fenced_code f info ls ended) =
+    next-or-line-part cs before (fenced_code f info ls ended) (with_next (fenced_code f info ls ended) cs) (next-part (fenced_code f info ls ended) cs)
+leaf-line-part has_text cs before (html k text ended) = next-or-line-part cs before (html k text ended) (with_next (html k text ended) cs) (next-part (html k text ended) cs)
+
+-- Containers.
+
+in-item-part : (b : Bool) (columns : ℕ) (inside : Tree) (cs : List Code) → HasRest cs (rest_in_item b columns inside cs)
+in-item-part true columns inside cs = skipped columns cs
+in-item-part false columns inside cs = rest-if cs (is_blank_line cs && not (is_nothing inside)) (trimmed cs) (trims cs)
+
+inside-part : (c : Container) (inside : Tree) (cs : List Code) → HasRest cs (rest_inside c inside cs)
+inside-part quote inside cs = behind-quote-part cs
+inside-part (item m columns) inside cs = in-item-part (nat_le columns (indent cs)) columns inside cs
+
+lazy-part : (cs : List Code) (t : Tree) → IsPart (tree_text (with_lazy_line cs t)) (tree_text t ++ cs)
+lazy-part cs nothing = none cs
+lazy-part cs (and_leaf before (paragraph text)) = after-two (tree_text before) text (text ++ trimmed cs) cs (after text (trimmed cs) cs (trims cs))
+lazy-part cs (and_leaf before blank) = front (tree_text before ++ []) cs
+lazy-part cs (and_leaf before thematic_break) = front (tree_text before ++ []) cs
+lazy-part cs (and_leaf before (heading n text)) = front (tree_text before ++ text) cs
+lazy-part cs (and_leaf before (underlined n text)) = front (tree_text before ++ text) cs
+lazy-part cs (and_leaf before (indented_code ls)) = front (tree_text before ++ flat_map (λ x. x) ls) cs
+lazy-part cs (and_leaf before (fenced_code f info ls ended)) = front (tree_text before ++ (info ++ flat_map (λ x. x) ls)) cs
+lazy-part cs (and_leaf before (html k text ended)) = front (tree_text before ++ text) cs
+lazy-part cs (and_container before c inside) = after-two (tree_text before) (tree_text inside) (tree_text (with_lazy_line cs inside)) cs (lazy-part cs inside)
+
+rest-inside-part : (inner : List Code → Tree) (cs : List Code) (before : Tree) (c : Container) (inside : Tree)
+    → ((rest : List Code) → IsPart (tree_text (inner rest)) (tree_text inside ++ rest)) → (o : Option (List Code)) → HasRest cs o
+    → IsPart (tree_text (with_rest_inside inner cs before c inside o)) ((tree_text before ++ tree_text inside) ++ cs)
+rest-inside-part inner cs before c inside i (Some rest) h =
+    after-two (tree_text before) (tree_text inside) (tree_text (inner rest)) cs
+    (later (tree_text (inner rest)) (tree_text inside ++ rest) (tree_text inside ++ cs) (i rest) (after (tree_text inside) rest cs h))
+rest-inside-part inner cs before c inside i None h = by_test (is_lazy cs inside)
+  where
+    by_test : (b : Bool) → IsPart (tree_text (if b then and_container before c (with_lazy_line cs inside) else with_line cs (and_container before c inside))) ((tree_text before ++ tree_text inside) ++ cs)
+    by_test true = lazy-part cs (and_container before c inside)
+    by_test false = line-part cs (and_container before c inside)
+
+-- Lines.
+
+read-part : (has_text : List Code → Bool) (cs : List Code) (t : Tree) → IsPart (tree_text (read_line has_text cs t)) (tree_text t ++ cs)
+read-part has_text cs nothing = line-part cs nothing
+read-part has_text cs (and_leaf before l) = leaf-line-part has_text cs before l
+read-part has_text cs (and_container before c inside) =
+    rest-inside-part (λ rest. read_line has_text rest inside) cs before c inside (λ rest. read-part has_text rest inside) (rest_inside c inside cs) (inside-part c inside cs)
+
+all-read : (has_text : List Code → Bool) (ls : List (List Code)) (t : Tree) → IsPart (tree_text (read_lines has_text ls t)) (tree_text t ++ flat_map (λ x. x) ls)
+all-read has_text [] t = front (tree_text t) []
+all-read has_text (l ∷ ls) t =
+    let next = read_line has_text l t in
+    let more = flat_map (λ x. x) ls in
+    later (tree_text (read_lines has_text ls next)) (tree_text next ++ more) (tree_text t ++ (l ++ more)) (all-read has_text ls next)
+    (subst (λ x. IsPart (tree_text next ++ more) x) (append_assoc (tree_text t) l more)
+    (both (tree_text next) (tree_text t ++ l) more more (read-part has_text l t) (same more)))
+
+onto-line : (c : Code) (ls : List (List Code)) → flat_map (λ x. x) (onto_line c ls) ≡ c ∷ flat_map (λ x. x) ls
+onto-line c [] = refl
+onto-line c (l ∷ ls) = by_test (is_line_ending c)
+  where
+    by_test : (b : Bool) → flat_map (λ x. x) (if b then (c ∷ []) ∷ l ∷ ls else (c ∷ l) ∷ ls) ≡ c ∷ (l ++ flat_map (λ x. x) ls)
+    by_test true = refl
+    by_test false = refl
+
+lines-cover : (cs : List Code) → flat_map (λ x. x) (lines_of cs) ≡ cs
+lines-cover [] = refl
+lines-cover (c ∷ cs) = onto-line c (lines_of cs) ∙ ap (λ x. c ∷ x) (lines-cover cs)
+
+pub leaves_in_order : LeavesInOrder
+leaves_in_order has_text bytes =
+    let cs = codes_of bytes in
+    subst (λ x. IsPart (tree_text (blocks_of has_text bytes)) x) (lines-cover cs) (all-read has_text (lines_of cs) nothing)
