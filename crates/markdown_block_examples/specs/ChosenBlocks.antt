@@ -51,6 +51,8 @@ CodeLines =
     (blocks_answer (62 ∷ 32 ∷ 96 ∷ 96 ∷ 96 ∷ 10 ∷ 97 ∷ 10 ∷ []) ≡ (in_quote ∷ fenced (codes "") (codes "") ∷ end ∷ text (codes "a") ∷ [])) ×
     -- «```␊```␊a␊»: fenced «» «», text «a»
     (blocks_answer (96 ∷ 96 ∷ 96 ∷ 10 ∷ 96 ∷ 96 ∷ 96 ∷ 10 ∷ 97 ∷ 10 ∷ []) ≡ (fenced (codes "") (codes "") ∷ text (codes "a") ∷ [])) ×
+    -- «>␉~~~␊>␉␊»: quote [fenced «» «␊»]
+    (blocks_answer (62 ∷ 9 ∷ 126 ∷ 126 ∷ 126 ∷ 10 ∷ 62 ∷ 9 ∷ 10 ∷ []) ≡ (in_quote ∷ fenced (codes "") (10 ∷ []) ∷ end ∷ [])) ×
     -- «~~␊»: text «~~»
     (blocks_answer (126 ∷ 126 ∷ 10 ∷ []) ≡ (text (codes "~~") ∷ []))
 
@@ -152,6 +154,8 @@ QuotesAndLaziness =
     (blocks_answer (62 ∷ 32 ∷ 97 ∷ 10 ∷ 32 ∷ 32 ∷ 32 ∷ 32 ∷ 98 ∷ 10 ∷ []) ≡ (in_quote ∷ text (97 ∷ 10 ∷ 98 ∷ []) ∷ end ∷ [])) ×
     -- «> a␊    > b␊»: quote [text «a␊> b»]
     (blocks_answer (62 ∷ 32 ∷ 97 ∷ 10 ∷ 32 ∷ 32 ∷ 32 ∷ 32 ∷ 62 ∷ 32 ∷ 98 ∷ 10 ∷ []) ≡ (in_quote ∷ text (97 ∷ 10 ∷ 62 ∷ 32 ∷ 98 ∷ []) ∷ end ∷ [])) ×
+    -- «> a␊   b␊»: quote [text «a␊b»]
+    (blocks_answer (62 ∷ 32 ∷ 97 ∷ 10 ∷ 32 ∷ 32 ∷ 32 ∷ 98 ∷ 10 ∷ []) ≡ (in_quote ∷ text (97 ∷ 10 ∷ 98 ∷ []) ∷ end ∷ [])) ×
     -- «> a␊---␊»: quote [text «a»], break
     (blocks_answer (62 ∷ 32 ∷ 97 ∷ 10 ∷ 45 ∷ 45 ∷ 45 ∷ 10 ∷ []) ≡ (in_quote ∷ text (codes "a") ∷ end ∷ break ∷ [])) ×
     -- «> a␊===␊»: quote [text «a␊===»]
@@ -220,6 +224,8 @@ LooseRules =
     (blocks_answer (45 ∷ 32 ∷ 97 ∷ 10 ∷ 10 ∷ 98 ∷ 10 ∷ 10 ∷ 45 ∷ 32 ∷ 99 ∷ 10 ∷ []) ≡ (in_item (bullet 45) false ∷ text (codes "a") ∷ end ∷ text (codes "b") ∷ in_item (bullet 45) false ∷ text (codes "c") ∷ end ∷ [])) ×
     -- «- a␊␊- b␊- c␊»: item - tight [text «a»], item - loose [text «b»], item - loose [text «c»]
     (blocks_answer (45 ∷ 32 ∷ 97 ∷ 10 ∷ 10 ∷ 45 ∷ 32 ∷ 98 ∷ 10 ∷ 45 ∷ 32 ∷ 99 ∷ 10 ∷ []) ≡ (in_item (bullet 45) false ∷ text (codes "a") ∷ end ∷ in_item (bullet 45) true ∷ text (codes "b") ∷ end ∷ in_item (bullet 45) true ∷ text (codes "c") ∷ end ∷ [])) ×
+    -- «- <!--␊␊- b␊»: item - tight [html «<!--␊␊»], item - tight [text «b»]
+    (blocks_answer (45 ∷ 32 ∷ 60 ∷ 33 ∷ 45 ∷ 45 ∷ 10 ∷ 10 ∷ 45 ∷ 32 ∷ 98 ∷ 10 ∷ []) ≡ (in_item (bullet 45) false ∷ markup (60 ∷ 33 ∷ 45 ∷ 45 ∷ 10 ∷ 10 ∷ []) ∷ end ∷ in_item (bullet 45) false ∷ text (codes "b") ∷ end ∷ [])) ×
     -- «-     a␊␊  b␊»: item - loose [code «a␊», text «b»]
     (blocks_answer (45 ∷ 32 ∷ 32 ∷ 32 ∷ 32 ∷ 32 ∷ 97 ∷ 10 ∷ 10 ∷ 32 ∷ 32 ∷ 98 ∷ 10 ∷ []) ≡ (in_item (bullet 45) true ∷ code (97 ∷ 10 ∷ []) ∷ text (codes "b") ∷ end ∷ [])) ×
     -- «- > a␊␊  b␊»: item - loose [quote [text «a»], text «b»]

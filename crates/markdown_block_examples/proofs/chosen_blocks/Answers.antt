@@ -14,7 +14,7 @@ breaks_and_headings = (refl, refl, refl, refl, refl, refl)
 
 code_lines : CodeLines
 unfolding blocks_computed
-code_lines = (refl, refl, refl, refl, refl, refl, refl, refl)
+code_lines = (refl, refl, refl, refl, refl, refl, refl, refl, refl)
 
 html_kinds : HtmlKinds
 unfolding blocks_computed
@@ -26,7 +26,7 @@ definition_rules = (refl, refl, refl, refl, refl, refl, refl, refl, refl, refl, 
 
 quotes_and_laziness : QuotesAndLaziness
 unfolding blocks_computed
-quotes_and_laziness = (refl, refl, refl, refl, refl, refl, refl, refl, refl, refl)
+quotes_and_laziness = (refl, refl, refl, refl, refl, refl, refl, refl, refl, refl, refl)
 
 item_rules : ItemRules
 unfolding blocks_computed
@@ -34,7 +34,7 @@ item_rules = (refl, refl, refl, refl, refl, refl, refl, refl, refl, refl, refl, 
 
 loose_rules : LooseRules
 unfolding blocks_computed
-loose_rules = (refl, refl, refl, refl, refl, refl, refl, refl, refl, refl, refl, refl, refl, refl)
+loose_rules = (refl, refl, refl, refl, refl, refl, refl, refl, refl, refl, refl, refl, refl, refl, refl)
 
 pub returns : goal.returns
 returns c = (lines_and_tabs, breaks_and_headings, code_lines, html_kinds, definition_rules, quotes_and_laziness, item_rules, loose_rules)
