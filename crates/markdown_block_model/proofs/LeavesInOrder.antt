@@ -3,8 +3,13 @@ use Rattle.std.proofs.Common.{◌≡◌, ◌⊎◌, inl, inr, ℕ, zero, suc, �
 use Rattle.std.proofs.lemmas.List.{append_assoc, append-nil}
 use Rattle.std.specs.Str.{byte}
 use Rattle.markdown_content.specs.Codes.{Code, codes_of, is_blank, is_line_ending}
-use Rattle.markdown_model.specs.CodeTests.{is_value, is_between, next_is}
-use Rattle.markdown_model.specs.Grammar.{span}
+use Rattle.markdown_content.specs.Tree.{Forest, leaf_codes}
+use Rattle.markdown_model.specs.CodeTests.{is_value, is_between, is_empty, next_is}
+use Rattle.markdown_model.specs.Grammar.{Reading, ◌>>=◌, ◌>>◌, gives, either, provided, span, one, any_number, before, optional_tree}
+use Rattle.markdown_model.specs.Whitespace.{space_or_tab_eol}
+use Rattle.markdown_model.specs.Resource.{label, reference_names, destination, resource_names, begins_title, title, title_names}
+use Rattle.markdown_model.proofs.GivenByReadings.{IfGiven, given-map, given-gives, given-bind, given-either}
+use Rattle.markdown_model.proofs.ReadingsCover.{Splits, Covers, itself, seen_before, takes_one, takes_any_number, covers_label, covers_title, covers_spacing, covers_destination, covers_optional_tree}
 use Rattle.markdown_block_model.specs.LineRests.{onto_line, lines_of, indent, trimmed, is_blank_line, past_blank, skip, is_gap, first_value, count_first, onto_end, without_end, trimmed_end, only_if}
 use Rattle.markdown_block_model.specs.BlockTree.{Marker, Container, quote, item, Fence, Leaf, blank, thematic_break, heading, underlined, paragraph, indented_code, fenced_code, html, Tree, nothing, and_leaf, and_container}
 use Rattle.markdown_block_model.specs.LeafStarts.{is_break, ends_blank, without_closing, heading_text, heading_of, heading_at, may_be_info, fence_of, fence_at, is_closing}
@@ -12,6 +17,7 @@ use Rattle.markdown_block_model.specs.HtmlStarts.{html_kind, ends_html, html_of,
 use Rattle.markdown_block_model.specs.ContainerStarts.{behind_quote, in_quote, quote_at, marker_at, padding, may_begin, item_of, item_by, item_at}
 use Rattle.markdown_block_model.specs.BlockStarts.{Begun, leaf_begins, container_begins, leaf_begun, container_begun, first_of, begun, with_found, with_rest, with_begun, with_line}
 use Rattle.markdown_block_model.specs.DocumentBlocks.{with_fenced_line, with_indented_line, with_next, with_next_or_line, with_text_begun, with_text_level, heading_level, with_text_line, with_leaf_line, is_nothing, rest_in_item, rest_inside, with_lazy_line, is_lazy, with_rest_inside, read_line, read_lines, blocks_of}
+use Rattle.markdown_block_model.specs.LinkDefinitions.{Definition, between, destination_text, line_end, title_of_definition, definition, taken_by, taken, definitions_of, has_text, text_of_leaf, resolved}
 use Rattle.markdown_block_model.specs.BlockLaws.{leaf_text, tree_text, IsPart, LeavesInOrder}
 
 -- Parts of lists.
@@ -370,7 +376,111 @@ lines-cover : (cs : List Code) → flat_map (λ x. x) (lines_of cs) ≡ cs
 lines-cover [] = refl
 lines-cover (c ∷ cs) = onto-line c (lines_of cs) ∙ ap (λ x. c ∷ x) (lines-cover cs)
 
-pub leaves_in_order : LeavesInOrder
-leaves_in_order has_text bytes =
+read-in-order : (has_text : List Code → Bool) (bytes : List ℕ) → IsPart (tree_text (blocks_of has_text bytes)) (codes_of bytes)
+read-in-order has_text bytes =
     let cs = codes_of bytes in
     subst (λ x. IsPart (tree_text (blocks_of has_text bytes)) x) (lines-cover cs) (all-read has_text (lines_of cs) nothing)
+
+-- What definitions take.
+
+-- what a reading leaves is a part
+abbrev Stays : {A : Type 0} → Reading A → Type 0
+Stays a = (cs : List Code) → IfGiven (λ x rest. IsPart rest cs) (a cs)
+
+back : (xs ys : List Code) → IsPart ys (xs ++ ys)
+back [] ys = same ys
+back (x ∷ xs) ys = inl (back xs ys)
+
+covered : {A : Type 0} (f : A → List Code) (a : Reading A) → Covers f [] a → Stays a
+covered f a h cs = given-map (Splits f cs) (λ x rest. IsPart rest cs) (a cs) (λ x rest e. subst (λ z. IsPart rest z) e (back (f x) rest)) (h.at cs)
+
+given-stays : {A : Type 0} (x : A) → Stays (gives x)
+given-stays x cs = given-gives (λ y rest. IsPart rest cs) x cs (same cs)
+
+either-stays : {A : Type 0} (a b : Reading A) → Stays a → Stays b → Stays (either a b)
+either-stays a b h k cs = given-either (λ x rest. IsPart rest cs) a b cs (h cs) (k cs)
+
+bind-stays : {A B : Type 0} (a : Reading A) (b : A → Reading B) → Stays a → ((x : A) → Stays (b x)) → Stays (a >>= b)
+bind-stays a b h k cs =
+    given-bind (λ x rest. IsPart rest cs) (λ y rest. IsPart rest cs) a b cs (h cs)
+    (λ x rest e. given-map (λ y left. IsPart left rest) (λ y left. IsPart left cs) (b x rest) (λ y left i. later left rest cs i e) (k x rest))
+
+next-stays : {A B : Type 0} (a : Reading A) (b : Reading B) → Stays a → Stays b → Stays (a >> b)
+unfolding ◌>>◌
+next-stays {A} {B} a b h k cs = by_case (a cs) (h cs)
+  where
+    by_case : (o : Option (A × List Code)) → IfGiven (λ x rest. IsPart rest cs) o → IfGiven (λ y rest. IsPart rest cs) (elim o [ None ↦ None | Some r ↦ b r.1 ])
+    by_case None e = tt
+    by_case (Some r) e = given-map (λ y left. IsPart left r.1) (λ y left. IsPart left cs) (b r.1) (λ y left i. later left r.1 cs i e) (k r.1)
+
+end-stays : Stays (λ cs. provided (is_empty cs) cs)
+unfolding provided
+end-stays cs = by_test (is_empty cs)
+  where
+    by_test : (b : Bool) → IfGiven (λ x rest. IsPart rest cs) (elim b as (λ _. Option (List Code × List Code)) [ true ↦ Some ([], cs) | false ↦ None ])
+    by_test true = same cs
+    by_test false = tt
+
+line_end-stays : Stays line_end
+unfolding line_end
+line_end-stays =
+    next-stays (any_number is_blank) (either (one is_line_ending) (λ cs. provided (is_empty cs) cs)) (covered itself (any_number is_blank) (takes_any_number is_blank))
+    (either-stays (one is_line_ending) (λ cs. provided (is_empty cs) cs) (covered itself (one is_line_ending) (takes_one is_line_ending)) end-stays)
+
+title-stays : Stays title_of_definition
+unfolding title_of_definition
+title-stays =
+    next-stays (before (space_or_tab_eol None) begins_title) (title true title_names >>= λ text. line_end >> gives (Some (between (leaf_codes text))))
+    (covered leaf_codes (before (space_or_tab_eol None) begins_title) (seen_before leaf_codes [] (space_or_tab_eol None) begins_title (covers_spacing None)))
+    (bind-stays (title true title_names) (λ text. line_end >> gives (Some (between (leaf_codes text)))) (covered leaf_codes (title true title_names) (covers_title true title_names))
+    (λ text. next-stays line_end (gives (Some (between (leaf_codes text)))) line_end-stays (given-stays (Some (between (leaf_codes text))))))
+
+-- what stands behind the colon of a definition with this label
+abbrev behind-colon : Forest → Reading Definition
+behind-colon name =
+    optional_tree (space_or_tab_eol None) >> (destination 32 resource_names >>= λ target. either title_of_definition (line_end >> gives None) >>= λ text.
+    gives (record { label = between (leaf_codes name); destination = destination_text (leaf_codes target); title = text }))
+
+behind-colon-stays : (name : Forest) → Stays (behind-colon name)
+behind-colon-stays name =
+    next-stays (optional_tree (space_or_tab_eol None)) _ (covered leaf_codes (optional_tree (space_or_tab_eol None)) (covers_optional_tree (space_or_tab_eol None) (covers_spacing None)))
+    (bind-stays (destination 32 resource_names) _ (covered leaf_codes (destination 32 resource_names) (covers_destination 32 resource_names))
+    (λ target. bind-stays (either title_of_definition (line_end >> gives None)) _
+    (either-stays title_of_definition (line_end >> gives None) title-stays (next-stays line_end (gives None) line_end-stays (given-stays None)))
+    (λ text. given-stays (record { label = between (leaf_codes name); destination = destination_text (leaf_codes target); title = text }))))
+
+definition-stays : Stays definition
+unfolding definition
+definition-stays =
+    bind-stays (label true reference_names) (λ name. one (is_value (byte ":")) >> behind-colon name) (covered leaf_codes (label true reference_names) (covers_label true reference_names))
+    (λ name. next-stays (one (is_value (byte ":"))) (behind-colon name) (covered itself (one (is_value (byte ":"))) (takes_one (is_value (byte ":")))) (behind-colon-stays name))
+
+taken-part : (n : ℕ) (cs : List Code) → IsPart (taken n cs).1 cs
+taken-part zero cs = same cs
+taken-part (suc n) cs = by_case (definition cs) (definition-stays cs) (taken-part n)
+  where
+    by_case : (o : Option (Definition × List Code)) → IfGiven (λ x rest. IsPart rest cs) o → ((rest : List Code) → IsPart (taken n rest).1 rest) → IsPart (taken_by (taken n) cs o).1 cs
+    by_case None e more = same cs
+    by_case (Some r) e more = later (taken n r.1).1 r.1 cs (more r.1) e
+
+text-of-leaf-part : (l : Leaf) → IsPart (leaf_text (text_of_leaf l)) (leaf_text l)
+text-of-leaf-part (paragraph text) =
+    later (trimmed_end (definitions_of text).1) (definitions_of text).1 text (ends _ (definitions_of text).1) (taken-part (length text) text)
+text-of-leaf-part (underlined n text) = taken-part (length text) text
+text-of-leaf-part blank = refl
+text-of-leaf-part thematic_break = refl
+text-of-leaf-part (heading n text) = same text
+text-of-leaf-part (indented_code ls) = same (flat_map (λ x. x) ls)
+text-of-leaf-part (fenced_code f info ls ended) = same (info ++ flat_map (λ x. x) ls)
+text-of-leaf-part (html k text ended) = same text
+
+resolved-part : (t : Tree) → IsPart (tree_text (resolved t)) (tree_text t)
+resolved-part nothing = refl
+resolved-part (and_leaf before l) = both (tree_text (resolved before)) (tree_text before) (leaf_text (text_of_leaf l)) (leaf_text l) (resolved-part before) (text-of-leaf-part l)
+resolved-part (and_container before c inside) =
+    both (tree_text (resolved before)) (tree_text before) (tree_text (resolved inside)) (tree_text inside) (resolved-part before) (resolved-part inside)
+
+pub leaves_in_order : LeavesInOrder
+leaves_in_order bytes =
+    let t = blocks_of has_text bytes in
+    later (tree_text (resolved t)) (tree_text t) (codes_of bytes) (resolved-part t) (read-in-order has_text bytes)

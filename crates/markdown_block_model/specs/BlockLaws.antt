@@ -8,8 +8,8 @@ use Rattle.markdown_block_model.specs.LineRests.{is_blank_line}
 use Rattle.markdown_block_model.specs.BlockTree.{bullet, Container, quote, item, Leaf, blank, thematic_break, heading, underlined, paragraph, indented_code, fenced_code, html, Tree, nothing, and_leaf, and_container}
 use Rattle.markdown_block_model.specs.LeafStarts.{is_break}
 use Rattle.markdown_block_model.specs.BlockStarts.{with_rest}
-use Rattle.markdown_block_model.specs.DocumentBlocks.{rest_inside, read_lines, blocks_of}
-use Rattle.markdown_block_model.specs.LinkDefinitions.{Definition, identifier, is_called, first_ones}
+use Rattle.markdown_block_model.specs.DocumentBlocks.{rest_inside, read_lines}
+use Rattle.markdown_block_model.specs.LinkDefinitions.{Definition, document_tree, identifier, is_called, first_ones}
 
 -- Containers (5.1, 5.2).
 
@@ -87,7 +87,7 @@ IsPart xs (y ∷ ys) = IsPart xs ys ⊎ ((rest : List Code) × (xs ≡ y ∷ res
 
 -- the leaves hold codes of the document, in order: nothing is moved, doubled or made
 abbrev pub LeavesInOrder : Type 0
-LeavesInOrder = (has_text : List Code → Bool) (bytes : List ℕ) → IsPart (tree_text (blocks_of has_text bytes)) (codes_of bytes)
+LeavesInOrder = (bytes : List ℕ) → IsPart (tree_text (document_tree bytes)) (codes_of bytes)
 
 -- The number of containers that begin with a line, which the definition counts down, is enough: with more steps nothing more begins.
 abbrev pub StepsSuffice : Type 0
