@@ -1,9 +1,0 @@
--- By the laws of the operations.
-use Rattle.std.proofs.Common.{arith}
-use Rattle.markdown_engine.specs.Operations.{scratched}
-use Rattle.markdown_engine.proofs.OperationFields.{op_rules}
-use Rattle.markdown_leaf_html.proofs.html_text.break_line.Goals as goal
-
-pub returns-clause-ok : goal.returns-clause-ok
-unfolding scratched
-returns-clause-ok c = grind (arith, op_rules)
