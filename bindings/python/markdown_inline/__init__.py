@@ -30,8 +30,14 @@ __version__ = '1.0.0'
 
 #: Each option by its name, as a bit of `options`. It cannot be changed.
 OPTIONS: Mapping[str, int] = MappingProxyType(_tables.OPTIONS)
-#: Bits of `options`: CommonMark 0.31.2, its constructs by the rules of the crate `markdown`, what GitHub adds, and math spans.
-COMMONMARK, CRATE, GFM, MATH = _tables.COMMONMARK, _tables.CRATE, _tables.GFM, _tables.MATH
+#: Bits of `options`: CommonMark 0.31.2.
+COMMONMARK: int = _tables.COMMONMARK
+#: Bits of `options`: CommonMark's constructs, by the rules of the crate `markdown`.
+CRATE: int = _tables.CRATE
+#: Bits of `options`: what GitHub adds.
+GFM: int = _tables.GFM
+#: Bits of `options`: math spans.
+MATH: int = _tables.MATH
 
 
 class Piece(NamedTuple):
