@@ -56,7 +56,7 @@ extern "C" {
     X(REFERENCES, 11, "references bring more than the limit") \
     X(NO_STRING, 12, "part of a string is no text of the bytes")
 
-/* Options, each by a bit: the constructs, the four settings, and whether the text is the first of a list item. */
+/* Options, each by a bit: the constructs, the settings, and whether the text is the first of a list item. */
 #define MARKDOWN_INLINE_EACH_OPTION(X) \
     /* Emphasis and strong emphasis (CommonMark 6.2). */ \
     X(ATTENTION, "attention", 0x1) \
@@ -298,7 +298,7 @@ enum { MARKDOWN_INLINE_HTML_RAW = 0x1, MARKDOWN_INLINE_HTML_ANY_LINK = 0x2 };
  * - The caller leaves out the blanks that begin a line, as CommonMark does: let each piece start at the first byte of its line that is no space or tab, or
  *   at its line's end. Blanks that are left in are set apart as SpaceOrTab in most places, but inside code, math and HTML they are part of the text.
  * - Nothing can be left out within a line. So in a cell of GFM's tables, where `\|` stands for `|` in code too, read a copy of the cell without these
- *   backslashes, and count them in again. */
+ *   backslashes. */
 typedef struct markdown_inline_piece {
     size_t start, start_vs;
     size_t end, end_vs;
@@ -311,8 +311,7 @@ typedef struct markdown_inline_range {
 
 /* What a call reads. The ranges say where among `labels`, which may be `bytes`, the labels of definitions and of footnote definitions stand, as
  * they are written, with their escapes and without their brackets. A footnote's label stands without its caret too: `a` of `[^a]: b`; the label `^a`
- * is another, that of `[^^a]`. Set what is not used to 0, and `options` to MARKDOWN_INLINE_COMMONMARK, or to that
- * with other sets and options by `|`. */
+ * is another, that of `[^^a]`. What is not used is 0. `options` is MARKDOWN_INLINE_COMMONMARK, to which other sets and options are joined by `|`. */
 typedef struct markdown_inline_input {
     const uint8_t *bytes;
     size_t bytes_len;
@@ -332,11 +331,11 @@ typedef struct markdown_inline_input {
  *
  * - The text of a code or math span is that of its CodeTextData or MathTextData, with a space for each LineEnding. Where it then begins and ends with a
  *   space, and is not of spaces alone, one is taken off each end.
- * - A title and a destination have escapes and references, which markdown_inline_strings takes away.
- * - Quotes are text. Typographic ones cannot be paired from the events alone: as emphasis they pair by what stands beside them.
+ * - The texts of titles and destinations, in which escapes and character references are resolved, are found by markdown_inline_strings.
+ * - Quotes are text. To make typographic ones of them, a caller pairs them by what stands beside them, as emphasis is paired: no event says which pair.
  *
- * `vs` is how many columns of the tab at `index` come before the place. `previous` and `next` are the
- * numbers of the events before and after on a chain of what is read again, or MARKDOWN_INLINE_NONE. */
+ * `vs` is how many columns of the tab at `index` come before the place. `previous` and `next` are the numbers of the events before and after on a
+ * chain of what is read again, or MARKDOWN_INLINE_NONE. */
 typedef struct markdown_inline_event {
     uint8_t kind, name, link;
     size_t line, column, index, vs;
