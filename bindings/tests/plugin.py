@@ -1,7 +1,9 @@
 """The plugin for markdown-it-py makes the tokens that markdown-it's own inline parser makes. Without markdown-it-py nothing of it can be tried."""
+import io
 import os
 import random
 import sys
+import tempfile
 import unittest
 import unittest.mock
 
@@ -307,3 +309,27 @@ class Plugin(unittest.TestCase):
         finally:
             module.texts = real
         self.assertEqual(calls, [4])
+
+    def test_sphinx(self):
+        """The extension gives MyST's parser the plugin, and the HTML stays."""
+        try:
+            from myst_parser.parsers import sphinx_
+            from sphinx.application import Sphinx
+        except ModuleNotFoundError:
+            self.skipTest('Sphinx or MyST is not there')
+        from markdown_inline import markdown_it as module
+        found, calls, real, made = [], [], module.texts, sphinx_.create_md_parser
+        module.texts = lambda *given, **asked: calls.append(len(given[1])) or real(*given, **asked)
+        try:
+            for more in ([], ['markdown_inline.sphinx']):
+                with tempfile.TemporaryDirectory() as room:
+                    with open(room + '/index.md', 'w', encoding='utf-8') as file:
+                        file.write('# *a*\n\n{abbr}`b (c)` **d** [e](f.png)\n\n- g [^1] `h`\n- i\n\n[^1]: j *k*\n\n```{note}\nl *m*\n```\n')
+                    words = {'extensions': ['myst_parser'] + more, 'html_theme': 'basic', 'suppress_warnings': ['myst']}
+                    Sphinx(room, None, room + '/out', room + '/trees', 'html', words, status=None, warning=io.StringIO()).build()
+                    with open(room + '/out/index.html', encoding='utf-8') as file:
+                        found.append(file.read())
+                self.assertEqual(sum(calls) > 3, bool(more))
+        finally:
+            module.texts, sphinx_.create_md_parser = real, made
+        self.assertEqual(*found)

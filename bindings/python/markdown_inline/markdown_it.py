@@ -117,12 +117,16 @@ class _Builder:
         self.outer: List[List[Token]] = []
         # The opening tokens of emphasis whose ends are still to come, with their bytes.
         self.marks: List[Tuple[Token, int]] = []
-        (enters, exits), start = self.handlers, 0
+        (enters, exits), start, source, text = self.handlers, 0, self.source, self.text
         for kind, name, place in events:
             if name == _DATA:
-                # Most events are of data.
+                # Most events are of data, which is said without a call.
                 if kind:
-                    self.say(self.cut(start, place), start, place)
+                    found = source[start:place]
+                    if not text:
+                        self.text_start = start
+                    text.append(found if found.isascii() else self.cut(start, place))
+                    self.text_end = place
                 else:
                     start = place
                 continue
