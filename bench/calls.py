@@ -14,7 +14,7 @@ for _ in range(int(sys.argv[1])):
         for content in contents:
             pieces.append(Content([(at, at + len(content))]))
             at += len(content) + 2
-        htmls(document, pieces, gfm=False)
+        htmls(document, pieces, rules='crate')
     else:
         for content in contents:
-            text(content, gfm=False)
+            text(content, rules='crate')
