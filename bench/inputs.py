@@ -5,6 +5,7 @@ line, and each begins with a letter, so that a parser of whole documents reads i
 which such a parser takes for a block).
 """
 import random
+import re
 
 WORDS = ('the of and to in is that it was for on are as with his they be at one have this from or had by not but what some we can '
          'out other were all your when up use word how said an each she which do their time if will way about many then them would '
@@ -29,6 +30,58 @@ class Input:
         """The text with its definitions behind it, as other programs read them."""
         lines = ''.join('[%s]: %s\n' % pair for pair in self.definitions)
         return self.text + ('\n\n' + lines if lines else '\n')
+
+
+# What stands before each line where each is a piece, and how many characters a line has behind it.
+PREFIX, WIDTH = '> ', 7
+# A label without brackets, and how many of them are defined.
+LABEL, MOST_DEFINED = re.compile(r'\[([^][]+)]'), 16
+
+
+def identifier(text):
+    """The identifier of a label's text."""
+    return ' '.join(text.split()).casefold()
+
+
+def word_of(name):
+    """An identifier as a word of `bench_counts`: behind a caret a footnote's."""
+    return 'note=' + name[1:] if name.startswith('^') else name
+
+
+def labels(text):
+    """Definitions of the first labels of a text."""
+    names = dict.fromkeys(identifier(name) for name in LABEL.findall(text))
+    return [(word_of(name), '/c') for name in list(names)[:MOST_DEFINED] if name]
+
+
+def fronts(text):
+    """A definition that begins as the label of a text's first start does, and goes on to the end of the text."""
+    _, start, inside = text.partition('[')
+    return [(word_of(identifier(inside) + 'bb'), '/c')] if start else []
+
+
+class Way:
+    """A way to draw a pattern for `bench_counts`: as it is or in short lines, each behind the prefix of a block quote and a piece by itself; with its own
+    definitions or with those that match; and by CommonMark's rules or not."""
+    def __init__(self, name, matching=None, commonmark=False, lines=False):
+        self.name, self.matching, self.lines = name, matching, lines
+        self.commonmark = commonmark
+        self.words = ['commonmark'] * commonmark + ['cut=%d' % len(PREFIX)] * lines
+
+    def drawn(self, text, definitions):
+        """The text drawn so, and its definitions. By CommonMark's rules a label has no prefixes in it."""
+        content = text
+        if self.lines:
+            lines = [line[at:at + WIDTH] for line in text.split('\n') for at in range(0, len(line), WIDTH)]
+            content = '\n'.join(line for line in lines if line.strip())
+            text = PREFIX + content.replace('\n', '\n' + PREFIX)
+        return text, self.matching(content if self.commonmark else text) if self.matching else list(definitions)
+
+
+WAYS = [Way('as it is')] + [
+    Way(name + (', a piece a line' if lines else '') + (', by CommonMark' if commonmark else ''), matching, commonmark, lines)
+    for name, matching in (('labels defined', labels), ('fronts defined', fronts)) for lines in (False, True) for commonmark in (False, True)
+]
 
 
 def lines_of(parts, size, width=72):
@@ -295,6 +348,7 @@ PATTERNS = [
         ('`[a](<b`', again('[a](<b')),
         ('`[a](b "c`', again('[a](b "c')),
         ('`[a](b (c `', again('[a](b (c ')),
+        ('`[a](b (c`', again('[a](b (c')),
         ('`[a](b (c `, and one `)` behind', around('', '[a](b (c ', ')')),
         ('`[a](b (c `, and `) x ))` behind', around('', '[a](b (c ', ') x ))')),
         ('`[a][b`', again('[a][b')),
@@ -305,6 +359,8 @@ PATTERNS = [
         ('`[` .. `a` `]` .., `a` defined', nested('[', 'a', ']', ONE)),
         ('`[` .. `a` `]` .., a definition as long as the content', long_label),
         ('`[` .. `a` `]` .., a definition of as many `[` and a `b`', long_front),
+        ('`[a` and a line ending .. `b` `]` ..', nested('[a\n', 'b', ']')),
+        ('`[^a` and a line ending .. `b` `]` ..', nested('[^a\n', 'b', ']')),
         ('`![` .. `a` `](b)` ..', nested('![', 'a', '](b)')),
         ('`![` .. `a` `](b` ..', nested('![', 'a', '](b')),
         ('`[a][b0] [a][b1] ..`, all defined', many_definitions),

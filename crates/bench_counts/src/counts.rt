@@ -1,4 +1,5 @@
 //! The contents of a text, and how many events they have in each way of reading: runs alone, without the printing of their events.
+use markdown_inline::configuration::ParseOptions;
 use markdown_inline::document::Document;
 use markdown_inline::options::ALL_CONSTRUCTS;
 use markdown_inline::parser::ParseState;
@@ -13,14 +14,32 @@ fn make(alloc: Global, found: &mut Vec<String>, count: usize) -> Result<(), Allo
     Ok(())
 }
 
+// Whether a word asks for something other than a definition.
+fn asks_otherwise(word: &str) -> bool {
+    word == "commonmark"
+        || word.as_bytes().starts_with(b"cut=")
+        || word.as_bytes().starts_with(b"note=")
+}
+
 // The definitions that words ask for.
 fn definitions(alloc: Global, words: &[String]) -> Result<Vec<String>, AllocError> {
     let mut found = Vec::new(alloc);
     for word in words {
         match word.as_str().strip_prefix("made=") {
             Some(count) => make(alloc, &mut found, count.parse().unwrap_or(0))?,
-            None if word.as_str().starts_with("cut=") => {}
+            None if asks_otherwise(word.as_str()) => {}
             None => found.push(word.clone()?)?,
+        }
+    }
+    Ok(found)
+}
+
+// The footnotes that words ask for.
+fn footnotes(alloc: Global, words: &[String]) -> Result<Vec<String>, AllocError> {
+    let mut found = Vec::new(alloc);
+    for word in words {
+        if let Some(name) = word.as_str().strip_prefix("note=") {
+            found.push(String::from_str(alloc, name)?)?;
         }
     }
     Ok(found)
@@ -35,6 +54,14 @@ fn cut_of(words: &[String]) -> usize {
         }
     }
     found
+}
+
+// The options that words ask for.
+fn options(words: &[String]) -> ParseOptions {
+    ParseOptions {
+        commonmark: words.iter().any(|word| word.as_str() == "commonmark"),
+        ..ALL_CONSTRUCTS
+    }
 }
 
 // The contents of a text, each as its first index and the one past its last.
@@ -174,7 +201,8 @@ fn count_contents(
     Ok(total)
 }
 
-/// The number of events of all contents, read in the way of a word, with the definitions that other words ask for; none where that word is not known.
+/// The number of events of all contents, read in the way of a word, with the options and definitions that other words ask for; none where that word is not
+/// known.
 pub(crate) fn count(
     alloc: Global,
     bytes: &[u8],
@@ -182,11 +210,12 @@ pub(crate) fn count(
     words: &[String],
 ) -> Result<Option<usize>, AllocError> {
     let contents = contents(alloc, bytes)?;
+    let options = options(words);
     let parse_state = ParseState {
         bytes,
-        options: &ALL_CONSTRUCTS,
+        options: &options,
         definitions: definitions(alloc, words)?,
-        gfm_footnote_definitions: Vec::new(alloc),
+        gfm_footnote_definitions: footnotes(alloc, words)?,
     };
     let (read, cut) = (contents.as_slice(), cut_of(words));
     let events = match way {

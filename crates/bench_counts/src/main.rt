@@ -10,9 +10,9 @@
 //! | `prepare` | not at all: a `Document` is made alone |
 //!
 //! A content is what stands between two line endings in a row and two others. All constructs are on. Of the other words `made=N` makes N definitions,
-//! `definition 0` and so on; `cut=N` leaves out the first N bytes of each line, as those of a block quote's prefix, so that each line is a piece; and each
-//! other word is the identifier of a definition. The status is 0; 2 where the first word is not known; 5 where memory is refused; 6 where reading or
-//! writing fails.
+//! `definition 0` and so on; `cut=N` leaves out the first N bytes of each line, as those of a block quote's prefix, so that each line is a piece;
+//! `commonmark` asks for CommonMark's rules; `note=NAME` makes a footnote of this identifier; and each other word is the identifier of a definition. The
+//! status is 0; 2 where the first word is not known; 5 where memory is refused; 6 where reading or writing fails.
 #![tactic(auto)]
 
 mod counts;

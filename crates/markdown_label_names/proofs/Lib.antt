@@ -6,3 +6,4 @@ pub mod IdentifierLetters
 pub mod NameIndexSearch
 pub mod BracketCounts
 pub mod IdentifierBrackets
+pub mod BareBrackets

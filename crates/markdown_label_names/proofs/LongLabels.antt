@@ -1,11 +1,12 @@
 -- A count of characters that stops at the limit of a link label.
-use Rattle.std.proofs.Common.{◌≡◌, ◌∙◌, sym, ap, ℕ, ◌+◌, ◌-◌, ◌<◌, ◌≤◌, Bool, true, false, ◌&&◌, ◌||◌, ◌==◌, if◌then◌else◌, List, ◌∷◌, drop, length, get_or, refl, arith}
+use Rattle.std.proofs.Common.{◌≡◌, ◌∙◌, sym, ap, ℕ, ◌+◌, ◌-◌, ◌<◌, ◌≤◌, Bool, true, false, ◌&&◌, ◌||◌, ◌==◌, if◌then◌else◌, List, [], ◌∷◌, ◌++◌, drop, length, get_or, refl, arith}
 use mir.Val.{bool_byte}
-use Rattle.std.proofs.lemmas.Bool.{le-ltb, lt-ltb}
+use Rattle.std.proofs.lemmas.Bool.{le-ltb, lt-ltb, ltb-true}
 use Rattle.std.proofs.lemmas.List.{at_drop_all, at_drop_more}
 use Rattle.markdown_content.specs.Codes.{carriage_return, is_line_ending_byte}
 use Rattle.markdown_content.specs.declared.label_kind.LabelKind.{LabelKind}
 use Rattle.markdown_model.specs.LabelEnd.{begins_counted, characters_of, is_blank_byte, is_footnote, is_too_long, with_caret}
+use Rattle.markdown_label_names.proofs.IdentifierFrontLemmas.{IsFrontOf}
 
 -- so many characters may still come where these are counted
 abbrev pub IsCounting : LabelKind → List ℕ → ℕ → ℕ → Bool → Bool → Type 0
@@ -50,3 +51,21 @@ pub counting-end : (kind : LabelKind) (text : List ℕ) (i left : ℕ) (indent r
 counting-end kind text i left indent returned h k =
     let none : characters_of indent returned (drop i text) ≡ 0 = at_drop_all (characters_of indent returned) text i h in
     sym (le-ltb 999 (characters_of false false (with_caret kind text)) (omega (arith, k, none)))
+
+-- What has a front that is too long is too long.
+
+front-least : (front more : List ℕ) (indent returned : Bool) → characters_of indent returned front ≤ characters_of indent returned (front ++ more)
+front-least [] more indent returned = omega arith
+front-least (b ∷ bs) more indent returned =
+    omega (arith, front-least bs more (is_line_ending_byte b || (indent && is_blank_byte b)) (b == carriage_return))
+
+pub long-front : (kind : LabelKind) (front text : List ℕ) → IsFrontOf front text → is_too_long (with_caret kind front) ≡ true → is_too_long (with_caret kind text) ≡ true
+long-front kind front text b h = ap (λ xs. is_too_long (with_caret kind xs)) b.1 ∙ go (is_footnote kind) h
+  where
+    longer : (xs : List ℕ) → is_too_long xs ≡ true → is_too_long (xs ++ b.0) ≡ true
+    longer xs k = lt-ltb 999 (characters_of false false (xs ++ b.0)) (omega (arith, ltb-true 999 (characters_of false false xs) k, front-least xs b.0 false false))
+
+    go : (caret : Bool) → is_too_long (elim caret [ true ↦ 94 ∷ front | false ↦ front ]) ≡ true →
+        is_too_long (elim caret [ true ↦ 94 ∷ (front ++ b.0) | false ↦ front ++ b.0 ]) ≡ true
+    go true k = longer (94 ∷ front) k
+    go false k = longer front k

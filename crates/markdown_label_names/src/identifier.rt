@@ -13,8 +13,8 @@ ghost use Rattle.markdown_label_names.specs.LabelSetting.{setting_in, IsListed};
 ghost use Rattle.markdown_model.specs.LabelEnd.{is_footnote, label_name, name_between, with_caret};
 ghost use Rattle.markdown_model.specs.Setting.{brackets_are_escaped, defines, is_defined, is_of_label};
 
-use crate::label_text::{is_whole, label_name, name_between};
-use crate::lookup::{is_ruled_out, letters_end};
+use crate::label_text::{has_no_name, is_whole, name_between};
+use crate::lookup::{bare_bracket_rules_out, front_rules_out, is_ruled_out, letters_end};
 use markdown_content::util::slice::Slice;
 use markdown_engine::tokenizer::{LabelKind, Tokenizer};
 use std::alloc::{AllocError, Global};
@@ -84,7 +84,7 @@ fn lists_definition(tokenizer: &Tokenizer, name: &str) -> bool
 }
 
 // Whether each bracket has a backslash of its own.
-fn brackets_are_escaped(name: &[u8]) -> bool
+pub(crate) fn brackets_are_escaped(name: &[u8]) -> bool
     ensures { result ≡ brackets_are_escaped false name.now }
 {
     let mut taken = false;
@@ -143,10 +143,17 @@ fn link_from(
     if is_ruled_out(tokenizer, kind, start, end)? {
         return Ok(Some(false));
     }
-    match label_name(tokenizer, kind, start, end)? {
-        Some(name) => link_as(tokenizer, kind, name.as_str()),
-        None => Ok(Some(false)),
+    if bare_bracket_rules_out(tokenizer, kind, start, end)? {
+        return Ok(Some(false));
     }
+    if has_no_name(tokenizer, kind, start, end)? {
+        return Ok(Some(false));
+    }
+    if front_rules_out(tokenizer, kind, start, end)? {
+        return Ok(Some(false));
+    }
+    let name = name_between(tokenizer, start, end)?;
+    link_as(tokenizer, kind, name.as_str())
 }
 
 /// Answers whether a label of this kind, whose text stands between two events that are given by their numbers, is defined as a link's; `None` where it
@@ -194,7 +201,9 @@ fn is_defined_within(tokenizer: &Tokenizer, start: usize, end: usize) -> Result<
     if let Some(letters) = letters_between(tokenizer, start, end) {
         return Ok(names_definition(tokenizer, letters));
     }
-    if is_ruled_out(tokenizer, LabelKind::Link, start, end)? {
+    if is_ruled_out(tokenizer, LabelKind::Link, start, end)?
+        || front_rules_out(tokenizer, LabelKind::Link, start, end)?
+    {
         return Ok(false);
     }
     let name = name_between(tokenizer, start, end)?;

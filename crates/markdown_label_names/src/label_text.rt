@@ -1,7 +1,7 @@
 //! The texts of labels, and their identifiers: by CommonMark a text is the content's, so what the content leaves out is no part of it.
 #![tactic(auto)]
 
-ghost use Rattle.std.specs.Prelude.{◌≡◌, IfOk, IsTrue, IsUtf8, false, option_map, slice_range, string_bytes, true};
+ghost use Rattle.std.specs.Prelude.{◌≡◌, if◌then◌else◌, IfOk, IsTrue, IsUtf8, None, Some, false, slice_range, string_bytes, true};
 ghost use Rattle.markdown_content.specs.Codes.{is_line_ending_byte};
 ghost use Rattle.markdown_content.specs.PlaceInDocument.{IsPlaceOf};
 ghost use Rattle.markdown_plan.specs.Characters.{bytes_of};
@@ -11,6 +11,7 @@ ghost use Rattle.markdown_model.specs.LabelEnd.{begins_counted, is_blank_byte, i
 ghost use Rattle.markdown_model.specs.Setting.{rules};
 
 use crate::identifier::is_footnote;
+use crate::lookup::boundary;
 use markdown_content::util::slice::Slice;
 use markdown_engine::tokenizer::{LabelKind, Tokenizer};
 use markdown_util::util::normalize_identifier::identifier_by;
@@ -18,6 +19,9 @@ use std::alloc::AllocError;
 
 // How many characters stand between the brackets of a link label at most.
 const MOST: usize = 999;
+
+// The first front of a text that is counted has two to this power bytes, a few more than characters at most.
+const FIRST_BITS: u32 = 10;
 
 // Whether the text from an index to another is that part of the document, so that no content leaves out any of it.
 pub(crate) fn is_whole(tokenizer: &Tokenizer, start: usize, end: usize) -> bool
@@ -113,6 +117,33 @@ fn is_too_long(kind: LabelKind, text: &[u8]) -> bool
     false
 }
 
+// Whether a front of the text of a label of this kind, from an index to another, is too long for a link label. Each front is twice as long as the one
+// before, so of a long text little more is read than a label has at most.
+fn has_long_front(
+    tokenizer: &Tokenizer,
+    kind: LabelKind,
+    start: usize,
+    end: usize,
+) -> Result<bool, AllocError>
+    requires cuts { AreCuts (bytes_of tokenizer.now) start end }
+    requires by_text { (rules (setting_in tokenizer.now)).labels_by_text ≡ true }
+    requires own { IsPlaceOf (bytes_of tokenizer.now) tokenizer.now.cursor }
+    ensures { IfOk result (λ long. IsTrue long → is_too_long (with_caret kind (text_between (setting_in tokenizer.now) start end)) ≡ true) }
+{
+    for bits in FIRST_BITS..usize::BITS {
+        let size = 1usize << bits;
+        if size >= end - start {
+            return Ok(false);
+        }
+        let middle = boundary(tokenizer.parse_state.bytes, start + size, end);
+        let front = joined(tokenizer, start, middle)?;
+        if is_too_long(kind, front.as_slice()) {
+            return Ok(true);
+        }
+    }
+    Ok(false)
+}
+
 // Whether the text of a label of this kind, from an index to another, is too long for a link label.
 fn has_long_text(
     tokenizer: &Tokenizer,
@@ -120,36 +151,36 @@ fn has_long_text(
     start: usize,
     end: usize,
 ) -> Result<bool, AllocError>
-    requires { AreCuts (bytes_of tokenizer.now) start end }
+    requires cuts { AreCuts (bytes_of tokenizer.now) start end }
+    requires own { IsPlaceOf (bytes_of tokenizer.now) tokenizer.now.cursor }
     ensures { IfOk result (λ long. long ≡ is_too_long (with_caret kind (text_between (setting_in tokenizer.now) start end))) }
 {
     if is_whole(tokenizer, start, end) {
         let between = Slice::from_indices(tokenizer.parse_state.bytes, start, end);
         return Ok(is_too_long(kind, between.bytes));
     }
+    if has_long_front(tokenizer, kind, start, end)? {
+        return Ok(true);
+    }
     let text = joined(tokenizer, start, end)?;
     Ok(is_too_long(kind, text.as_slice()))
 }
 
-// The identifier of a label of this kind itself, whose text goes from an index to another. `None` where it is too long for a link label.
-pub(crate) fn label_name(
+// Whether a label of this kind, whose text goes from an index to another, has no identifier itself: it is too long for a link label.
+pub(crate) fn has_no_name(
     tokenizer: &Tokenizer,
     kind: LabelKind,
     start: usize,
     end: usize,
-) -> Result<Option<String>, AllocError>
+) -> Result<bool, AllocError>
     requires cuts { AreCuts (bytes_of tokenizer.now) start end }
     requires own { IsPlaceOf (bytes_of tokenizer.now) tokenizer.now.cursor }
-    ensures { IfOk result (λ name. option_map string_bytes name ≡ label_name (setting_in tokenizer.now) kind start end) }
+    ensures { IfOk result (λ none. label_name (setting_in tokenizer.now) kind start end ≡ (if none then None else Some (name_between (setting_in tokenizer.now) start end))) }
 {
     let limited = tokenizer
         .parse_state
         .options
         .rules()
         .definitions_have_labels;
-    if limited && has_long_text(tokenizer, kind, start, end)? {
-        return Ok(None);
-    }
-    let name = name_between(tokenizer, start, end)?;
-    Ok(Some(name))
+    Ok(limited && has_long_text(tokenizer, kind, start, end)?)
 }

@@ -1,17 +1,18 @@
 //! Labels that nothing is defined for, by the fronts of their identifiers.
 #![tactic(auto)]
 
-ghost use Rattle.std.specs.Prelude.{◌≡◌, ◌≤◌, ◌==◌, Bool, IfOk, IsTrue, [], map, slice_range, string_bytes};
+ghost use Rattle.std.specs.Prelude.{◌≡◌, ◌≤◌, ◌==◌, Bool, IfOk, IsTrue, Some, [], false, map, slice_range, string_bytes};
 ghost use Rattle.std.specs.List.{list_any, starts_with};
 ghost use Rattle.std.specs.Str.{IsCharBoundary};
 ghost use Rattle.markdown_plan.specs.Characters.{bytes_of};
 ghost use Rattle.markdown_util.specs.Identifier.{identifier_by};
 ghost use Rattle.markdown_label_names.specs.IdentifierFronts.{AreCuts, begins_one, begins_defined, lacks_count, IsUnknown};
+ghost use Rattle.markdown_label_names.specs.LabelNames.{link_as};
 ghost use Rattle.markdown_label_names.specs.LabelSetting.{setting_in, IsListed};
 ghost use Rattle.markdown_content.specs.PlaceInDocument.{IsPlaceOf};
-ghost use Rattle.markdown_model.specs.LabelEnd.{name_between};
+ghost use Rattle.markdown_model.specs.LabelEnd.{label_name, name_between};
 
-use crate::identifier::{is_footnote, link_identifier};
+use crate::identifier::{brackets_are_escaped, is_footnote, link_identifier};
 use crate::label_text::{is_whole, name_between};
 use markdown_content::util::slice::Slice;
 use markdown_engine::tokenizer::{LabelKind, Tokenizer};
@@ -22,7 +23,7 @@ use std::alloc::AllocError;
 const FIRST_BITS: u32 = 6;
 
 // Where a text may be cut that may be cut at `end`: where the next character begins at or after an index, or at `end`.
-fn boundary(bytes: &[u8], index: usize, end: usize) -> usize
+pub(crate) fn boundary(bytes: &[u8], index: usize, end: usize) -> usize
     requires in_order { index ≤ end }
     requires end { IsCharBoundary bytes.now end }
     ensures after { index ≤ result }
@@ -181,11 +182,11 @@ fn letters_rule_out(
     Ok(!begins)
 }
 
-// Whether the brackets or the front of a label, from an index of the document to another, show that nothing is defined that it may stand
+// Whether the brackets or the first letters of a label, from an index of the document to another, show that nothing is defined that it may stand
 // for.
 //
 // Labels with as many brackets as one another do not nest. Of most labels nothing is defined that begins with the letters of their first
-// word. Each front behind is twice as long as the one before, so a long label is read at most about twice as far as it begins like a definition.
+// word.
 pub(crate) fn is_ruled_out(
     tokenizer: &Tokenizer,
     kind: LabelKind,
@@ -203,9 +204,23 @@ pub(crate) fn is_ruled_out(
     if brackets_rule_out(tokenizer, kind, start, end) {
         return Ok(true);
     }
-    if letters_rule_out(tokenizer, kind, start, end)? {
-        return Ok(true);
-    }
+    letters_rule_out(tokenizer, kind, start, end)
+}
+
+// Whether the front of a label, from an index of the document to another, shows that nothing is defined that it may stand for.
+//
+// Each front is twice as long as the one before, so a long label is read at most about twice as far as it begins like a definition.
+pub(crate) fn front_rules_out(
+    tokenizer: &Tokenizer,
+    kind: LabelKind,
+    start: usize,
+    end: usize,
+) -> Result<bool, AllocError>
+    requires cuts { AreCuts (bytes_of tokenizer.now) start end }
+    requires listed { IsListed tokenizer.now }
+    requires own { IsPlaceOf (bytes_of tokenizer.now) tokenizer.now.cursor }
+    ensures { IfOk result (λ out. IsTrue out → IsUnknown (setting_in tokenizer.now) kind (name_between (setting_in tokenizer.now) start end)) }
+{
     for bits in FIRST_BITS..usize::BITS {
         let size = 1usize << bits;
         if size >= end - start {
@@ -217,4 +232,32 @@ pub(crate) fn is_ruled_out(
         }
     }
     Ok(false)
+}
+
+// Whether a front of a link's label, from an index of the document to another, shows that it is no link label by CommonMark's rules: a bracket in it
+// has no backslash before it.
+//
+// So of labels that nest none but the innermost is read further.
+pub(crate) fn bare_bracket_rules_out(
+    tokenizer: &Tokenizer,
+    kind: LabelKind,
+    start: usize,
+    end: usize,
+) -> Result<bool, AllocError>
+    requires cuts { AreCuts (bytes_of tokenizer.now) start end }
+    requires own { IsPlaceOf (bytes_of tokenizer.now) tokenizer.now.cursor }
+    ensures { IfOk result (λ out. IsTrue out → link_as (setting_in tokenizer.now) kind (label_name (setting_in tokenizer.now) kind start end) ≡ Some false) }
+{
+    let limited = tokenizer
+        .parse_state
+        .options
+        .rules()
+        .definitions_have_labels;
+    let size = 1usize << FIRST_BITS;
+    if !limited || is_footnote(kind) || size >= end - start {
+        return Ok(false);
+    }
+    let middle = boundary(tokenizer.parse_state.bytes, start + size, end);
+    let front = name_between(tokenizer, start, middle)?;
+    Ok(!brackets_are_escaped(front.as_bytes()))
 }

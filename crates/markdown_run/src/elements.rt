@@ -322,7 +322,7 @@ fn read_construct(tokenizer: &mut Tokenizer, byte: u8) -> Result<bool, AllocErro
 }
 
 // Whether a construct that begins with the byte at hand, which is given, and has failed, may be ruled out the next time: a span, HTML that begins
-// with `<!` or `<?`, an end of a label before a `(`, and a literal from `www.` on.
+// with `<!` or `<?`, an end of a label before a `(`, a resource behind an end that holds without it, and a literal from `www.` on.
 //
 //     > | a `b <!-- c
 //           ^  ^^
@@ -331,6 +331,7 @@ fn may_be_ruled_out(tokenizer: &Tokenizer, byte: u8) -> bool {
         b'`' | b'$' => true,
         b'<' => matches!(tokenizer.cursor.next(), Some(b'!' | b'?')),
         b']' => matches!(tokenizer.cursor.next(), Some(b'(')),
+        b'(' => matches!(tokenizer.cursor.previous(), Some(b']')),
         b'W' | b'w' => matches!(tokenizer.cursor.next(), Some(b'W' | b'w')),
         _ => false,
     }
