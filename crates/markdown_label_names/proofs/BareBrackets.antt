@@ -1,10 +1,10 @@
 -- By CommonMark nothing is defined that has a bare bracket.
-use Rattle.std.proofs.Common.{◌≡◌, ◌∙◌, sym, ap, refl, ◌||◌, ◌&&◌, ◌==◌, ℕ, Bool, true, false, not, if◌then◌else◌, List, [], ◌∷◌, ◌++◌, Some, None}
+use Rattle.std.proofs.Common.{◌≡◌, ◌∙◌, ap, refl, ◌||◌, ◌&&◌, ◌==◌, ℕ, Bool, true, false, not, if◌then◌else◌, List, [], ◌∷◌, ◌++◌, Some, None}
 use Rattle.markdown_content.specs.declared.label_kind.LabelKind.{LabelKind}
 use Rattle.markdown_label_names.proofs.IdentifierFrontLemmas.{IsFrontOf}
 use Rattle.markdown_label_names.specs.LabelNames.{link_as}
 use Rattle.markdown_model.specs.LabelEnd.{is_footnote, is_too_long, label_name, name_between, text_between, with_caret}
-use Rattle.markdown_model.specs.Setting.{Setting, brackets_are_escaped, defines, is_defined, is_of_label, rules}
+use Rattle.markdown_model.specs.Setting.{Setting, brackets_are_escaped, is_defined, is_of_label, rules}
 
 front-bare : (taken : Bool) (front more : List ℕ) → brackets_are_escaped taken front ≡ false → brackets_are_escaped taken (front ++ more) ≡ false
 front-bare taken [] more h = absurd (both taken h)
