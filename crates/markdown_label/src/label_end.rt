@@ -184,8 +184,8 @@ fn tail(tokenizer: &mut Tokenizer, defined: bool) -> Result<State, AllocError>
 
 /// Behind a `]`: a call is made, or what follows is tried.
 ///
-/// The label is read at most about twice as far as it begins like something that is defined. The error comes where memory for its
-/// identifier is refused, too; then `failed` is true.
+/// The label is read at most about twice as far as it begins like something that is defined, and by CommonMark's rules before that up to the
+/// limit of a label. The error comes where memory for its identifier is refused, too; then `failed` is true.
 ///
 ///     > | x[y](z)
 ///             ^
