@@ -6,5 +6,6 @@ mod Joined
 mod Labels
 mod Leaves
 mod MetDefinitions
+mod Noted
 mod Targets
 mod WrittenContents

@@ -1,8 +1,10 @@
--- Which events refer to definitions, and short events one after another.
-use Rattle.std.proofs.Common.{◌≡◌, ◌∙◌, sym, ap, refl, ℕ, ◌+◌, ◌<◌, suc, false, List, [], ◌∷◌, ◌++◌, get_or, length, take, slice_get, arith, Option, None, Some}
+-- Which events refer to definitions.
+use Rattle.std.proofs.Common.{◌≡◌, ◌∙◌, sym, ap, refl, ℕ, ◌<◌, suc, false, List, [], ◌∷◌, get_or, length, map, slice_get, arith, Option, None, Some}
+use Rattle.std.specs.List.{All}
 use Rattle.std.specs.Option.{option_and_then, option_map}
 use Rattle.std.proofs.lemmas.Bool.{false≢true}
-use Rattle.std.proofs.lemmas.List.{length-take-le, take_more}
+use Rattle.std.proofs.lemmas.List.{get_or_default}
+use Rattle.std.proofs.lemmas.Option.{slice_get_read}
 use Rattle.markdown_tree.specs.Numbers.{number_of}
 use Rattle.markdown_tree.specs.Referred.{Given, behind, definition_of, first_inside, met, met_by, named_by_label, named_by_part, named_by_reference, named_by_tail, named_by_text, node_identifier, second_inside}
 use Rattle.markdown_event.specs.declared.event.Event.{Event}
@@ -11,8 +13,8 @@ use Rattle.markdown_event.specs.declared.event.Name.{Name}
 use Rattle.markdown_tree.specs.Nodes.{if_enter, node_at, node_of, own_exit}
 use Rattle.markdown_tree.specs.declared.node.Node.{Node}
 use Rattle.markdown_inline_c.specs.FlatEvents.{short_event}
-use Rattle.markdown_inline_c.specs.ShortEvents.{HasNone, refers, refers_by, refers_where, short_from}
-use Rattle.markdown_inline_c.specs.declared.flat.ShortEvent.{ShortEvent}
+use Rattle.markdown_inline_c.specs.ShortEvents.{AreAllMet, HasNone, noted, refers, refers_by, refers_where}
+use Rattle.markdown_inline_c.proofs.Noted.{none_noted}
 
 -- a step that never finds anything
 and-none : {A B : Type 0} (f : A → Option B) (o : Option A) → ((a : A) → f a ≡ None) → option_and_then f o ≡ None
@@ -94,18 +96,18 @@ other_met g es n e at h =
     at
     ∙ by-kind g es n e e.kind h
 
--- Short events one after another.
+-- Then there is nothing to note.
 
-short-push : (m : ℕ → Option ℕ) (n : ℕ) (es : List Event) (e : Event) → short_from m n (es ++ e ∷ []) ≡ short_from m n es ++ short_event (m (n + length es)) e ∷ []
-short-push m n [] e = ap (λ k. short_event (m k) e ∷ []) (omega arith)
-short-push m n (x ∷ es) e = ap (λ xs. short_event (m n) x ∷ xs) (short-push m (suc n) es e ∙ ap (λ k. short_from m (suc n) es ++ short_event (m k) e ∷ []) (omega arith))
+pub none_given : (g : Given) (es : List Event) (found : List (ℕ × ℕ)) → found ≡ [] → HasNone g → AreAllMet (met g es) es found
+none_given g es found e none = ap (λ xs. noted xs (map (short_event None) es)) e ∙ none_noted (met g es) es (λ i l. none_met g es i none)
 
-pub one_more : (m : ℕ → Option ℕ) (es : List Event) (found more : List ShortEvent) (i : ℕ) (d : Event) (referred : Option ℕ) (s : ShortEvent) → i < length es → found ≡ short_from m 0 (take i es)
-    → referred ≡ m i → s ≡ short_event referred (get_or es i d) → more ≡ found ++ s ∷ [] → more ≡ short_from m 0 (take (i + 1) es)
-one_more m es found more i d referred s h so_far is e pushed =
-    let at : 0 + length (take i es) ≡ i = omega (arith, length-take-le i es (omega (arith, h))) in
-    pushed
-    ∙ ap (λ x. found ++ x ∷ []) (e ∙ ap (λ o. short_event o (get_or es i d)) (is ∙ ap m (sym at)))
-    ∙ ap (λ xs. xs ++ short_event (m (0 + length (take i es))) (get_or es i d) ∷ []) so_far
-    ∙ sym (short-push m 0 (take i es) (get_or es i d))
-    ∙ ap (short_from m 0) (sym (take_more es i d h))
+none-by-place : (g : Given) (es : List Event) (i : ℕ) (d : Event) → i < length es → All (λ e. refers e ≡ false) es → met g es i ≡ None
+none-by-place g es i d l none =
+    other_met g es i (get_or es i d) (slice_get_read es (length es) i (get_or es i d) refl l (get_or_default es i d (get_or es i d) l)) (none i d l)
+
+none-refer : (g : Given) (es : List Event) → All (λ e. refers e ≡ false) es → (i : ℕ) → i < length es → met g es i ≡ None
+none-refer g [] none i l = absurd (omega arith)
+none-refer g (x ∷ xs) none i l = none-by-place g (x ∷ xs) i x l none
+
+pub none_refer : (g : Given) (es : List Event) (found : List (ℕ × ℕ)) → found ≡ [] → All (λ e. refers e ≡ false) es → AreAllMet (met g es) es found
+none_refer g es found e none = ap (λ xs. noted xs (map (short_event None) es)) e ∙ none_noted (met g es) es (none-refer g es none)

@@ -60,3 +60,7 @@ short_event met e = record {
   definition = definition_number met;
   index = e.point.index;
 }
+
+-- the same event, which refers to the definition of this number
+abbrev pub referring_to : ℕ → ShortEvent → ShortEvent
+referring_to number e = record e { definition = definition_number (Some number) }

@@ -2,7 +2,7 @@
 
 ghost use Rattle.std.specs.Prelude.{◌≡◌, min};
 ghost use Rattle.markdown_event.specs.EventNames.{name_number};
-ghost use Rattle.markdown_inline_c.specs.FlatEvents.{definition_number, flat_event, kind_number, link_number, linked_as, number_or_max, short_event};
+ghost use Rattle.markdown_inline_c.specs.FlatEvents.{definition_number, flat_event, kind_number, link_number, linked_as, number_or_max, referring_to, short_event};
 ghost use Rattle.markdown_inline_c.specs.FlatInput.{piece_of};
 
 use markdown_content::parser::Piece;
@@ -244,5 +244,17 @@ pub(crate) fn short_event(event: &Event, met: Option<usize>) -> ShortEvent
         vs: byte_or_max(event.point.vs),
         definition: definition_number(met),
         index: event.point.index,
+    }
+}
+
+impl ShortEvent {
+    /// The same event, which refers to the definition of a number.
+    pub(crate) fn referring_to(self, definition: usize) -> ShortEvent
+        ensures { result ≡ referring_to definition self }
+    {
+        ShortEvent {
+            definition: definition_number(Some(definition)),
+            ..self
+        }
     }
 }

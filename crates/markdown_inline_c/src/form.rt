@@ -1,17 +1,18 @@
 //! The forms in which events cross to C.
 
-ghost use Rattle.std.specs.Prelude.{◌≡◌, List, IfOk, MatchOption, Some, map, slice_get, string_bytes};
+ghost use Rattle.std.specs.Prelude.{◌≡◌, List, IfOk, IsFalse, IsTrue, None, OnOk, Some, false, map, slice_get, string_bytes};
+ghost use Rattle.std.specs.List.{All};
 ghost use Rattle.markdown_content.specs.Content.{IsContent, content_of};
 ghost use Rattle.markdown_tree.specs.LabelsView.{given_of};
 ghost use Rattle.markdown_tree.specs.Referred.{met};
 ghost use Rattle.markdown_event.specs.declared.event.Event.{Event};
 ghost use Rattle.markdown_model.specs.Setting.{Setting, within};
 ghost use Rattle.markdown_run_text.specs.RunSetting.{setting_of};
-ghost use Rattle.markdown_inline_c.specs.FlatEvents.{flat_event};
-ghost use Rattle.markdown_inline_c.specs.ShortEvents.{HasNone, refers, short_events, short_from};
+ghost use Rattle.markdown_inline_c.specs.FlatEvents.{flat_event, short_event};
+ghost use Rattle.markdown_inline_c.specs.ShortEvents.{AreAllMet, HasNone, with_met, refers, short_events, short_from};
 
-use crate::flat::{FlatEvent, ShortEvent, short_event};
-use crate::found::Found;
+use crate::flat::{FlatEvent, ShortEvent};
+use crate::found::{Found, Referring};
 use markdown_content::parser::Piece;
 use markdown_document::document::Document;
 use markdown_engine_events::event_list::EventSlice;
@@ -98,6 +99,7 @@ fn listed(alloc: Global, identifiers: &[String]) -> Result<Definitions, AllocErr
 }
 
 // Whether an event may refer to a definition.
+#[inline(always)]
 fn refers(event: &Event) -> bool
     ensures { result ≡ refers event.now }
 {
@@ -107,65 +109,99 @@ fn refers(event: &Event) -> bool
     }
 }
 
-// The tree that events are, if there are definitions to which they may refer.
-fn tree_of<'a>(
-    alloc: Global,
-    labels: &Labels,
-    events: &EventSlice<'a>,
-) -> Result<Option<Tree<'a>>, AllocError>
-    ensures { IfOk result (λ tree. MatchOption tree (HasNone (given_of labels.now)) (λ tree. tree ≡ events.now)) }
+// Whether one of the events may refer to a definition.
+fn one_refers(events: &EventSlice) -> bool
+    ensures { IsFalse result → All (λ e. refers e ≡ false) events.now }
 {
-    if labels.definitions.is_empty() && labels.footnotes.is_empty() {
-        return Ok(None);
+    for number in 0..events.len() {
+        if refers(&events.at(number)) {
+            return true;
+        }
     }
-    Ok(Some(Tree::new(alloc, events)?))
+    false
 }
 
 // The definition that the event of a number refers to.
 fn referred(
     labels: &Labels,
-    tree: &Option<Tree>,
+    tree: &Tree,
     number: usize,
     event: &Event,
 ) -> Result<Option<usize>, AllocError>
-    requires { IsContent labels.now.bytes.now labels.now.pieces.now }
-    ensures { (events : List Event) → slice_get events number ≡ Some event.now → MatchOption tree.now (HasNone (given_of labels.now)) (λ tree. tree ≡ events) → IfOk result (λ found. found ≡ met (given_of labels.now) events number) }
+    requires content { IsContent labels.now.bytes.now labels.now.pieces.now }
+    requires event { slice_get tree.now number ≡ Some event.now }
+    ensures { IfOk result (λ found. found ≡ met (given_of labels.now) tree.now number) }
 {
-    match tree {
-        Some(tree) => {
-            if refers(event) {
-                labels.met(tree, number)
-            } else {
-                Ok(None)
-            }
-        }
-        None => Ok(None),
+    if refers(event) {
+        labels.met(tree, number)
+    } else {
+        Ok(None)
     }
 }
 
-// The short form of all events of a content.
-fn shortened(
+// Adds an event's number with that of the definition it refers to, if there is one.
+fn add_met(
+    found: &mut Vec<(usize, usize)>,
+    number: usize,
+    met: Option<usize>,
+) -> Result<(), AllocError>
+    ensures { OnOk result (found.new.items ≡ with_met number met found.old.items) }
+{
+    if let Some(definition) = met {
+        found.push((number, definition))?;
+    }
+    Ok(())
+}
+
+// The numbers of all events that refer to a definition, each with the number of that definition.
+#[tactic(auto, using(crate::proofs::Noted::one_more))]
+fn all_met(
     alloc: Global,
     labels: &Labels,
     events: &EventSlice,
-) -> Result<Vec<ShortEvent>, AllocError>
+) -> Result<Vec<(usize, usize)>, AllocError>
     requires { IsContent labels.now.bytes.now labels.now.pieces.now }
-    ensures { IfOk result (λ found. found.items ≡ short_from (met (given_of labels.now) events.now) 0 events.now) }
+    ensures { IfOk result (λ found. AreAllMet (met (given_of labels.now) events.now) events.now found.items) }
 {
-    let tree = tree_of(alloc, labels, events)?;
-    let mut found = Vec::with_capacity(alloc, events.len())?;
+    let tree = Tree::new(alloc, events)?;
+    let mut found = Vec::new(alloc);
     for number in 0..events.len() {
-        let event = events.at(number);
-        let met = referred(labels, &tree, number, &event)?;
-        found.push(short_event(&event, met))?;
+        let met = referred(labels, &tree, number, &events.at(number))?;
+        add_met(&mut found, number, met)?;
     }
     Ok(found)
+}
+
+// Whether there are no definitions to which an event may refer.
+fn none_defined(labels: &Labels) -> bool
+    ensures { IsTrue result → HasNone (given_of labels.now) }
+{
+    labels.definitions.is_empty() && labels.footnotes.is_empty()
+}
+
+// The same, by a tree only where there may be some.
+#[tactic(auto, using(crate::proofs::MetDefinitions::none_given, crate::proofs::MetDefinitions::none_refer))]
+fn met_in(
+    alloc: Global,
+    labels: &Labels,
+    events: &EventSlice,
+) -> Result<Vec<(usize, usize)>, AllocError>
+    requires { IsContent labels.now.bytes.now labels.now.pieces.now }
+    ensures { IfOk result (λ found. AreAllMet (met (given_of labels.now) events.now) events.now found.items) }
+{
+    if none_defined(labels) {
+        return Ok(Vec::new(alloc));
+    }
+    if !one_refers(events) {
+        return Ok(Vec::new(alloc));
+    }
+    all_met(alloc, labels, events)
 }
 
 impl Form for Short {
     type Item = ShortEvent;
 
-    type Events = Vec<ShortEvent>;
+    type Events = Referring;
 
     ghost IsFor = { λ form s. (form.definitions ≡ s.definitions) × (form.footnotes ≡ s.footnotes) };
 
@@ -185,7 +221,7 @@ impl Form for Short {
         document: &Document,
         pieces: &[Piece],
         run: ListRun,
-    ) -> Result<Vec<ShortEvent>, AllocError> {
+    ) -> Result<Referring, AllocError> {
         let parse_state = document.parse_state();
         let labels = Labels {
             bytes: parse_state.bytes,
@@ -194,6 +230,7 @@ impl Form for Short {
             definitions: &self.definitions,
             footnotes: &self.footnotes,
         };
-        shortened(alloc, &labels, &run.events.as_slice())
+        let met = met_in(alloc, &labels, &run.events.as_slice())?;
+        Ok(Referring { run, met })
     }
 }

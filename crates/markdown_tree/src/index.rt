@@ -50,7 +50,7 @@ pub(crate) fn parents(alloc: Global, events: &EventSlice) -> Result<Vec<Option<u
     ensures { IfOk result (λ found. found.items ≡ parents_of events.now) }
 {
     let mut open = Stack::new(alloc);
-    let mut found = Vec::new(alloc);
+    let mut found = Vec::with_capacity(alloc, events.len())?;
     for index in 0..events.len() {
         found.push(top(&open))?;
         pass(&mut open, index, events.at(index).kind)?;
@@ -63,7 +63,7 @@ pub(crate) fn exits(alloc: Global, events: &EventSlice) -> Result<Vec<Option<usi
     ensures { IfOk result (λ found. found.items ≡ exits_of events.now) }
 {
     let mut open = Stack::new(alloc);
-    let mut found = Vec::new(alloc);
+    let mut found = Vec::with_capacity(alloc, events.len())?;
     for index in (0..events.len()).rev() {
         found.push(top(&open))?;
         pass_back(&mut open, index, events.at(index).kind)?;

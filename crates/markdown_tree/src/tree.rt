@@ -50,6 +50,7 @@ impl<'a> Tree<'a> {
     }
 
     // The event of this number.
+    #[inline(always)]
     fn event(&self, number: usize) -> Option<Event>
         ensures { result ≡ slice_get self.now number }
     {
