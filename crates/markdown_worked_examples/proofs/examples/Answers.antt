@@ -1,7 +1,7 @@
 -- Worked examples, written by tools/examples.py from tools/rules.
 use Rattle.std.proofs.Common.{refl}
 use Rattle.markdown_worked_examples.proofs.Computed.{computed}
-use Rattle.markdown_worked_examples.specs.Examples.{Escapes, CharacterReferences, Whitespace, RawText, Autolinks, HtmlText, HtmlTags, TaskListItemChecks, Emphasis, Links, Labels, References, Footnotes, GfmAutolinkLiterals, Emails, Resources, Switches, Choices, LabelSizes}
+use Rattle.markdown_worked_examples.specs.Examples.{Escapes, CharacterReferences, Whitespace, RawText, Autolinks, HtmlText, HtmlTags, TaskListItemChecks, Emphasis, Links, Labels, References, Footnotes, GfmAutolinkLiterals, Emails, Resources, Switches, Choices, LabelSizes, FootnoteSizes, LabelCharacters}
 use Rattle.markdown_worked_examples.proofs.examples.Goals as goal
 
 -- Both sides of each example compute to one list.
@@ -79,7 +79,15 @@ choices = (refl, refl, refl, refl, refl, refl, refl, refl, refl, refl, refl, ref
 
 label_sizes : LabelSizes
 unfolding computed
-label_sizes = (refl, refl, refl, refl, refl, refl, refl, refl, refl, refl, refl, refl, refl, refl, refl, refl, refl, refl, refl, refl, refl)
+label_sizes = (refl, refl, refl, refl, refl, refl, refl, refl, refl, refl)
+
+footnote_sizes : FootnoteSizes
+unfolding computed
+footnote_sizes = (refl, refl, refl, refl, refl, refl, refl, refl)
+
+label_characters : LabelCharacters
+unfolding computed
+label_characters = (refl, refl, refl)
 
 pub returns : goal.returns
-returns c = (escapes, character_references, whitespace, raw_text, autolinks, html_text, html_tags, task_list_item_checks, emphasis, links, labels, references, footnotes, gfm_autolink_literals, emails, resources, switches, choices, label_sizes)
+returns c = (escapes, character_references, whitespace, raw_text, autolinks, html_text, html_tags, task_list_item_checks, emphasis, links, labels, references, footnotes, gfm_autolink_literals, emails, resources, switches, choices, label_sizes, footnote_sizes, label_characters)
