@@ -1,5 +1,5 @@
 -- Which events refer to definitions.
-use Rattle.std.proofs.Common.{◌≡◌, ◌∙◌, sym, ap, refl, ℕ, ◌<◌, suc, false, List, [], ◌∷◌, get_or, length, map, slice_get, arith, Option, None, Some}
+use Rattle.std.proofs.Common.{◌≡◌, ◌∙◌, sym, ap, refl, ℕ, ◌<◌, false, List, [], ◌∷◌, get_or, length, map, slice_get, arith, Option, None, Some}
 use Rattle.std.specs.List.{All}
 use Rattle.std.specs.Option.{option_and_then, option_map}
 use Rattle.std.proofs.lemmas.Bool.{false≢true}
