@@ -9,12 +9,12 @@
  *   checked below, at compile time. Numbers of names, bits of options and statuses do not change within a version; new ones come at the end.
  * - An array is a pointer and a length in elements. Where the length is 0 the pointer may be null. Pointers to single values are never null.
  * - Text is UTF-8. Indexes and ranges count bytes, from 0; lines and columns count from 1.
- * - Every input has an answer: nothing is required of it but that pointers and lengths are those of arrays, and that what a call writes to
- *   overlaps nothing else that the call is given.
+ * - Every input is taken, and a call always returns. Only pointers and lengths have to be those of arrays, and what a call writes to may overlap
+ *   nothing else that the call is given.
  * - A document that is not UTF-8 is refused whole. A copy of the same length with a NUL for each wrong byte is read, and places in it are those of the
  *   document: CommonMark reads NUL as U+FFFD.
  * - No pointer is kept after a call, and nothing has to be freed. There is no state: calls on several threads do not meet.
- * - Memory comes from malloc, and is given back before the call ends. Where it is refused, a call answers MARKDOWN_INLINE_NO_MEMORY.
+ * - Memory comes from malloc, and is freed before the call ends. If malloc fails, the call returns MARKDOWN_INLINE_NO_MEMORY.
  * - The stack that a call takes does not grow with its input.
  * - Words that are `reserved` have to be 0, since a later version may give bits of them a meaning. This one does not look at them.
  */

@@ -7,7 +7,7 @@
     [2, 5]
 
 Kinds and names are members of enumerations, and equal to no string; `str` of them is the text that the program mdinline prints. By default a text is read as
-CommonMark 0.31.2 says, as in C and in Rust; `gfm=True` asks for what GitHub adds. What the calls answer is proved; this package calls the proved library.
+CommonMark 0.31.2 says, as in C and in Rust; `gfm=True` asks for what GitHub adds. What the calls return is proved; this package calls the proved library.
 """
 from itertools import chain
 from types import MappingProxyType
@@ -55,8 +55,8 @@ class Content(NamedTuple):
 
 
 class Error(Exception):
-    """Why a call answers nothing; `status` is that of the library. Where a call for many tells what is to blame, `at` is its number: that of the content, of the
-    string, or of the definition where it is a DefinitionError, with the footnotes counted on behind the definitions. Else `at` is None."""
+    """Why a call returns nothing; `status` is that of the library. If a call for many says what is refused, `at` is its number: that of the content, of the
+    string, or for a DefinitionError of the definition, with the footnotes counted on behind the definitions. Otherwise `at` is None."""
     status = 0
     at: Optional[int] = None
 
@@ -366,12 +366,12 @@ def _decoded(function: str, given: bytes, *before: int) -> str:
 
 
 def is_text(document: Text, pieces: Pieces = None) -> bool:
-    """Whether the pieces are a text of the document. Where memory is refused, the answer is not known: NoMemory."""
+    """Whether the pieces are a text of the document. If memory runs out, this is not known, and NoMemory is raised."""
     return _holds('markdown_inline_is_text', document, pieces)
 
 
 def is_content(document: Text, pieces: Pieces = None) -> bool:
-    """Whether the pieces are a content of the document. Where memory is refused, the answer is not known: NoMemory."""
+    """Whether the pieces are a content of the document. If memory runs out, this is not known, and NoMemory is raised."""
     return _holds('markdown_inline_is_content', document, pieces)
 
 

@@ -46,7 +46,7 @@ class Asked:
             raise Fault(USAGE_STATUS, USAGE)
 
     def take(self, word):
-        """Takes a word, and answers whether it is known and stands where it may."""
+        """Takes a word, and returns whether it is known and stands where it may."""
         name, sign, words = word.partition('=')
         if not sign:
             switch = name.replace('raw', 'raw_html').replace('-', '_')

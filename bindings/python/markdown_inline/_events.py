@@ -1,4 +1,4 @@
-"""What the calls answer: events and leaves, which are made of the library's bytes when they are looked at."""
+"""What the calls return: events and leaves, which are made of the library's bytes when they are looked at."""
 import operator
 import struct
 from array import array
@@ -171,7 +171,7 @@ class _Rows(Sequence[_Row]):
 
 class Events(_Rows[Event]):
     """The events of a text or of a string: a sequence of `Event`s, each of which is made when it is looked at. It is equal to a list of the same
-    events, and cannot be changed. Numbers in an event's link count in the whole answer, and not in a slice of it.
+    events, and cannot be changed. Numbers in an event's link count in the whole sequence, and not in a slice of it.
 
     >>> events = text('a *b*')
     >>> len(events), str(events[2])

@@ -111,8 +111,8 @@ def _give_back(lent):
 
 
 def _written(lent, length):
-    """The bytes that a call wrote to the front of an array, which is given back. A large array that is full for the most part is not copied: it is what is
-    answered."""
+    """The bytes that a call wrote to the front of an array, which is given back. A large array that is full for the most part is not copied: it is
+    returned itself."""
     # Not ctypes.string_at, which has a limit of 2 GB.
     written = memoryview(lent).cast('B')[:length]
     if len(lent) > KEPT_SIZE and length > len(lent) // 2:

@@ -1,9 +1,9 @@
-//! Why a call answers nothing.
+//! Why a call returns nothing.
 
 use std::error;
 use std::fmt;
 
-/// Why a call answers nothing: the first thing that is wrong, in the order `UnknownOption`, `TooLong`, `NotUtf8`, `NoContent`, `BlankLine`, `Definition`. A call
+/// Why a call returns nothing: the first thing that is wrong, in the order `UnknownOption`, `TooLong`, `NotUtf8`, `NoContent`, `BlankLine`, `Definition`. A call
 /// for many contents looks at all definitions first, and then at one content after another. `NoMemory` may come at any time.
 #[derive(Clone, Copy, Debug, PartialEq, Eq, Hash)]
 #[non_exhaustive]
@@ -66,7 +66,7 @@ impl fmt::Display for Error {
 
 impl error::Error for Error {}
 
-/// Why a call for many contents or strings answers nothing, and which of them, or which definition, is to blame.
+/// Why a call for many contents or strings returns nothing, and which of them, or which definition, is refused.
 #[derive(Clone, Copy, Debug, PartialEq, Eq, Hash)]
 pub struct Refusal {
     /// Why.

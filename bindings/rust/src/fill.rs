@@ -49,7 +49,7 @@ pub(crate) struct Lent<T> {
 }
 
 /// Fills two vectors by a call for so many: with the elements that are found, and with where those of each end. `expected` elements or fewer are found as a rule,
-/// and else a second call goes on behind those that had room; where calls cannot go on, it is for all again. Where one is refused, the answers before it stay;
+/// and else a second call goes on behind those that had room; where calls cannot go on, it is for all again. If one is refused, what was found before it stays;
 /// after another error there are none.
 pub(crate) fn fill_many<T>(
     found: &mut Vec<T>,
@@ -114,14 +114,14 @@ unsafe fn take<T>(found: &mut Vec<T>, ends: &mut Vec<usize>, done: usize) {
     found.set_len(ends.last().copied().unwrap_or(0));
 }
 
-/// The refusal, with no answers.
+/// The refusal, with nothing found.
 fn none_of<T>(found: &mut Vec<T>, ends: &mut Vec<usize>, refusal: Refusal) -> Result<(), Refusal> {
     found.clear();
     ends.clear();
     Err(refusal)
 }
 
-/// Whether an error is that of one content or string, so that those before it are answered.
+/// Whether an error is that of one content or string, so that what was found before it stays.
 fn is_of_one(error: Error) -> bool {
     matches!(
         error,

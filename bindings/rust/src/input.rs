@@ -353,7 +353,7 @@ impl<'a> Input<'a> {
     ///
     /// # Errors
     ///
-    /// Those of `texts`. Where a content is to blame, those before it are answered, as many as its number says; after another error there are none.
+    /// Those of `texts`. If a content is refused, the events of those before it stay, of as many as its number says; after another error there are none.
     ///
     /// ```
     /// use markdown_inline::{Error, Input, Piece, TextContent, Texts};
@@ -394,7 +394,7 @@ impl<'a> Input<'a> {
     ///
     /// # Errors
     ///
-    /// Those of `texts_into`, with what it answers then.
+    /// Those of `texts_into`, and the same stays then.
     pub fn short_texts_into(
         &self,
         contents: &[TextContent],
@@ -516,7 +516,7 @@ impl<'a> Input<'a> {
     ///
     /// # Errors
     ///
-    /// Those of `htmls`. Where a content is to blame, the HTML of those before it is answered; after another error there is none.
+    /// Those of `htmls`. If a content is refused, the HTML of those before it stays; after another error there is none.
     pub fn htmls_into(
         &self,
         contents: &[TextContent],

@@ -1,6 +1,6 @@
 //! The inline layer of Markdown: a paragraph in, the events of its inline tree out.
 //!
-//! What the calls answer is proved; this crate calls the proved library, and has no dependencies.
+//! What the calls return is proved; this crate calls the proved library, and has no dependencies.
 //!
 //! ```
 //! # fn main() -> Result<(), markdown_inline::Error> {
@@ -34,7 +34,7 @@
 //! # Memory and time
 //!
 //! A call asks for room by the length of what it reads, and mostly reads it once. A text of little else than constructs has more events than that: then the call
-//! is made once more, with room for all. [`Input::text_into`] and its like use the memory of an earlier answer again. Rust's own memory is asked for by
+//! is made once more, with room for all. [`Input::text_into`] and its like use the memory of an earlier result again. Rust's own memory is asked for by
 //! `try_reserve`, so that a refusal is [`Error::NoMemory`], but for what an [`Input`] keeps.
 //!
 //! # Linking

@@ -1,6 +1,6 @@
-//! Walks over answers for many contents.
+//! Walks over the results for many contents.
 
-/// Makes a walk over a list from both ends, and one by reference, of what its `get` answers.
+/// Makes a walk over a list from both ends, and one by reference, of what its `get` returns.
 macro_rules! walks {
     ($(#[$doc:meta])* $walk:ident over $list:ident gives $item:ty) => {
         $(#[$doc])*

@@ -196,7 +196,7 @@ impl Error for UnknownName {}
 impl FromStr for Name {
     type Err = UnknownName;
 
-    /// The name that [`Name::as_str`] answers this word for.
+    /// The name for which [`Name::as_str`] returns this word.
     fn from_str(word: &str) -> Result<Name, UnknownName> {
         let mut names = Name::ALL.iter().copied();
         names.find(|name| name.as_str() == word).ok_or(UnknownName)
