@@ -13,10 +13,10 @@
  *   nothing else that the call is given.
  * - A document that is not UTF-8 is refused whole. A copy of the same length with a NUL for each wrong byte is read, and places in it are those of the
  *   document: CommonMark reads NUL as U+FFFD.
- * - No pointer is kept after a call, and nothing has to be freed. There is no state: calls on several threads do not meet.
+ * - No pointer is kept after a call, and nothing has to be freed. There is no state, so several threads may call at once.
  * - Memory comes from malloc, and is freed before the call ends. If malloc fails, the call returns MARKDOWN_INLINE_NO_MEMORY.
  * - The stack that a call takes does not grow with its input.
- * - Words that are `reserved` have to be 0, since a later version may give bits of them a meaning. This one does not look at them.
+ * - Fields named `reserved` have to be 0, since a later version may give them a meaning. This version does not look at them.
  */
 #ifndef MARKDOWN_INLINE_H
 #define MARKDOWN_INLINE_H
@@ -31,7 +31,7 @@ extern "C" {
 /* The version that this header describes; the library's is that of markdown_inline_version(). */
 #define MARKDOWN_INLINE_VERSION 1
 
-/* What stands before each declaration of a function; define it beforehand to have another there. */
+/* What stands before each declaration of a function; define it beforehand to change that. */
 #ifndef MARKDOWN_INLINE_API
 #ifdef __GNUC__
 #define MARKDOWN_INLINE_API __attribute__((visibility("default")))
@@ -40,8 +40,8 @@ extern "C" {
 #endif
 #endif
 
-/* Statuses, with what each says. A status is that of the first thing that is wrong, in the order 2, 9, 3, 7, 4, 8, but where a call says another;
- * memory may be refused at any time. But for DONE and TOO_SMALL nothing is written, except by calls for many, which have an outcome. */
+/* Statuses, with what each says. A call returns that of the first thing that is wrong, in the order 2, 9, 3, 7, 4, 8 unless the call says otherwise;
+ * NO_MEMORY may come at any time. With a status other than DONE and TOO_SMALL nothing is written, except by calls for many, which have an outcome. */
 #define MARKDOWN_INLINE_EACH_STATUS(X) \
     X(DONE, 0, "done") \
     X(UNKNOWN_OPTION, 2, "unknown option") \
@@ -275,13 +275,13 @@ enum {
 /* Whether something begins or ends. */
 enum { MARKDOWN_INLINE_ENTER = 0, MARKDOWN_INLINE_EXIT = 1 };
 
-/* How what an event names is to be read again: not at all, as a string, or as a text. */
+/* Whether what an event names is read a second time: not at all, as a string, or as a text. */
 enum { MARKDOWN_INLINE_UNLINKED = 0, MARKDOWN_INLINE_LINKED_STRING = 1, MARKDOWN_INLINE_LINKED_TEXT = 2 };
 
 /* What HTML may hold, each by a bit: raw HTML as it stands, and not as text; links that lead wherever they say, and not to listed schemes alone. */
 enum { MARKDOWN_INLINE_HTML_RAW = 0x1, MARKDOWN_INLINE_HTML_ANY_LINK = 0x2 };
 
-/* The number of no event, and of no content, no string and no definition that is to blame. */
+/* The number of no event, and of no content, no string and no definition that is refused. */
 #define MARKDOWN_INLINE_NONE SIZE_MAX
 
 /* The number of no definition, in a short event. */
@@ -326,34 +326,34 @@ typedef struct markdown_inline_input {
     uint32_t options, reserved;
 } markdown_inline_input;
 
-/* The beginning or the end of something. An event with none inside it stands for the text between its Enter and its Exit; but text that is read
- * otherwise than it is written has to be made of it:
+/* The beginning or the end of something. An event with none inside it stands for the text between its Enter and its Exit. Some texts have to be made
+ * of what is written:
  *
- * - The text of a code or math span is that of its CodeTextData or MathTextData, with a space for each LineEnding. Where it then begins and ends with a
- *   space, and is not of spaces alone, one is taken off each end.
- * - The texts of titles and destinations, in which escapes and character references are resolved, are found by markdown_inline_strings.
- * - Quotes are text. To make typographic ones of them, a caller pairs them by what stands beside them, as emphasis is paired: no event says which pair.
+ * - The text of a code or math span is that of its CodeTextData or MathTextData, with a space for each LineEnding. If it then begins and ends with a
+ *   space, and is not all spaces, one is taken off each end.
+ * - markdown_inline_strings finds the texts of titles and destinations, in which escapes and character references are resolved.
+ * - Quotes are text. No event says which of them pair: to make typographic quotes, a caller pairs them by what stands beside them, as emphasis is paired.
  *
- * `vs` is how many columns of the tab at `index` come before the place. `previous` and `next` are the numbers of the events before and after on a
- * chain of what is read again, or MARKDOWN_INLINE_NONE. */
+ * `vs` is how many columns of the tab at `index` come before the place. `previous` and `next` are the numbers of the events before and after on the
+ * chain, or MARKDOWN_INLINE_NONE. */
 typedef struct markdown_inline_event {
     uint8_t kind, name, link;
     size_t line, column, index, vs;
     size_t previous, next;
 } markdown_inline_event;
 
-/* An event in 16 bytes, without its line, its column and the numbers of its chain. Of an event where a link or an image begins that refers to a definition,
- * `definition` is the number of that among the definitions of the input; where a footnote call begins, it is the number of the footnote among those of
- * the input. Of several with one identifier the first counts. At all other events it is MARKDOWN_INLINE_NO_DEFINITION, which also stands for higher
- * numbers. `vs` is 255 where it would be more. */
+/* An event in 16 bytes, without its line, its column and the numbers of its chain. If the event is the Enter of a link or an image that refers to a
+ * definition, `definition` is the number of that definition in the input; if it is the Enter of a footnote call, that of the footnote in the input. Of
+ * several with one identifier the first counts. For all other events, and for numbers that do not fit, it is MARKDOWN_INLINE_NO_DEFINITION. `vs` is 255
+ * at most. */
 typedef struct markdown_inline_short_event {
     uint8_t kind, name, link, vs;
     uint32_t definition;
     size_t index;
 } markdown_inline_short_event;
 
-/* A leaf: an event with no other inside it, from where it begins to where it ends, and what stands there. Its bytes begin at `start`, or at the byte
- * behind where `start_vs` is above 0; `before` and `after` count virtual spaces of tabs on either side of them. */
+/* A leaf: an event with no other inside it, from where it begins to where it ends, and what stands there. Its bytes begin at `start`, or one byte behind
+ * if `start_vs` is above 0; `before` and `after` count the columns of tabs that stand before and behind the bytes. */
 typedef struct markdown_inline_leaf {
     uint8_t name;
     size_t start_line, start_column, start, start_vs;
@@ -362,22 +362,21 @@ typedef struct markdown_inline_leaf {
 } markdown_inline_leaf;
 
 /* Where a definition leads: the ranges say where among the labels its destination and its title stand, with escapes and character references
- * resolved. `has_title` is 0 where it has no title; then `title` is not looked at. */
+ * resolved. `has_title` is 0 if it has no title; then `title` is not looked at. */
 typedef struct markdown_inline_target {
     markdown_inline_range destination, title;
     uint32_t has_title, reserved;
 } markdown_inline_target;
 
-/* One of many contents of a document: the numbers of its pieces among those of the input. `first_of_item` is 0 where it is not the first of a list
- * item. Contents come in any order; one may come twice, and one without pieces or bytes has no events. Pieces that belong to no content are not looked
- * at. */
+/* One of many contents of a document: the numbers of its pieces among those of the input. `first_of_item` is 0 unless it is the first of a list item.
+ * Contents come in any order; one may come twice, and one without pieces or bytes has no events. Pieces that belong to no content are not looked at. */
 typedef struct markdown_inline_content {
     markdown_inline_range pieces;
     uint32_t first_of_item, reserved;
 } markdown_inline_content;
 
-/* How far a call for many comes: how many of the first contents or strings are written, how many elements all have that are read, and the number of what is
- * to blame, or MARKDOWN_INLINE_NONE. */
+/* How far a call for many comes: how many contents or strings are written, from the first on; how many elements those have that are read; and the number of
+ * what is refused, or MARKDOWN_INLINE_NONE. */
 typedef struct markdown_inline_outcome {
     size_t done, count, blamed;
 } markdown_inline_outcome;
@@ -394,22 +393,22 @@ MARKDOWN_INLINE_API uint32_t markdown_inline_version(void);
 /* Whether the pieces are a content of the document: DONE, or TOO_LONG, NOT_UTF8, NO_CONTENT or NO_MEMORY. */
 MARKDOWN_INLINE_API uint32_t markdown_inline_is_content(const uint8_t *bytes, size_t bytes_len, const markdown_inline_piece *pieces, size_t pieces_len);
 
-/* Whether the pieces are a text of the document, so a content without a blank line: DONE, or the statuses above, or BLANK_LINE. */
+/* Whether the pieces are a text of the document, which is a content without a blank line: DONE, or the statuses above, or BLANK_LINE. */
 MARKDOWN_INLINE_API uint32_t markdown_inline_is_text(const uint8_t *bytes, size_t bytes_len, const markdown_inline_piece *pieces, size_t pieces_len);
 
 /* Finds the events of the input's pieces as a string: of escapes, character references and data. Each call tests the whole document and passes all
- * that stands before the pieces, so a call for each of many pieces of one document takes time in proportion to its square; such a piece can be handed
- * over as a document of its own. Labels and definitions are not looked at. DONE: the events stand at the front of the array, and `*count` is how many
- * they are. TOO_SMALL: `*count` is how many they are, and the array is as before; call again with room for them. Else nothing is written. */
+ * that stands before the pieces, so a call for each string of a document takes quadratic time: hand over a string as a document of its own. Labels and
+ * definitions are not looked at. DONE: the events stand at the front of the array, and `*count` is how many they are. TOO_SMALL: `*count` is how many
+ * they are, and the array is as before; call again with room for them. Otherwise nothing is written. */
 MARKDOWN_INLINE_API uint32_t markdown_inline_string(const markdown_inline_input *input, markdown_inline_event *events, size_t events_len, size_t *count);
 
 /* Finds the events of the input's pieces as a text: of the inside of a paragraph, a heading or a table's cell. Each call tests the whole document,
- * passes all that stands before the pieces, and puts the labels in order, so a call for each paragraph of one document takes time in proportion to
- * its square: for many contents call markdown_inline_texts. The rest is as above. */
+ * passes all that stands before the pieces, and sorts the labels, so a call for each paragraph of a document takes quadratic time: for many contents
+ * call markdown_inline_texts. The rest is as above. */
 MARKDOWN_INLINE_API uint32_t markdown_inline_text(const markdown_inline_input *input, markdown_inline_event *events, size_t events_len, size_t *count);
 
 /* Finds the leaves of the input's pieces as a text, in order: together they cover the pieces, each code once. A call costs what that for events does:
- * for many contents call markdown_inline_texts. The rest is as of events. */
+ * for many contents call markdown_inline_texts. The rest is as for events. */
 MARKDOWN_INLINE_API uint32_t markdown_inline_leaves(const markdown_inline_input *input, markdown_inline_leaf *leaves, size_t leaves_len, size_t *count);
 
 /* Finds the identifier of a label, as labels are compared: its words joined by one space and case folded, in UTF-8. DONE: it stands at the front of
@@ -419,68 +418,69 @@ MARKDOWN_INLINE_API uint32_t markdown_inline_identifier(const uint8_t *label, si
 /* Finds the text that a character reference stands for, in UTF-8. The bytes are the whole reference, with its `&` and its `;`. The options are those of
  * an input: MARKDOWN_INLINE_OPTION_HTML_REFERENCES and MARKDOWN_INLINE_OPTION_STANDARD_RULES say that each name of HTML is known, and the latter says
  * too that a number stands for a control or a noncharacter; the other bits change nothing. DONE: the text stands at the front of the array, and
- * `*count` is how many bytes it has. NO_REFERENCE: they are none, or its name is not known. UNKNOWN_OPTION, TOO_SMALL and NO_MEMORY are as above. */
+ * `*count` is how many bytes it has. NO_REFERENCE: the bytes are no reference, or its name is not known. UNKNOWN_OPTION, TOO_SMALL and NO_MEMORY are as above. */
 MARKDOWN_INLINE_API uint32_t markdown_inline_reference(uint32_t options, const uint8_t *reference, size_t reference_len, uint8_t *text, size_t text_len, size_t *count);
 
-/* Calls for many contents or strings read one after another, and write what they find in each at the front of an array, one behind another; at the front of
- * `ends` they write for each how many elements end with it. As many of the first are written as have room whole, with an end each: nothing else of the two
- * arrays is written. The outcome is written with each status, and `done` always says how many these are.
+/* Calls for many contents or strings read one after another. They write what they find one behind another, at the front of an array; and for each, at the
+ * front of `ends`, where in that array it ends. They write from the first on, as long as there is room for all of one and for its end, and nothing else of
+ * the two arrays. The outcome is written with each status, and `done` says how many are written.
  * DONE: all are read and written. `count` is how many elements they have.
- * TOO_SMALL: all are read, and there is not room for all. `count` is how many elements they have. A call for those from number `done` on wants room for
- *     the elements that are missing: then none is read more than twice.
+ * TOO_SMALL: all are read, and there is not room for all. `count` is how many elements they have. To go on, call for those from number `done` on, with room
+ *     for the elements that are missing: then none is read more than twice.
  * NO_CONTENT, BLANK_LINE, REFERENCES, NO_STRING: `blamed` is the number of the first that is refused. Those before it are read, and `count` is how many
  *     elements they have: so a caller can go on behind it.
- * NO_MEMORY: some of the first are read, and `count` is how many elements they have.
- * DEFINITION: `blamed` is the number of the definition that is refused, where footnotes are counted on behind the definitions. Nothing is read.
+ * NO_MEMORY: some are read, from the first on, and `count` is how many elements they have.
+ * DEFINITION: `blamed` is the number of the definition that is refused; footnotes are counted on behind the definitions. Nothing is read.
  * UNKNOWN_OPTION, TOO_LONG, NOT_UTF8: nothing is read. */
 
-/* Finds the events of many contents of a document as texts, which is prepared once: each content costs what it costs by itself, wherever it stands.
- * The input has the pieces of all contents; whether a text is the first of a list item is said of each content, and not by the options. Numbers of events
+/* Finds the events of many contents of a document, read as texts. The document is prepared once, so each content costs about what it costs by itself.
+ * The input has the pieces of all contents. Each content, and not the options, says whether it is the first of a list item. Numbers of events
  * count within a content. Of what is wrong the order is 2, 9, 3, 8; then 7 or 4 for the first content that is no text.
  * Threads may share the contents of one input: each thread calls with some of them, and with arrays of its own. Each call prepares the document for itself. */
 MARKDOWN_INLINE_API uint32_t markdown_inline_texts(const markdown_inline_input *input, const markdown_inline_content *contents, size_t contents_len,
     markdown_inline_event *events, size_t events_len, size_t *ends, size_t ends_len, markdown_inline_outcome *outcome);
 
-/* Finds the same events in 16 bytes each, with the definitions that links, images and footnote calls refer to: all that a renderer needs that walks them. */
+/* Finds the same events in 16 bytes each, with the definitions that links, images and footnote calls refer to: which is all that a renderer needs. */
 MARKDOWN_INLINE_API uint32_t markdown_inline_short_texts(const markdown_inline_input *input, const markdown_inline_content *contents, size_t contents_len,
     markdown_inline_short_event *events, size_t events_len, size_t *ends, size_t ends_len, markdown_inline_outcome *outcome);
 
-/* Writes the HTML of the input's pieces as a text, in UTF-8. Each call tests the whole document, passes all that stands before the pieces, and puts
- * the definitions in order, so a call for each paragraph of one document takes time in proportion to its square: for many contents call
- * markdown_inline_htmls, which numbers footnotes through all of them. The target of each number says where the definition of that number leads. `options` has bits MARKDOWN_INLINE_HTML_RAW and MARKDOWN_INLINE_HTML_ANY_LINK; without them nothing runs that
- * the text brings. Each call numbers footnotes from 1 on, and line endings stay.
+/* Writes the HTML of the input's pieces as a text, in UTF-8. Each call tests the whole document, passes all that stands before the pieces, and sorts the
+ * definitions, so a call for each paragraph of a document takes quadratic time: for many contents call markdown_inline_htmls, which numbers footnotes
+ * through all of them. The target of each number says where the definition of that number leads. `options` has the bits MARKDOWN_INLINE_HTML_RAW and
+ * MARKDOWN_INLINE_HTML_ANY_LINK; without them no text becomes markup, and no link leads to a script. Each call numbers footnotes from 1 on, and line
+ * endings stay.
  * A definition brings the bytes of its destination and of its title, as its target has them, to each link and image that refers to it; a link or an
  * image with a resource is brought nothing. `limit` is how many bytes definitions may bring, and 0 is no limit. Without one, n references to a
  * definition of n bytes write n * n bytes; for text that is not trusted take the larger of 100000 and the document's length, as cmark does.
  * REFERENCES: definitions bring more than the limit. DONE: the HTML stands at the front of the array, and `*count` is how
- * many bytes it has. DEFINITION: a label or a target is no text of the labels, or there is not one target for each definition. The rest is as of
+ * many bytes it has. DEFINITION: a label or a target is no text of the labels, or there is not one target for each definition. The rest is as for
  * events. */
 MARKDOWN_INLINE_API uint32_t markdown_inline_html(const markdown_inline_input *input, const markdown_inline_target *targets, size_t targets_len, uint32_t options,
     size_t limit, uint8_t *html, size_t html_len, size_t *count);
 
-/* Writes the HTML of many contents of a document as texts, which is prepared once: each content costs what it costs by itself, wherever it stands.
+/* Writes the HTML of many contents of a document, read as texts. The document is prepared once, so each content costs about what it costs by itself.
  * Contents are those of markdown_inline_texts, and targets and `options` those of markdown_inline_html. Footnotes are numbered through all contents,
  * and a second call of a footnote has another id than the first. Ids are made of labels, so two footnotes may share one: the second call of `a` has the id
  * of the first call of `a-2`, and `a b` has that of `a%20b`.
  * `limit` is that of markdown_inline_html, for what definitions bring to all contents together.
- * The HTML is written as calls for many write. Since footnotes are numbered through the contents of one call, a call after TOO_SMALL is for all of them where
- * footnotes are called, with room for `count` bytes. Of what is wrong the order is 2, 9, 3, 8; then 7, 4 or 11 for the first content that is no text, or
- * to which with those before it definitions bring more than the limit. With 8 the definition is refused whose label or target is no text of the
- * labels; where there is not one target for each definition, none is to blame. */
+ * The HTML is written as calls for many write. If footnotes are called, a call after TOO_SMALL is for all contents again, with room for `count` bytes, since
+ * footnotes are numbered through the contents of one call. Of what is wrong the order is 2, 9, 3, 8; then 7, 4 or 11 for the first content that is no
+ * text, or at which definitions have brought more than the limit. With 8 the definition is refused whose label or target is no text of the labels; if there
+ * is not one target for each definition, `blamed` is MARKDOWN_INLINE_NONE. */
 MARKDOWN_INLINE_API uint32_t markdown_inline_htmls(const markdown_inline_input *input, const markdown_inline_target *targets, size_t targets_len,
     const markdown_inline_content *contents, size_t contents_len, uint32_t options, size_t limit, uint8_t *html, size_t html_len, size_t *ends,
     size_t ends_len, markdown_inline_outcome *outcome);
 
 /* Finds the texts of strings: of a link's destination or title, of a definition's, of an info string. Escaped punctuation stands in place of its escape, and
  * in place of each character reference its text (CommonMark 2.4 and 2.5); all other bytes stay, line endings and NUL among them. The options are those of
- * an input, and say what markdown_inline_reference says by them: so take those by which the document is read.
+ * an input, and mean what they mean to markdown_inline_reference: take those by which the document is read.
  *
  * A part is a range of the bytes, in any order; a string is a range of numbers of parts, whose bytes are one text. Where a string stands in a paragraph, its
  * parts are what the events Data and LineEnding between the Enter and the Exit of ResourceDestinationString or ResourceTitleString cover: so prefixes of lines,
  * and whitespace that begins them, are no part of it. A string that stands alone is one part; an empty one may have none.
  *
  * The texts are written as calls for many write. NO_STRING: a string has a part that is not given, or one that is no text of the bytes. By the names that are
- * known without an option, no text is longer than its parts, and by all names of HTML it is longer by a fifth at most; that is tested and not proved. */
+ * known without an option, no text is longer than its parts; by all names of HTML it is longer by a fifth at most. That is tested and not proved. */
 MARKDOWN_INLINE_API uint32_t markdown_inline_strings(uint32_t options, const uint8_t *bytes, size_t bytes_len, const markdown_inline_range *parts, size_t parts_len,
     const markdown_inline_range *strings, size_t strings_len, uint8_t *texts, size_t texts_len, size_t *ends, size_t ends_len, markdown_inline_outcome *outcome);
 
