@@ -1,0 +1,125 @@
+// The calls of the library over one instance.
+import { bitsOf, contentsOf, isInBytes, labelsOf, limitOf, piecesOf, shownOf, stringsOf, targetsOf, textOf, usualLimit } from './arguments.js';
+import { MarkdownInlineError, NO_MEMORY } from './errors.js';
+import { Instance } from './instance.js';
+import { linksOf } from './links.js';
+import { EVENT, Events, LEAF, Leaves, Many, SHORT_EVENT, ShortEvents } from './rows.js';
+
+// Where the rows have places, and their columns.
+const PLACES = new Map([[Events, [[24, 16]]], [ShortEvents, [[8]]], [Leaves, [[24, 16], [56, 48]]]]);
+
+/** What is asked for: a document, the numbers of its pieces or null, and what the options say. */
+const askedOf = (document, options, pieces, { labels, targets }) => ({
+  document: textOf(document), pieces, isInBytes: isInBytes(options), bits: bitsOf(options), labels, targets, footnotes: labelsOf(options?.footnotes, 'footnotes'),
+});
+
+const withoutTargets = (options) => ({ labels: labelsOf(options?.definitions, 'definitions'), targets: null });
+
+/** What each string of bytes in memory says, by where they end. */
+const parted = (on, at, ends) => Array.from(ends, (end, number) => on.decoded(at + (number === 0 ? 0 : ends[number - 1]), at + end));
+
+/** The pieces of a document in memory. */
+function putPieces(on, text, asked) {
+  const pieces = asked.pieces ?? [0, 0, text.length, 0], many = pieces.length / 4, at = on.putNumbers(pieces);
+  if (asked.pieces && !asked.isInBytes) for (const place of [0, 16]) on.toBytes(text, at + place, many, 32);
+  return [at, many];
+}
+
+/** The struct of an input in memory, and the targets beside it. */
+function putInput(on, asked) {
+  const text = on.put(asked.document), pieces = putPieces(on, text, asked), targets = asked.targets ?? [];
+  const labels = on.putJoined([...asked.labels, ...asked.footnotes, ...targets.flatMap(({ destination, title }) => [destination, title ?? ''])]);
+  const many = asked.labels.length, ranges = on.putNumbers(labels.ranges), behind = 2 * (many + asked.footnotes.length);
+  const input = on.putNumbers([text.at, text.length, ...pieces, labels.at, labels.length, ranges, many, ranges + 16 * many, asked.footnotes.length, asked.bits]);
+  const rows = targets.flatMap(({ title }, at) => [...labels.ranges.slice(behind + 4 * at, behind + 4 * at + 4), title === null ? 0 : 1]);
+  return { text, input, targets: [on.putNumbers(rows), targets.length] };
+}
+
+/** About how many bytes the contents have, which tells how much room a first call takes. */
+function covered(pieces, length) {
+  let sum = 0;
+  for (let at = 0; at < (pieces?.length ?? 0); at += 4) sum += Math.max(0, pieces[at + 2] - pieces[at]);
+  return pieces === null ? length : Math.min(length, sum);
+}
+
+/** The calls over an instance of their own. `maximum` is how many bytes its memory may have. */
+export function callsOf(module, { maximum = 0xffff0000 } = {}) {
+  const on = new Instance(module, maximum);
+
+  // A call for the rows of one content.
+  const rowsOf = (name, kind, size, hasLabels) => (document, options) => {
+    const asked = askedOf(document, options, piecesOf(options), hasLabels ? withoutTargets(options) : { labels: [], targets: null });
+    return on.within(() => {
+      const { text, input } = putInput(on, asked);
+      const [at, many] = on.filled(size, Math.floor(covered(asked.pieces, text.length) / 4) + 64, (...lent) => on.call(name, [input, ...lent]));
+      return new kind(on.copied(text, at, many, size, PLACES.get(kind)), Number(text.isWide), 0, many, asked.document);
+    });
+  };
+
+  // A call for the rows of many contents.
+  const rowsOfMany = (name, kind, size) => (document, contents, options) => {
+    const { pieces, rows, many } = contentsOf(contents), asked = askedOf(document, options, pieces, withoutTargets(options));
+    return on.within(() => {
+      const { text, input } = putInput(on, asked), listed = on.putNumbers(rows);
+      const [at, count, ends] = on.filledMany(size, Math.floor(covered(pieces, text.length) / 4) + 64, many, (...lent) => on.call(name, [input, listed, many, ...lent]));
+      return new Many(kind, on.copied(text, at, count, size, PLACES.get(kind)), Number(text.isWide), ends);
+    });
+  };
+
+  const shortTexts = rowsOfMany('short_texts', ShortEvents, SHORT_EVENT);
+
+  const html = (document, options) => {
+    const asked = askedOf(document, options, piecesOf(options), targetsOf(options?.definitions)), shown = shownOf(options), limit = limitOf(options);
+    return on.within(() => {
+      const { text, input, targets } = putInput(on, asked);
+      const [at, many] = on.filled(1, 2 * covered(asked.pieces, text.length) + 64, (...lent) => on.call('html', [input, ...targets, shown, limit ?? usualLimit(text.length), ...lent]));
+      return on.decoded(at, at + many);
+    });
+  };
+
+  const htmls = (document, contents, options) => {
+    const { pieces, rows, many } = contentsOf(contents), asked = askedOf(document, options, pieces, targetsOf(options?.definitions));
+    const shown = shownOf(options), limit = limitOf(options);
+    return on.within(() => {
+      const { text, input, targets } = putInput(on, asked), listed = on.putNumbers(rows);
+      const [at, , ends] = on.filledMany(1, 2 * covered(pieces, text.length) + 64, many,
+        (...lent) => on.call('htmls', [input, ...targets, listed, many, shown, limit ?? usualLimit(text.length), ...lent]));
+      return parted(on, at, ends);
+    });
+  };
+
+  const strings = (document, given, options) => {
+    const { parts, rows, many } = stringsOf(given), read = textOf(document), bits = bitsOf(options), inBytes = isInBytes(options);
+    return on.within(() => {
+      const text = on.put(read), partsAt = on.putNumbers(parts), listed = on.putNumbers(rows);
+      if (!inBytes) on.toBytes(text, partsAt, parts.length, 8);
+      const [at, , ends] = on.filledMany(1, text.length + 64, many, (...lent) => on.call('strings', [bits, text.at, text.length, partsAt, parts.length / 2, listed, many, ...lent]));
+      return parted(on, at, ends);
+    });
+  };
+
+  const decodedBy = (name, bits, given, what) => {
+    const read = textOf(given, what);
+    return on.within(() => {
+      const text = on.put(read), [at, many] = on.filled(1, 2 * text.length + 16, (...lent) => on.call(name, [...bits, text.at, text.length, ...lent]));
+      return on.decoded(at, at + many);
+    });
+  };
+
+  const holds = (name) => (document, options) => {
+    const asked = askedOf(document, options, piecesOf(options), { labels: [], targets: null });
+    return on.within(() => {
+      const text = on.put(asked.document), status = on.call(name, [text.at, text.length, ...putPieces(on, text, asked)]);
+      if (status === NO_MEMORY) throw new MarkdownInlineError(status);
+      return status === 0;
+    });
+  };
+
+  return {
+    text: rowsOf('text', Events, EVENT, true), string: rowsOf('string', Events, EVENT, false), leaves: rowsOf('leaves', Leaves, LEAF, true),
+    texts: rowsOfMany('texts', Events, EVENT), shortTexts, html, htmls, strings, isText: holds('is_text'), isContent: holds('is_content'),
+    identifier: (label) => decodedBy('identifier', [], label, 'a label'),
+    reference: (reference, options) => decodedBy('reference', [bitsOf(options)], reference, 'a reference'),
+    links: (document, options) => linksOf({ shortTexts, strings }, document, options),
+  };
+}

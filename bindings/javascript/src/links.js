@@ -1,0 +1,84 @@
+// The links, images, autolinks and literals of a document, and where each leads.
+import { bitsOf, encoder, targetsOf, textOf } from './arguments.js';
+import { OPTIONS } from './names.js';
+
+const KINDS = {
+  Link: 'link', Image: 'image', Autolink: 'autolink', GfmAutolinkLiteralEmail: 'literal', GfmAutolinkLiteralMailto: 'literal', GfmAutolinkLiteralProtocol: 'literal',
+  GfmAutolinkLiteralWww: 'literal', GfmAutolinkLiteralXmpp: 'literal',
+};
+// What stands before an address where it is no URL yet.
+const SCHEMES = {
+  AutolinkEmail: 'mailto:', AutolinkProtocol: '', GfmAutolinkLiteralEmail: 'mailto:', GfmAutolinkLiteralMailto: '', GfmAutolinkLiteralProtocol: '',
+  GfmAutolinkLiteralWww: 'http://', GfmAutolinkLiteralXmpp: '',
+};
+const STRINGS = { ResourceDestinationString: 'destination', ResourceTitleString: 'title' };
+const decoder = new TextDecoder('utf-8', { ignoreBOM: true });
+const asText = (given) => typeof given === 'string' ? given : decoder.decode(given);
+
+/** What begins in a content, where each stands, and the parts of the strings that say where it leads. A string belongs to the field of a link. */
+function foundIn(events, content, found, strings) {
+  const opened = [];
+  let parts = null, begun = 0;
+  for (const { enter, name, offset, byte, definition } of events) {
+    if (enter && name in KINDS) {
+      opened.push({ kind: KINDS[name], content, offset, byte, definition, destination: '', title: null });
+      found.push(opened.at(-1));
+    }
+    const one = opened.at(-1);
+    if (name in SCHEMES) {
+      if (enter) one.from = offset;
+      else one.address = [SCHEMES[name], one.from, offset];
+    } else if (name in STRINGS) {
+      parts = enter ? [] : null;
+      if (enter) strings.push({ one, field: STRINGS[name], parts });
+    } else if (name === 'ResourceTitle') {
+      one.title = '';
+    } else if (parts && (name === 'Data' || name === 'LineEnding')) {
+      if (enter) begun = byte;
+      else parts.push([begun, byte]);
+    }
+    if (!enter && name in KINDS) Object.assign(opened.pop(), { endOffset: offset, endByte: byte });
+  }
+}
+
+/** The numbers of the first unit of each line of a document. */
+function lineStarts(document) {
+  const starts = [0], isAt = typeof document === 'string' ? (at) => document.charCodeAt(at) : (at) => document[at];
+  for (let at = 0; at < document.length; at++) {
+    const unit = isAt(at);
+    if (unit === 10 || (unit === 13 && isAt(at + 1) !== 10)) starts.push(at + 1);
+  }
+  return starts;
+}
+
+/** How many of the numbers are at most this one. */
+function countUpTo(numbers, most) {
+  let low = 0, high = numbers.length;
+  while (low < high) {
+    const middle = (low + high) >> 1;
+    if (numbers[middle] <= most) low = middle + 1;
+    else high = middle;
+  }
+  return low;
+}
+
+/** All that leads somewhere, in the order in which it begins in its content. */
+export function linksOf({ shortTexts, strings }, document, options) {
+  const { labels, targets } = targetsOf(options?.definitions), bits = bitsOf(options), read = textOf(document);
+  const contents = options?.contents ?? [{ pieces: options?.pieces ?? [[0, read.length]], firstOfItem: (bits & OPTIONS.firstOfItem) !== 0 }];
+  const isWhole = !options?.contents && !options?.pieces;
+  const asked = { bits: (bits & ~OPTIONS.firstOfItem) >>> 0, definitions: labels, footnotes: options?.footnotes, offsets: isWhole ? undefined : options?.offsets };
+  const found = [], wanted = [];
+  let number = 0;
+  for (const events of shortTexts(read, contents, asked)) foundIn(events, number++, found, wanted);
+  strings(read, wanted.map(({ parts }) => parts), { bits, offsets: 'bytes' }).forEach((it, at) => { wanted[at].one[wanted[at].field] = it; });
+  const starts = lineStarts(read), byteStarts = typeof read === 'string' ? lineStarts(encoder.encode(read)) : starts;
+  return found.map(({ kind, content, offset, endOffset, byte, endByte, definition, destination, title, address }) => {
+    const line = countUpTo(starts, offset), target = definition === null ? null : targets[definition];
+    return {
+      kind, line, column: offset - starts[line - 1] + 1, offset, endOffset, byteColumn: byte - byteStarts[line - 1] + 1, byte, endByte,
+      destination: target ? asText(target.destination) : address ? address[0] + asText(read.slice(address[1], address[2])) : destination,
+      title: target ? target.title === null ? null : asText(target.title) : title, definition, content,
+    };
+  });
+}

@@ -1,0 +1,222 @@
+// What the calls return, and what they refuse; the examples of README.md and of CommonMark's specification; hostile texts, little memory, a used-up stack.
+import assert from 'node:assert/strict';
+import { spawnSync } from 'node:child_process';
+import { readFileSync } from 'node:fs';
+import test from 'node:test';
+import { fileURLToPath } from 'node:url';
+import * as markdownInline from '../../out/javascript/index.js';
+
+const { COMMONMARK, GFM, MarkdownInlineError, create, html, htmls, identifier, isContent, isText, leaves, links, reference, shortTexts, string, strings, text, texts } = markdownInline;
+const beside = (name) => fileURLToPath(new URL(name, import.meta.url));
+const has = (command) => spawnSync(command, ['--version']).status === 0;
+const bytesOf = (given) => new TextEncoder().encode(given);
+const WRONG = Uint8Array.of(0xff);
+
+/** Whether a call is refused with a code, and names what is to blame. */
+function refuses(code, call, at = null) {
+  assert.throws(call, (error) => error instanceof MarkdownInlineError && error.code === code && error.at === at && error.message !== '');
+}
+
+test('examples of README.md', async () => {
+  // An example is an indented block. A line of it may say behind `// =>` what it returns.
+  const page = readFileSync(beside('../README.md'), 'utf8'), blocks = page.split(/\n\n(?! {4})/).map((it) => it.replace(/^(?! {4}).*\n?/gm, '').replace(/^ {4}/gm, ''));
+  const shown = blocks.filter((it) => it.includes('// =>'));
+  assert.ok(shown.length >= 5);
+  for (const block of shown) {
+    const names = Object.keys(markdownInline), code = block.replace(/^import .*$/gm, '').replace(/^(.*?);? *\/\/ => (.*)$/gm, (_, one, wanted) => `deepEqual(${one}, ${wanted});`);
+    await new Function('deepEqual', ...names, `return (async () => {${code}})()`)(assert.deepEqual, ...names.map((it) => markdownInline[it]));
+  }
+});
+
+test('examples of CommonMark', { skip: !has('python3') }, () => {
+  const said = spawnSync('python3', [beside('rows.py')], { encoding: 'utf8' });
+  assert.equal(said.status, 0, said.stderr);
+  const rows = said.stdout.trimEnd().split('\n').map((it) => JSON.parse(it));
+  assert.ok(rows.length >= 400);
+  for (const [words, given, wanted] of rows) {
+    const definitions = new Map();
+    let target = null;
+    for (const [, name, value] of words.map((it) => /^(define|to|title)=(.*)$/s.exec(it)).filter((it) => it)) {
+      // Of several definitions of a label the first counts, and a Map keeps the last.
+      if (name === 'define') target = { destination: '', title: null };
+      if (name === 'define' && !definitions.has(value)) definitions.set(value, target);
+      if (name !== 'define') target[name === 'to' ? 'destination' : 'title'] = value;
+    }
+    assert.equal(html(given, { definitions, rawHtml: true, anyLink: true }), wanted, given);
+    assert.equal(html(bytesOf(given), { definitions, rawHtml: true, anyLink: true }), wanted, given);
+  }
+});
+
+test('types', { skip: !has('tsc') }, () => {
+  const said = spawnSync('tsc', ['--strict', '--noEmit', '--target', 'es2022', '--module', 'nodenext', '--moduleResolution', 'nodenext', beside('types.mts')], { encoding: 'utf8' });
+  assert.equal(said.status, 0, said.stdout);
+});
+
+test('each error comes', () => {
+  for (const call of [(options) => text('a', options), (options) => string('a', options), (options) => reference('&amp;', options)]) refuses('UNKNOWN_OPTION', () => call({ bits: 2 ** 31 }));
+  for (const call of [text, string, leaves, html, identifier, links]) refuses('NOT_UTF8', () => call(WRONG));
+  for (const call of [text, leaves, html, links]) for (const given of ['a\n\nb', 'a\n']) refuses('BLANK_LINE', () => call(given), call === links ? 0 : null);
+  for (const pieces of [[[0, 9]], [[1, 0]], [[0, 2 ** 40]]]) for (const call of [text, string, leaves, html]) refuses('NO_CONTENT', () => call('a', { pieces }));
+  for (const options of [{ definitions: [WRONG] }, { footnotes: [WRONG] }]) refuses('DEFINITION', () => text('a', options));
+  refuses('DEFINITION', () => html('a', { definitions: { b: ['c', WRONG] } }));
+  refuses('DEFINITION', () => htmls('a', [[0, 1]], { definitions: { a: 'b', c: WRONG } }), 1);
+  refuses('NO_CONTENT', () => texts('a', [[0, 1], [0, 2]]), 1);
+  refuses('BLANK_LINE', () => shortTexts('a\n', [[0, 0], [0, 1], [0, 2]]), 2);
+  refuses('NO_STRING', () => strings('a', [[[0, 1]], [[0, 2]]]), 1);
+  for (const given of ['&nothing;', '', ' &amp;', '&amp', WRONG]) refuses('NO_REFERENCE', () => reference(given));
+  refuses('REFERENCES', () => htmls('[a]', [[0, 3]], { definitions: { a: 'bc' }, referenceLimit: 1 }), 0);
+});
+
+test('what is no argument is named', () => {
+  for (const [error, call] of [
+    [/Uint8Array/, () => text(1)], [/Uint8Array/, () => text()], [/nonsense/, () => text('a', { nonsense: true })], [/gfm is/, () => text('a', { gfm: 1 })],
+    [/rules/, () => text('a', { rules: 'gfm' })], [/bits/, () => text('a', { bits: COMMONMARK, gfm: true })], [/bits/, () => text('a', { bits: 2 ** 32 })],
+    [/bits/, () => text('a', { bits: -1 })], [/offsets/, () => text('a', { offsets: 'lines' })], [/the start of a piece/, () => text('a', { pieces: [['0', 1]] })],
+    [/the end of a piece/, () => text('a', { pieces: [[0]] })], [/whole number/, () => text('a', { pieces: [[0, 0.5]] })], [/pieces is a list/, () => text('a', { pieces: 'a' })],
+    [/a piece/, () => text('a', { pieces: [null] })], [/contents is a list/, () => texts('a')], [/of a content/, () => texts('a', [{}])], [/firstOfItem/, () => texts('a', [{ pieces: [], firstOfItem: 1 }])],
+    [/definitions/, () => text('a', { definitions: 'b' })], [/a label/, () => text('a', { definitions: [1] })], [/definitions/, () => html('a', { definitions: ['b'] })],
+    [/a destination/, () => html('a', { definitions: { b: null } })], [/a title/, () => html('a', { definitions: { b: ['c', 1] } })], [/rawHtml/, () => html('a', { rawHtml: 'no' })],
+    [/referenceLimit/, () => html('a', { referenceLimit: 0 })], [/strings is a list/, () => strings('a', 'b')], [/a part/, () => strings('a', [[['0', 1]]])],
+  ]) assert.throws(call, (it) => (it instanceof TypeError || it instanceof RangeError) && error.test(it.message), String(error));
+});
+
+test('rows are sequences', () => {
+  const events = text('a *b*'), both = texts('a *b*', [[0, 1], [2, 5]]);
+  assert.equal(events.length, [...events].length);
+  assert.deepEqual(events.at(-1), [...events].at(-1));
+  assert.equal(events.at(events.length), undefined);
+  assert.equal(events.at(-1 - events.length), undefined);
+  assert.deepEqual([...both].map((it) => it.length), [2, 10]);
+  assert.deepEqual([...both.at(-1)].slice(0, 2).map(({ name, offset }) => [name, offset]), [['Emphasis', 2], ['EmphasisSequence', 2]]);
+  assert.equal(both.at(2), undefined);
+  assert.deepEqual([...texts('a', [])], []);
+  assert.equal(text('').length, 0);
+});
+
+test('offsets count units of UTF-16', () => {
+  const given = '> é 😀 *a\n> 漢* b', pieces = [[2, 10], [12, 16]];
+  const found = [...text(given, { pieces })].filter(({ name }) => name === 'Emphasis');
+  assert.deepEqual(found.map(({ line, column, offset, byteColumn, byte }) => [line, column, offset, byteColumn, byte]), [[1, 8, 7, 11, 10], [2, 5, 14, 7, 19]]);
+  assert.equal(given.slice(found[0].offset, found[1].offset), '*a\n> 漢*');
+  // Half of a pair is no place, and neither is what stands behind the end.
+  for (const wrong of [[[0, 1]], [[1, 2]], [[0, 3]]]) refuses('NO_CONTENT', () => text('😀', { pieces: wrong }));
+  assert.equal(text('😀', { pieces: [[0, 2]] }).length, 2);
+  assert.equal(text('😀', { pieces: [[0, 4]], offsets: 'bytes' }).length, 2);
+  refuses('NO_CONTENT', () => text('é', { pieces: [[0, 2]] }));
+  // Half of a pair that stands alone is read as U+FFFD, and is one unit.
+  assert.equal(html('\ud800 *a\udc00*'), '\ufffd <em>a\ufffd</em>');
+  assert.equal([...text('\ud800 *a*')].find(({ name }) => name === 'Emphasis').offset, 2);
+  // A mark of the order of bytes stays.
+  assert.equal(html('\ufeffa'), '\ufeffa');
+  assert.equal(html(bytesOf('\ufeffa')), '\ufeffa');
+});
+
+test('definitions are a list, a Map or an object', () => {
+  const numberOf = (definitions) => shortTexts('[A  b]', [[0, 6]], { definitions }).at(0).at(0).definition;
+  for (const definitions of [['c', 'a b'], new Set(['c', 'a b']), new Map([['c', ''], ['a b', '']]), { c: '', 'a b': '' }]) assert.equal(numberOf(definitions), 1);
+  for (const target of ['/c', ['/c'], ['/c', null], { destination: '/c' }, bytesOf('/c')]) {
+    for (const definitions of [{ 'a b': target }, new Map([['a b', target]]), new Map([[bytesOf('a b'), target]])]) assert.equal(html('[A  b]', { definitions }), '<a href="/c">A  b</a>');
+  }
+});
+
+test('an argument that is read may call too', () => {
+  const definitions = new Map(), pieces = function* () { yield [0, Number(html('*a*') === '<em>a</em>' && html('a '.repeat(1e5) + 'b').length > 0 && 3)]; };
+  assert.equal(html('*b*', { pieces: pieces(), definitions }), '<em>b</em>');
+});
+
+test('links', () => {
+  const given = 'é [a](</b c> "d") 😀 <ef:g>\n![g][G] <h@i.j> www.k.l m@n.o', found = links(given, { gfm: true, definitions: { G: ['/p', null] } });
+  assert.deepEqual(found.map(({ kind, line, column, destination, title, definition }) => [kind, line, column, destination, title, definition]), [
+    ['link', 1, 3, '/b c', 'd', null], ['autolink', 1, 22, 'ef:g', null, null], ['image', 2, 1, '/p', null, 0], ['autolink', 2, 9, 'mailto:h@i.j', null, null],
+    ['literal', 2, 17, 'http://www.k.l', null, null], ['literal', 2, 25, 'mailto:m@n.o', null, null]]);
+  assert.deepEqual(found.map(({ offset, endOffset }) => given.slice(offset, endOffset)), ['[a](</b c> "d")', '<ef:g>', '![g][G]', '<h@i.j>', 'www.k.l', 'm@n.o']);
+  const bytes = bytesOf(given), again = links(bytes, { gfm: true, definitions: { G: ['/p', null] } });
+  assert.deepEqual(again.map(({ byte, endByte, byteColumn, destination }) => [byte, endByte, byteColumn, destination]), found.map(({ byte, endByte, byteColumn, destination }) => [byte, endByte, byteColumn, destination]));
+  assert.deepEqual(again.map(({ offset, column }) => [offset, column]), found.map(({ byte, byteColumn }) => [byte, byteColumn]));
+  const parts = links('> [a](b\r\n> "c\n> d") [e](f "") [x] g', { pieces: [[2, 9], [11, 14], [16, 35]], task: true });
+  assert.deepEqual(parts.map(({ line, column, destination, title, content }) => [line, column, destination, title, content]), [[1, 3, 'b', 'c\nd', 0], [3, 7, 'f', '', 0]]);
+  assert.deepEqual(links('[a](b)\n\n[c](d)', { contents: [[8, 14], [0, 6]] }).map(({ line, destination, content }) => [line, destination, content]), [[3, 'd', 0], [1, 'b', 1]]);
+});
+
+test('the rest of the calls', () => {
+  assert.deepEqual([identifier(' A\n B '), identifier(''), identifier('\u1e9e')], ['a b', '', 'ss']);
+  assert.deepEqual(['&amp;', '&#X1f600;', '&#0;', '&check;'].map((it) => reference(it)), ['&', '\u{1f600}', '\ufffd', '✓']);
+  refuses('NO_REFERENCE', () => reference('&check;', { rules: 'crate' }));
+  assert.deepEqual([isText('a\nb'), isContent('a\n\nb'), isText('a\n\nb'), isContent(WRONG), isContent('a', { pieces: [[0, 2]] })], [true, true, false, false, false]);
+  assert.deepEqual(strings('é\\* &amp;', [[[0, 3]], [], [[4, 9]]]), ['é*', '', '&']);
+  assert.deepEqual([...leaves(bytesOf('a*é*'))].map(({ content }) => content), ['a', '*', 'é', '*'].map(bytesOf));
+  assert.deepEqual(htmls('a[^b]\n\n[^b]', [[0, 5], [7, 11]], { gfm: true, footnotes: ['b'] }).length, 2);
+  assert.equal(html('~a~ $b$', { bits: COMMONMARK | GFM }), html('~a~ $b$', { gfm: true }));
+  assert.equal(html('*a* `b`', { codeText: false }), '<em>a</em> `b`');
+});
+
+const HOSTILE = ['[', '[a](b', '![[]()', '*a_', '**a ', '<a href="', '<!--', '<?', '\\[', '[x]( ', '![', '&', '~', '`a``', 'a@b.c ', 'www.a', '😀*', 'é[', '\n*a', '](b)'];
+
+/** The shortest of three times in milliseconds. */
+const timeOf = (run) => Math.min(...[1, 2, 3].map(() => {
+  const begin = performance.now();
+  run();
+  return performance.now() - begin;
+}));
+
+/** Whether four times as much takes about four times as long. Other work on the machine may slow one of the times, so it is tried three times. */
+function isLinear(run, few, what) {
+  const tried = [];
+  for (let at = 0; at < 3; at++) {
+    const times = [few, 4 * few].map((many) => timeOf(() => run(many)));
+    if (times[1] < 9 * times[0] + 50) return;
+    tried.push(times.map(Math.round));
+  }
+  assert.fail(`${what}: milliseconds, and those of four times as much: ${tried.join('; ')}`);
+}
+
+test('hostile texts take time in proportion to their length', () => {
+  const gfm = { gfm: true };
+  for (const it of HOSTILE) {
+    const long = (length) => ('a' + it.repeat(length / it.length)).trimEnd();
+    for (const call of [html, text, links]) isLinear((length) => call(long(length), gfm), 8000, JSON.stringify(it));
+  }
+});
+
+test('contents cost what they cost by themselves', () => {
+  const contents = (many) => Array.from({ length: many }, (_, at) => [7 * at, 7 * at + 5]);
+  isLinear((many) => texts('é*a* b\n'.repeat(many), contents(many)), 1000, 'contents');
+});
+
+test('refused memory is an error', () => {
+  const little = create({ maximum: 1 << 20 });
+  const calls = { text: (given) => little.text(given).length, html: (given) => little.html(given), texts: (given) => little.texts(given, [[0, given.length]]).length, links: (given) => little.links(given).length };
+  for (const [name, call] of Object.entries(calls)) {
+    let refused = 0;
+    for (let length = 1; length < 3000000; length = Math.ceil(length * 1.3)) {
+      try {
+        call('*a* é '.repeat(length / 6) + 'b');
+      } catch (error) {
+        assert.equal(error.code, 'NO_MEMORY', `${name}: ${error}`);
+        refused++;
+      }
+      assert.equal(little.html('*a*'), '<em>a</em>');
+    }
+    assert.ok(refused > 0, name);
+  }
+});
+
+test('a used-up stack spoils no later call', () => {
+  const given = '*a* [b](c) **d *e* f** `g` <h>'.repeat(20), wanted = html(given);
+  let failed = 0, right = 0;
+  const dive = () => {
+    try {
+      dive();
+    } catch (error) {
+      assert.ok(error instanceof RangeError, String(error));
+      failed++;
+    }
+    if (right < 2000) {
+      if (html(given) !== wanted) throw new Error('another answer');
+      right++;
+    }
+  };
+  dive();
+  assert.ok(failed > 0 && right === 2000, `${failed} calls failed`);
+  for (let at = 0; at < 100; at++) assert.equal(html(given), wanted);
+});

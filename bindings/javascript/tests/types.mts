@@ -1,0 +1,27 @@
+// What has to fit the types, and what must not.
+import { COMMONMARK, GFM, MarkdownInlineError, create, html, htmls, leaves, links, shortTexts, strings, text, type Name } from '../../out/javascript/index.js';
+
+for (const event of text('a *b*', { gfm: true, codeText: false, definitions: ['a'] })) {
+  const name: Name = event.name;
+  if (name === 'Emphasis' && event.enter) console.log(event.line, event.column, event.offset, event.byte, event.link?.content);
+}
+const one: string = html('[a]', { definitions: new Map([['a', ['/b', 'c'] as const]]), rawHtml: true, referenceLimit: Infinity });
+const two: string[] = htmls('a', [[0, 1], { pieces: [{ start: 0, end: 1 }], firstOfItem: true }], { definitions: { a: '/b', c: { destination: 'd', title: null } } });
+const three: number | null | undefined = shortTexts('[a]', [[0, 3]], { bits: COMMONMARK | GFM }).at(0)?.at(-1)?.definition;
+const four: string[] = leaves('a').at(0)?.content === 'a' ? strings('a', [[[0, 1]]]) : [];
+const five: Uint8Array | undefined = leaves(new Uint8Array()).at(0)?.content;
+try {
+  create({ maximum: 1 << 20 }).text('a\n\nb', { rules: 'crate' });
+} catch (error) {
+  if (error instanceof MarkdownInlineError && error.code === 'BLANK_LINE') console.log(error.at, one, two, three, four, five);
+}
+for (const { line, column, destination, title } of links('[a](b)', { contents: [[0, 6]] })) console.log(line, column, destination.length, title ?? '');
+
+// @ts-expect-error no such option
+text('a', { nonsense: true });
+// @ts-expect-error no such rules
+text('a', { rules: 'gfm' });
+// @ts-expect-error definitions of HTML say where they lead
+html('a', { definitions: ['a'] });
+// @ts-expect-error no such name
+export const name: Name = 'Nothing';
