@@ -4,6 +4,7 @@ import fcntl
 import glob
 import os
 import re
+import shlex
 import shutil
 import signal
 import subprocess
@@ -91,17 +92,42 @@ def result_of(name):
     return os.path.join(HERE, 'crates', name, 'out', 'lib%s.a' % name if crates.is_archive(name) else name)
 
 
+def module_of(name):
+    """The module of LLVM that an archive is compiled from, as clang was handed it."""
+    return os.path.splitext(result_of(name))[0] + '.bc'
+
+
+def sums(name):
+    """The checksums of the files that a crate is made of, and of what it is built to."""
+    made = [result_of(name)] + [module_of(name)] * (crates.is_archive(name) and os.path.exists(module_of(name)))
+    return [crates.sources(name)] + [crates.sum_of(it) for it in made]
+
+
 def is_built(name):
     """Whether what stands in out/ was proved from the files that stand here."""
     with contextlib.suppress(OSError), open(result_of(name) + '.of', encoding='ascii') as it:
-        return it.read().split() == [crates.sources(name), crates.sum_of(result_of(name))]
+        return it.read().split() == sums(name)
     return False
 
 
 def note_built(name):
     """Notes that what stands in out/ was proved from the files that stand here."""
     with open(result_of(name) + '.of', 'w', encoding='ascii') as it:
-        print(crates.sources(name), crates.sum_of(result_of(name)), file=it)
+        print(*sums(name), file=it)
+
+
+def keeping(place, module):
+    """Makes a folder of links to the kit's LLVM, whose clang also leaves the module that it is handed in a file."""
+    kit = crates.kit() + '/toolchain'
+    shutil.rmtree(place, ignore_errors=True)
+    os.makedirs(place + '/bin')
+    for it in glob.glob(kit + '/*') + glob.glob(kit + '/bin/*'):
+        if os.path.basename(it) not in ('bin', 'clang'):
+            os.symlink(it, place + it[len(kit):])
+    with open(place + '/bin/clang', 'w', encoding='utf-8') as it:
+        it.write('#!/bin/sh\nfor word; do [ "$word" != module.bc ] || cp module.bc %s; done\nexec %s "$@"\n' % (shlex.quote(module), shlex.quote(kit + '/bin/clang')))
+    os.chmod(place + '/bin/clang', 0o755)
+    return place
 
 
 def clear(room):
@@ -135,8 +161,13 @@ def built(name, place, log):
         shutil.copy(os.path.join(place, 'crates', name, 'out', name), result_of(name) + '.new')
         return 0
     folders = {it: os.path.join(place, 'crates', it, 'out/rlib') for it in crates.below(name)}
-    words = crates.compiler('build', name, folders, '--crate-type', 'staticlib', '--toolchain', crates.kit() + '/toolchain', '-o', result_of(name) + '.new')
-    return subprocess.run(words, cwd=os.path.join(place, 'crates', name), stdin=subprocess.DEVNULL, stdout=log, stderr=subprocess.STDOUT).returncode
+    toolchain = keeping(os.path.join(os.path.dirname(result_of(name)), 'toolchain'), module_of(name))
+    with contextlib.suppress(FileNotFoundError):
+        os.remove(module_of(name))
+    words = crates.compiler('build', name, folders, '--crate-type', 'staticlib', '--toolchain', toolchain, '-o', result_of(name) + '.new')
+    status = subprocess.run(words, cwd=os.path.join(place, 'crates', name), stdin=subprocess.DEVNULL, stdout=log, stderr=subprocess.STDOUT).returncode
+    shutil.rmtree(toolchain)
+    return status
 
 
 def built_in_a_copy(name, log):

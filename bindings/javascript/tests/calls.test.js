@@ -202,21 +202,25 @@ test('refused memory is an error', () => {
 });
 
 test('a used-up stack spoils no later call', () => {
+  // Each frame calls once those below it have ended: the lowest fail, each of them with a little more room on the stack, and the next find the answer.
   const given = '*a* [b](c) **d *e* f** `g` <h>'.repeat(20), wanted = html(given);
   let failed = 0, right = 0;
   const dive = () => {
     try {
       dive();
     } catch (error) {
-      assert.ok(error instanceof RangeError, String(error));
+      if (!(error instanceof RangeError)) throw error;
       failed++;
     }
-    if (right < 2000) {
+    if (right < 5) {
       if (html(given) !== wanted) throw new Error('another answer');
       right++;
     }
   };
-  dive();
-  assert.ok(failed > 0 && right === 2000, `${failed} calls failed`);
-  for (let at = 0; at < 100; at++) assert.equal(html(given), wanted);
+  for (let round = 0; round < 100; round++) {
+    right = 0;
+    dive();
+  }
+  assert.ok(failed > 100, `${failed} calls failed`);
+  assert.equal(html(given), wanted);
 });
