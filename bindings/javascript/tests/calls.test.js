@@ -4,6 +4,7 @@ import { spawnSync } from 'node:child_process';
 import { readFileSync } from 'node:fs';
 import test from 'node:test';
 import { fileURLToPath } from 'node:url';
+import { callsOf } from '../../out/javascript/calls.js';
 import * as markdownInline from '../../out/javascript/index.js';
 
 const { COMMONMARK, GFM, MarkdownInlineError, create, html, htmls, identifier, isContent, isText, leaves, links, reference, shortTexts, string, strings, text, texts } = markdownInline;
@@ -183,21 +184,40 @@ test('contents cost what they cost by themselves', () => {
   isLinear((many) => texts('é*a* b\n'.repeat(many), contents(many)), 1000, 'contents');
 });
 
-test('refused memory is an error', () => {
-  const little = create({ maximum: 1 << 20 });
-  const calls = { text: (given) => little.text(given).length, html: (given) => little.html(given), texts: (given) => little.texts(given, [[0, given.length]]).length, links: (given) => little.links(given).length };
-  for (const [name, call] of Object.entries(calls)) {
-    let refused = 0;
-    for (let length = 1; length < 3000000; length = Math.ceil(length * 1.3)) {
-      try {
-        call('*a* é '.repeat(length / 6) + 'b');
-      } catch (error) {
-        assert.equal(error.code, 'NO_MEMORY', `${name}: ${error}`);
-        refused++;
-      }
-      assert.equal(little.html('*a*'), '<em>a</em>');
+/** A number of WebAssembly: seven bits a byte, the lowest first. */
+const leb = (number) => number < 128 ? [number] : [number % 128 + 128, ...leb(Math.floor(number / 128))];
+
+/** The module with a memory that the engine does not let grow past so many pages. */
+function withMaximum(pages) {
+  const bytes = [...readFileSync(beside('../../out/javascript/markdown_inline.wasm'))];
+  const numberAt = (at) => bytes[at] < 128 ? [bytes[at], at + 1] : (([number, end]) => [bytes[at] - 128 + 128 * number, end])(numberAt(at + 1));
+  for (let at = 8; at < bytes.length;) {
+    const [size, from] = numberAt(at + 1);
+    if (bytes[at] === 5) {
+      const [, end] = numberAt(from + 2), content = [1, 1, ...bytes.slice(from + 2, end), ...leb(pages)];
+      return new WebAssembly.Module(Uint8Array.from([...bytes.slice(0, at), 5, ...leb(content.length), ...content, ...bytes.slice(from + size)]));
     }
-    assert.ok(refused > 0, name);
+    at = from + size;
+  }
+  throw new Error('the module has no memory of its own');
+}
+
+test('refused memory is an error', () => {
+  for (const little of [create({ maximum: 1 << 20 }), callsOf(withMaximum(16))]) {
+    const calls = { text: (given) => little.text(given).length, html: little.html, texts: (given) => little.texts(given, [[0, given.length]]).length, links: (given) => little.links(given).length };
+    for (const [name, call] of Object.entries(calls)) {
+      let refused = 0;
+      for (let length = 6; length < 3000000; length = Math.ceil(length * 1.2)) {
+        try {
+          call('*a* é '.repeat(length / 6) + 'b');
+        } catch (error) {
+          assert.equal(error.code, 'NO_MEMORY', `${name}: ${error}`);
+          refused++;
+        }
+        assert.equal(little.html('*a*'), '<em>a</em>');
+      }
+      assert.ok(refused > 5, name);
+    }
   }
 });
 
