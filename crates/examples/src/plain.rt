@@ -8,7 +8,20 @@ use std::alloc::{AllocError, Global};
 // A paragraph.
 const TEXT: &[u8] = b"*a* `b` [c](d \"e\") ![f](g) &amp; \\* <h> <https://i.j>\nk\\\nl";
 
-// Its text: of a link what it shows, and of an image its description.
+// The text of pieces of a document: of a link what it shows, and of an image its description; nothing where they are no text.
+fn plain_of(
+    alloc: Global,
+    parse_state: &ParseState,
+    pieces: &[Piece],
+) -> Result<Vec<u8>, AllocError> {
+    if !run::is_text(parse_state.bytes, pieces) {
+        return Ok(Vec::new(alloc));
+    }
+    let found = run::text_list(alloc, parse_state, pieces, false)?;
+    text_of(alloc, parse_state.bytes, &found.events.as_slice())
+}
+
+// The text of the paragraph.
 pub(crate) fn text(alloc: Global) -> Result<Vec<u8>, AllocError> {
     let parse_state = ParseState {
         bytes: TEXT,
@@ -20,9 +33,5 @@ pub(crate) fn text(alloc: Global) -> Result<Vec<u8>, AllocError> {
         start: (0, 0),
         end: (TEXT.len(), 0),
     }];
-    if !run::is_text(TEXT, &whole) {
-        return Ok(Vec::new(alloc));
-    }
-    let found = run::text_list(alloc, &parse_state, &whole, false)?;
-    text_of(alloc, TEXT, &found.events.as_slice())
+    plain_of(alloc, &parse_state, &whole)
 }
