@@ -1,14 +1,14 @@
 -- The values of a line, and its codes.
-use Rattle.std.proofs.Common.{◌≡◌, ℕ, zero, suc, ◌-◌, ◌≤◌, ◌<◌, min, refl, ap, ◌∙◌, sym, List, [], ◌∷◌, length, take, drop, get_or, Bool, true, false, ◌&&◌, arith, length-drop}
+use Rattle.std.proofs.Common.{◌≡◌, ℕ, zero, suc, ◌-◌, ◌≤◌, ◌<◌, min, refl, ap, ◌∙◌, sym, List, [], ◌∷◌, length, take, drop, get_or, Bool, true, false, ◌&&◌, ◌||◌, arith, length-drop}
 use Rattle.std.specs.Prelude.{if◌then◌else◌, ◌==◌}
 use Rattle.std.specs.List.{list_all}
 use Rattle.std.proofs.Math.Seq.{take-length}
 use Rattle.std.proofs.Math.ListN.{drop_of_length-le}
-use Rattle.markdown_content.specs.Codes.{Code, is_blank}
+use Rattle.markdown_content.specs.Codes.{Code, document_start, is_blank}
 use Rattle.markdown_model.specs.CodeTests.{values_of, next_is}
 use Rattle.markdown_model.specs.Grammar.{span}
-use Rattle.markdown_block_model.specs.LineRests.{indent, trimmed, skip, is_blank_line, count_first, onto_end, without_end}
-use Rattle.markdown_block_line.specs.LineValues.{is_blank_value, is_whitespace_value, front, onto_len, len_without_end}
+use Rattle.markdown_block_model.specs.LineRests.{indent, trimmed, skip, is_blank_line, count_first, onto_end, without_end, trimmed_end}
+use Rattle.markdown_block_line.specs.LineValues.{is_blank_value, is_whitespace_value, is_row_value, front, onto_len, len_without_end}
 
 pub by_bool : {P : Type 0} (b : Bool) → (b ≡ true → P) → (b ≡ false → P) → P
 by_bool true t f = t refl
@@ -55,6 +55,15 @@ next-at p cs ns k d h l = here cs k (omega (arith, l, ap length h)) ∙ ap (λ (
 
 pub next-none : (p : Code → Bool) (cs : List Code) (ns : List ℕ) (k : ℕ) → values_of cs ≡ ns → length ns ≤ k → next_is p (drop k cs) ≡ false
 next-none p cs ns k h l = ap (next_is p) (drop_of_length-le cs (omega (arith, l, ap length h, values-length cs)))
+
+-- codes of these values
+abbrev pub codes_with : List ℕ → List Code
+codes_with [] = []
+codes_with (n ∷ ns) = record { value = n; start = document_start; stop = document_start } ∷ codes_with ns
+
+pub values-of-codes : (ns : List ℕ) → values_of (codes_with ns) ≡ ns
+values-of-codes [] = refl
+values-of-codes (n ∷ ns) = ap (λ vs. n ∷ vs) (values-of-codes ns)
 
 -- How many stand first.
 
@@ -167,6 +176,15 @@ all-end p ns k h = ap (list_all p) (drop_of_length-le ns h)
 
 -- Without the codes at the end.
 
+pub row-space : (n : ℕ) → is_row_value 32 n ≡ is_whitespace_value n
+row-space n = by_bool (n == 32)
+    (λ (e : (n == 32) ≡ true). ap (λ b. b || ((b || n == 9) || n == 10)) e ∙ sym (ap (λ b. (b || n == 9) || n == 10) e))
+    (λ (e : (n == 32) ≡ false). ap (λ b. b || is_whitespace_value n) e)
+
+len-same : (p q : ℕ → Bool) (ns : List ℕ) → ((n : ℕ) → p n ≡ q n) → len_without_end p ns ≡ len_without_end q ns
+len-same p q [] h = refl
+len-same p q (n ∷ ns) h = ap (λ b. onto_len b (len_without_end p ns)) (h n) ∙ ap (onto_len (q n)) (len-same p q ns h)
+
 pub len-le : (p : ℕ → Bool) (ns : List ℕ) → len_without_end p ns ≤ length ns
 len-le p [] = omega arith
 len-le p (n ∷ ns) = onto (p n) (len_without_end p ns) (length ns) (len-le p ns)
@@ -193,6 +211,10 @@ end-of p (c ∷ cs) =
 
 pub end-take : (p : ℕ → Bool) (cs : List Code) (ns : List ℕ) (k : ℕ) → values_of cs ≡ ns → len_without_end p ns ≡ k → without_end (λ (c : Code). p c.value) cs ≡ take k cs
 end-take p cs ns k h e = end-of p cs ∙ ap (λ l. take l cs) (ap (len_without_end p) h ∙ e)
+
+-- without the whitespace at the end
+pub trimmed-take : (cs : List Code) (ns : List ℕ) (k : ℕ) → values_of cs ≡ ns → k ≡ len_without_end (is_row_value 32) ns → trimmed_end cs ≡ take k cs
+trimmed-take cs ns k h e = end-take is_whitespace_value cs ns k h (sym (len-same (is_row_value 32) is_whitespace_value ns row-space) ∙ sym e)
 
 -- one value less at the end
 pub last-less : (p : ℕ → Bool) (ns : List ℕ) (k d : ℕ) → k < length ns → p (get_or ns k d) ≡ true → len_without_end p (take (suc k) ns) ≡ len_without_end p (take k ns)

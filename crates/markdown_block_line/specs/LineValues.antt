@@ -11,6 +11,10 @@ is_blank_value n = n == space_value || n == tab_value
 abbrev pub is_whitespace_value : ℕ → Bool
 is_whitespace_value n = is_blank_value n || n == line_feed
 
+-- the value itself, or whitespace
+abbrev pub is_row_value : ℕ → ℕ → Bool
+is_row_value n v = v == n || is_whitespace_value v
+
 -- how many values that pass stand first
 abbrev pub front : (ℕ → Bool) → List ℕ → ℕ
 front p [] = 0
@@ -32,7 +36,7 @@ count_value n (v ∷ vs) = (if v == n then 1 else 0) + count_value n vs
 
 -- a thematic break of this marker
 abbrev pub is_break_values : ℕ → List ℕ → Bool
-is_break_values n ns = list_all (λ v. v == n || is_whitespace_value v) ns && nat_le 3 (count_value n ns)
+is_break_values n ns = list_all (is_row_value n) ns && nat_le 3 (count_value n ns)
 
 abbrev pub is_digit_value : ℕ → Bool
 is_digit_value n = is_between (byte "0") (byte "9") n

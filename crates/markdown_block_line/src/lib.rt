@@ -5,5 +5,12 @@
 //! these values.
 #![tactic(auto)]
 
+pub mod begins;
+pub mod breaks;
+pub mod containers;
+pub mod document;
+pub mod html;
+pub mod leaves;
 pub mod line;
 pub mod starts;
+mod tags;

@@ -4,7 +4,7 @@ ghost use Rattle.std.specs.Prelude.{◌≡◌, ◌≤◌, min, length, take, Lis
 ghost use Rattle.markdown_content.specs.Codes.{Code};
 ghost use Rattle.markdown_model.specs.CodeTests.{values_of};
 ghost use Rattle.markdown_block_model.specs.LineRests.{indent, trimmed, skip, is_blank_line, is_gap, count_first, trimmed_end};
-ghost use Rattle.markdown_block_line.specs.LineValues.{is_blank_value, is_whitespace_value};
+ghost use Rattle.markdown_block_line.specs.LineValues.{is_blank_value, is_whitespace_value, is_row_value, len_without_end};
 
 // Whether a code is a space, a tab, or a column of a tab.
 pub(crate) fn is_blank(value: u8) -> bool
@@ -96,9 +96,24 @@ pub fn trimmed_len(line: &[u8]) -> usize
     ensures same { (cs : List Code) → values_of cs ≡ line.now → trimmed_end cs ≡ take result cs }
     ensures within { result ≤ length line.now }
 {
+    len_before(line, b' ')
+}
+
+// Whether a code has this value, or is whitespace.
+fn is_row_value(value: u8, code: u8) -> bool
+    ensures { result ≡ is_row_value value code }
+{
+    code == value || is_whitespace(code)
+}
+
+// How many codes are left without those at the end that have this value or are whitespace.
+pub(crate) fn len_before(line: &[u8], value: u8) -> usize
+    ensures same { result ≡ len_without_end (is_row_value value) line.now }
+    ensures within { result ≤ length line.now }
+{
     let mut len = line.len();
     while len > 0 {
-        if !is_whitespace(line[len - 1]) {
+        if !is_row_value(value, line[len - 1]) {
             return len;
         }
         len -= 1;

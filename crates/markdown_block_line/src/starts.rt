@@ -1,12 +1,13 @@
 //! What begins with the rest of a line (CommonMark 4.1 to 4.3, 4.5, 5.1 and 5.2). Each takes time linear in the rest at most, and allocates nothing.
 
-ghost use Rattle.std.specs.Prelude.{◌≡◌, ◌<◌, ◌≤◌, ◌+◌, ℕ, min, length, take, drop, List, [], false, Some, None, MatchOption, IfSome, ◌||◌, ◌==◌};
+ghost use Rattle.std.specs.Prelude.{◌≡◌, ◌<◌, ◌≤◌, ◌+◌, min, length, take, drop, List, [], false, Some, None, MatchOption, IfSome, ◌||◌, ◌==◌};
 ghost use Rattle.markdown_content.specs.Codes.{Code};
 ghost use Rattle.markdown_model.specs.CodeTests.{values_of, is_value};
 ghost use Rattle.markdown_block_model.specs.LineRests.{trimmed_end, without_end};
 ghost use Rattle.markdown_block_model.specs.BlockTree.{heading, fenced_code, bullet, ordered};
 ghost use Rattle.markdown_block_model.specs.LeafStarts.{is_break, ends_blank, heading_text, heading_at, is_row_of, underline, may_be_info, fence_at, is_closing};
 ghost use Rattle.markdown_block_model.specs.ContainerStarts.{behind_quote, bullet_at, ordered_at};
+ghost use Rattle.markdown_block_line.specs.LineBlocks.{fence_of};
 ghost use Rattle.markdown_block_line.specs.LineValues.{front, is_break_values, is_digit_value, number_values};
 
 use crate::line::{self, count_first, indent, indent_to, is_blank_line, is_gap, trimmed_len};
@@ -22,13 +23,22 @@ pub struct Heading {
     pub len: usize,
 }
 
-/// A fence that begins code: its marker, how often it stands, and where the info string stands in the rest that was read.
+/// How code is fenced.
 #[derive(Clone, Copy)]
-pub struct OpenFence {
+pub struct Fence {
     /// A grave accent or a tilde.
     pub value: u8,
     /// How often it stands, 3 times at least.
     pub count: usize,
+    /// How many columns stand before it.
+    pub columns: usize,
+}
+
+/// A fence that begins code, and where the info string stands in the rest that was read.
+#[derive(Clone, Copy)]
+pub struct OpenFence {
+    /// The fence.
+    pub fence: Fence,
     /// How many codes stand before the info string.
     pub start: usize,
     /// How many codes the info string has.
@@ -260,9 +270,9 @@ fn open_len(text: &[u8]) -> usize
     0
 }
 
-/// Returns the fence that begins code, or `None` (CommonMark 4.5). The rest begins behind the indent.
-pub fn fence_at(line: &[u8]) -> Option<OpenFence>
-    ensures found { (cs : List Code) (columns : ℕ) → values_of cs ≡ line.now → MatchOption result (fence_at columns cs ≡ None) (λ f. fence_at columns cs ≡ Some (fenced_code (record { value = f.value; count = f.count; columns = columns }) (take f.len (drop f.start cs)) [] false)) }
+/// Returns the fence that begins code behind an indent of so many columns, or `None` (CommonMark 4.5). The rest begins behind the indent.
+pub fn fence_at(columns: usize, line: &[u8]) -> Option<OpenFence>
+    ensures found { (cs : List Code) → values_of cs ≡ line.now → MatchOption result (fence_at columns cs ≡ None) (λ f. fence_at columns cs ≡ Some (fenced_code (fence_of f.fence) (take f.len (drop f.start cs)) [] false)) }
     ensures within { IfSome result (λ f. f.start + f.len ≤ length line.now) }
 {
     if line.len() == 0 {
@@ -279,12 +289,12 @@ pub fn fence_at(line: &[u8]) -> Option<OpenFence>
     }
     let start = count + indent(info);
     let len = trimmed_len(&line[start..]);
-    Some(OpenFence {
+    let fence = Fence {
         value,
         count,
-        start,
-        len,
-    })
+        columns,
+    };
+    Some(OpenFence { fence, start, len })
 }
 
 // Whether an info string may stand behind this marker.
@@ -300,17 +310,17 @@ fn may_be_info(info: &[u8], value: u8) -> bool
     !info.contains(&value)
 }
 
-/// Returns whether a whole line ends code whose fence is `count` times this value (CommonMark 4.5).
-pub fn is_closing(line: &[u8], value: u8, count: usize) -> bool
-    ensures { (cs : List Code) (columns : ℕ) → values_of cs ≡ line.now → result ≡ is_closing (record { value = value; count = count; columns = columns }) cs }
+/// Returns whether a whole line ends the code of this fence (CommonMark 4.5).
+pub fn is_closing(fence: Fence, line: &[u8]) -> bool
+    ensures { (cs : List Code) → values_of cs ≡ line.now → result ≡ is_closing (fence_of fence) cs }
 {
     let at = indent_to(line, 4);
     if at == 4 {
         return false;
     }
     let rest = &line[at..];
-    let len = count_first(rest, value);
-    if len < count {
+    let len = count_first(rest, fence.value);
+    if len < fence.count {
         return false;
     }
     is_blank_line(&rest[len..])

@@ -1,0 +1,7 @@
+use Rattle.std.proofs.Common.{◌∙◌, sym}
+use Rattle.markdown_block_model.specs.HtmlStarts.{block_tags}
+use Rattle.markdown_block_line.proofs.WordReadings.{named-is}
+use Rattle.markdown_block_line.proofs.html.is_block_tag.Goals as goal
+
+pub returns : goal.returns
+returns c = λ cs h. c.one_is_word.ensures ∙ sym (named-is block_tags cs c.args.name.now h)

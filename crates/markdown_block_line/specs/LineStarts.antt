@@ -1,0 +1,25 @@
+-- What begins with the rest of a line.
+use Rattle.std.specs.Prelude.{ℕ, ◌+◌, ◌<◌, ◌≤◌, List, [], ◌∷◌, take, drop, false}
+use Rattle.markdown_content.specs.Codes.{Code}
+use Rattle.markdown_block_model.specs.BlockTree.{thematic_break, heading, fenced_code, html, indented_code}
+use Rattle.markdown_block_model.specs.BlockStarts as block_starts
+use Rattle.markdown_block_line.specs.declared.begins.Begun.{Begun}
+use Rattle.markdown_block_line.specs.declared.begins.Begun.TheVariants.{ThematicBreak, Heading, FencedCode, Html, IndentedCode, Container}
+use Rattle.markdown_block_line.specs.LineBlocks.{container_of, fence_of}
+
+abbrev pub begun_of : List Code → Begun → block_starts.Begun
+begun_of cs ThematicBreak = block_starts.leaf_begins thematic_break
+begun_of cs (Heading h) = block_starts.leaf_begins (heading h.level (take h.len (drop h.start cs)))
+begun_of cs (FencedCode f) = block_starts.leaf_begins (fenced_code (fence_of f.fence) (take f.len (drop f.start cs)) [] false)
+begun_of cs (Html h) = block_starts.leaf_begins (html h.kind cs h.ended)
+begun_of cs IndentedCode = block_starts.leaf_begins (indented_code (drop 4 cs ∷ []))
+begun_of cs (Container c k) = block_starts.container_begins (container_of c) (drop k cs)
+
+-- its places stand within so many codes; a container takes one at least
+abbrev pub IsWithin : ℕ → Begun → Type 0
+IsWithin n ThematicBreak = Unit {0}
+IsWithin n (Heading h) = h.start + h.len ≤ n
+IsWithin n (FencedCode f) = f.start + f.len ≤ n
+IsWithin n (Html h) = Unit {0}
+IsWithin n IndentedCode = 4 ≤ n
+IsWithin n (Container c k) = (0 < k) × (k ≤ n)

@@ -1,0 +1,32 @@
+-- The tree of a document, line by line.
+use Rattle.std.proofs.Common.{◌≡◌, ℕ, ◌≤◌, refl, ap, ◌∙◌, sym, List, [], length, Bool, None}
+use Rattle.markdown_event.specs.declared.event.Point.{Point}
+use Rattle.markdown_content.specs.Codes.{Code, codes_of, document_start, place_of}
+use Rattle.markdown_content.specs.DocumentWalk.{IsPoint, codes_after}
+use Rattle.markdown_content.proofs.DocumentPlaces.{after-split, codes-point, stands-point}
+use Rattle.markdown_content.proofs.DocumentWalkLemmas.{past-end}
+use Rattle.markdown_block_model.specs.LineRests.{lines_of}
+use Rattle.markdown_block_model.specs.BlockTree.{Tree, nothing}
+use Rattle.markdown_block_model.specs.DocumentBlocks.{read_lines, blocks_of}
+use Rattle.markdown_blocks.specs.BlockRows.{whole_tree, IsBetween}
+use Rattle.markdown_blocks.specs.LinesLeft.{read_on}
+use Rattle.markdown_blocks.specs.declared.reader.Reader.{Reader}
+
+-- before the first line
+pub read-none : (has_text : List Code → Bool) (bytes : List ℕ) (r : Reader) → whole_tree bytes r ≡ nothing → read_on has_text bytes r document_start ≡ blocks_of has_text bytes
+read-none has_text bytes r e =
+    ap (λ (cs : List Code). read_lines has_text (lines_of cs) (whole_tree bytes r)) (after-split bytes [] (codes_of bytes) refl)
+    ∙ ap (λ (t : Tree). read_lines has_text (lines_of (codes_of bytes)) t) e
+
+-- behind the last one
+pub read-all : (has_text : List Code → Bool) (bytes : List ℕ) (r : Reader) (p : Point) → IsPoint bytes p → length bytes ≤ p.index → read_on has_text bytes r p ≡ whole_tree bytes r
+read-all has_text bytes r p h l =
+    let none : codes_after bytes (place_of p) ≡ [] = sym (codes-point bytes p h) ∙ past-end bytes p (stands-point bytes p h) l in
+    ap (λ (cs : List Code). read_lines has_text (lines_of cs) (whole_tree bytes r)) none
+
+-- before the first line nothing is read
+pub start-between : (bytes : List ℕ) (r : Reader) → r.rows.items ≡ [] → r.path ≡ [] → IsBetween bytes r
+start-between bytes r e p = record { is_front = record { front = rw p refl }; empty = λ _. rw (p, e) refl }
+
+pub start-tree : (bytes : List ℕ) (r : Reader) → r.rows.items ≡ [] → r.open ≡ None → whole_tree bytes r ≡ nothing
+start-tree bytes r e o = rw (o, e) refl

@@ -1,0 +1,12 @@
+-- The proofs of this crate.
+pub mod BeginLines
+pub mod ContainerWalks
+pub mod DepthLemmas
+pub mod DocumentTrees
+pub mod FollowLines
+pub mod ItemRowLemmas
+pub mod LazyLines
+pub mod LinePieces
+pub mod PathRows
+pub mod ReaderTrees
+pub mod TextPieces

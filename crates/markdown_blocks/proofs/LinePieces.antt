@@ -1,0 +1,89 @@
+-- Pieces of a line.
+use Rattle.std.proofs.Common.{◌≡◌, ℕ, ◌+◌, ◌<◌, ◌≤◌, ◌*◌, ◌^◌, ap, subst, ◌∙◌, sym, List, ◌++◌, length, take, drop, arith, length-append, length-drop, drop-drop}
+use Rattle.std.proofs.lemmas.List.{take-append-drop, take-append-le, drop-append-le}
+use Rattle.markdown_event.specs.declared.event.Point.{Point}
+use Rattle.markdown_content.specs.Codes.{Code, codes_of, place_of, stop_of}
+use Rattle.markdown_content.specs.Content.{document_limit, piece_codes}
+use Rattle.markdown_content.specs.DocumentWalk.{IsPoint, codes_after}
+use Rattle.markdown_content.proofs.AdjacentCodes.{IsChain, before_in, before_in-split}
+use Rattle.markdown_content.proofs.DocumentCodes.{codes_at}
+use Rattle.markdown_content.proofs.DocumentWalkLemmas.{chain-at, few-at}
+use Rattle.markdown_content.proofs.DocumentPlaces.{along, codes-point, stands-point}
+use Rattle.markdown_content.proofs.ContentCodes.{piece-codes-is}
+use Rattle.markdown_model.specs.CodeTests.{values_of}
+use Rattle.markdown_block_line.specs.DocumentLines.{line_from}
+use Rattle.markdown_block_line.specs.declared.breaks.BreakLens.{BreakLens}
+use Rattle.markdown_block_line.proofs.BreakPlaces.{breaks-behind}
+use Rattle.markdown_block_line.proofs.RestValues.{values-drop, values-length}
+use Rattle.markdown_block_line.specs.LineBreaks.{IsBreakLens}
+use Rattle.markdown_blocks.specs.LineRest.{IsRest}
+
+-- the codes from a place on that stands behind so many
+after-past : (bytes : List ℕ) (start p : Point) (k : ℕ) → IsPoint bytes start → IsPoint bytes p → p ≡ stop_of start (take k (codes_after bytes (place_of start)))
+    → codes_after bytes (place_of p) ≡ drop k (codes_after bytes (place_of start))
+after-past bytes start p k h g e =
+    let cs : List Code = codes_after bytes (place_of start) in
+    let split : codes_at bytes start ≡ take k cs ++ drop k cs = codes-point bytes start h ∙ sym (take-append-drop k cs) in
+    sym (codes-point bytes p g) ∙ ap (λ (x : Point). codes_at bytes x) e ∙ (along bytes start (take k cs) (drop k cs) (stands-point bytes start h) split).0
+
+-- the codes of the piece from a place to one behind so many
+piece-of : (bytes : List ℕ) (p q : Point) (n : ℕ) → IsPoint bytes p → q ≡ stop_of p (take n (codes_after bytes (place_of p)))
+    → piece_codes (codes_of bytes) (record { start = place_of p; end = place_of q }) ≡ take n (codes_after bytes (place_of p))
+piece-of bytes p q n h e =
+    let cs : List Code = codes_after bytes (place_of p) in
+    let whole : take n cs ++ drop n cs ≡ cs = take-append-drop n cs in
+    let chain : IsChain p (take n cs ++ drop n cs) = subst (λ (xs : List Code). IsChain p xs) (sym whole) (chain-at bytes p cs (stands-point bytes p h) (codes-point bytes p h)) in
+    piece-codes-is bytes (record { start = place_of p; end = place_of q })
+    ∙ ap (λ (x : Point). before_in (place_of x) cs) e
+    ∙ ap (λ (xs : List Code). before_in (place_of (stop_of p (take n cs))) xs) (sym whole)
+    ∙ before_in-split p (take n cs) (drop n cs) chain
+
+-- there are so many codes from the start of a line on
+pub codes-within : (bytes : List ℕ) (start : Point) (values : List ℕ) (breaks : BreakLens) (at n : ℕ) → IsRest bytes start values breaks at → at + n ≤ length values
+    → at + n ≤ length (codes_after bytes (place_of start))
+codes-within bytes start values breaks at n h l =
+    let e : length values ≡ length (line_from bytes start) = sym (ap length h.same) ∙ values-length (line_from bytes start) in
+    rw h.begins.codes (omega (arith, e, length-append (line_from bytes start) h.begins.rest))
+
+pub later-within : (bytes : List ℕ) (start p : Point) (values : List ℕ) (breaks : BreakLens) (at from len : ℕ) → IsRest bytes start values breaks at → at + from + len ≤ length values
+    → IsPoint bytes p → p ≡ stop_of start (take (at + from) (codes_after bytes (place_of start))) → len ≤ length (codes_after bytes (place_of p))
+later-within bytes start p values breaks at from len h l g e =
+    let w : at + (from + len) ≤ length (codes_after bytes (place_of start)) = codes-within bytes start values breaks at (from + len) h (omega arith) in
+    rw (after-past bytes start p (at + from) h.is_point g e) (omega (arith, w, length-drop (at + from) (codes_after bytes (place_of start))))
+
+-- a piece of the rest of a line
+pub piece-is : (bytes : List ℕ) (start p q : Point) (values : List ℕ) (breaks : BreakLens) (at from len : ℕ) → IsRest bytes start values breaks at → at + from + len ≤ length values
+    → IsPoint bytes p → p ≡ stop_of start (take (at + from) (codes_after bytes (place_of start))) → q ≡ stop_of p (take len (codes_after bytes (place_of p)))
+    → piece_codes (codes_of bytes) (record { start = place_of p; end = place_of q }) ≡ take len (drop from (drop at (line_from bytes start)))
+piece-is bytes start p q values breaks at from len h l g e f =
+    let line : List Code = line_from bytes start in
+    let n : length values ≡ length line = sym (ap length h.same) ∙ values-length line in
+    piece-of bytes p q len g f
+    ∙ ap (take len) (after-past bytes start p (at + from) h.is_point g e ∙ ap (drop (at + from)) h.begins.codes ∙ drop-append-le (at + from) line h.begins.rest (omega (arith, n)))
+    ∙ take-append-le len (drop (at + from) line) h.begins.rest (omega (arith, n, length-drop (at + from) line))
+    ∙ ap (take len) (sym (drop-drop from at line))
+
+-- behind so many codes
+pub at-within : (bytes : List ℕ) (start : Point) (values : List ℕ) (breaks : BreakLens) (at n : ℕ) → IsRest bytes start values breaks at → n ≤ length (drop at (line_from bytes start)) → at + n ≤ length values
+at-within bytes start values breaks at n h l =
+    let e : length values ≡ length (line_from bytes start) = sym (ap length h.same) ∙ values-length (line_from bytes start) in
+    let w : at ≤ length values = h.within in
+    omega (arith, e, w, l, length-drop at (line_from bytes start))
+
+pub codes-fit : (bytes : List ℕ) (start : Point) (values : List ℕ) (breaks : BreakLens) (at n : ℕ) → IsRest bytes start values breaks at → at + n ≤ length values → at + n < 2 ^ 64
+codes-fit bytes start values breaks at n h l =
+    let cs : List Code = codes_after bytes (place_of start) in
+    let few : length cs + 4 * start.index + start.vs ≤ 4 * length bytes = few-at bytes start cs (stands-point bytes start h.is_point) (codes-point bytes start h.is_point) in
+    let w : at + n ≤ length cs = codes-within bytes start values breaks at n h l in
+    let f : length bytes ≤ document_limit = h.fits in
+    omega (arith, few, w, f)
+
+-- of the values of the rest of a line there are as many as of its codes
+pub rest-len : (cs : List Code) (ns : List ℕ) → values_of cs ≡ ns → length cs ≡ length ns
+rest-len cs ns h = sym (values-length cs) ∙ ap length h
+
+-- what is known of breaks is so of the rest
+pub rest-breaks : (bytes : List ℕ) (start : Point) (values : List ℕ) (breaks : BreakLens) (at : ℕ) (ns : List ℕ) → IsRest bytes start values breaks at → values_of (drop at (line_from bytes start)) ≡ ns → IsBreakLens breaks ns
+rest-breaks bytes start values breaks at ns h e =
+    let x : drop at values ≡ ns = ap (drop at) (sym h.same) ∙ sym (values-drop at (line_from bytes start)) ∙ e in
+    subst (λ (xs : List ℕ). IsBreakLens breaks xs) x (breaks-behind breaks values at h.breaks_are)

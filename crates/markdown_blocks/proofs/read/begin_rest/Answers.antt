@@ -1,0 +1,24 @@
+use Rattle.std.proofs.Common.{refl}
+use Rattle.markdown_blocks.proofs.BeginLines.{begins-all, begins-entered, begins-finished}
+use Rattle.markdown_blocks.proofs.read.begin_rest.Goals as goal
+
+pub loop-outside-init : goal.loop-outside-init
+loop-outside-init c =
+    rw c.behind-inner.ensures (record {
+      same_bytes = refl;
+      begins = begins-all c.args.rest.now.bytes c.args.rest.now.codes c.args.reader.now c.requires.standing c.requires.empty;
+    })
+
+pub loop-outside-preserved : goal.loop-outside-preserved
+loop-outside-preserved c =
+    let l = c.loop-outside in
+    let entered = rw (c.in-Some.is, l.invariant.same_bytes) at c.in_ok-outside.ensures in
+    rw c.behind-inner-in-Some.ensures (record {
+      same_bytes = l.invariant.same_bytes;
+      begins = begins-entered _ _ _ _ _ _ l.invariant.begins entered.1;
+    })
+
+pub returns-clause-tree : goal.returns-clause-tree
+returns-clause-tree c =
+    let l = c.loop-outside in
+    begins-finished _ _ _ _ _ l.invariant.begins (rw (c.in_default.is, l.invariant.same_bytes) at c.in_ok-outside.ensures)

@@ -1,0 +1,24 @@
+use Rattle.std.proofs.Common.{◌+◌, ◌≤◌, arith, length}
+use Rattle.markdown_blocks.proofs.LinePieces.{at-within, codes-fit, codes-within, later-within, piece-is}
+use Rattle.markdown_blocks.proofs.rest.Rest.piece.Goals as goal
+
+pub overflow_add-self-inside : goal.overflow_add-self-inside
+overflow_add-self-inside c =
+    let w : c.self.inside.at + (c.args.from + c.args.len) ≤ length c.self.inside.values.now = at-within _ _ _ _ _ (c.args.from + c.args.len) c.self.invariant (rw (← c.self.view_is) at c.requires) in
+    let v : c.self.inside.at + c.args.from ≤ length c.self.inside.values.now = omega (arith, w) in
+    omega (arith, codes-fit _ _ _ _ _ c.args.from c.self.invariant v)
+
+pub past_codes-start-requires-clause-within : goal.past_codes-start-requires-clause-within
+past_codes-start-requires-clause-within c =
+    let w : c.self.inside.at + (c.args.from + c.args.len) ≤ length c.self.inside.values.now = at-within _ _ _ _ _ (c.args.from + c.args.len) c.self.invariant (rw (← c.self.view_is) at c.requires) in
+    codes-within _ _ _ _ _ c.args.from c.self.invariant (omega (arith, w))
+
+pub past_codes-end-requires-clause-within : goal.past_codes-end-requires-clause-within
+past_codes-end-requires-clause-within c =
+    let w : c.self.inside.at + (c.args.from + c.args.len) ≤ length c.self.inside.values.now = at-within _ _ _ _ _ (c.args.from + c.args.len) c.self.invariant (rw (← c.self.view_is) at c.requires) in
+    later-within _ _ _ _ _ _ c.args.from c.args.len c.self.invariant (omega (arith, w)) c.past_codes-start.ensures.is_point c.past_codes-start.ensures.place
+
+pub returns : goal.returns
+returns c =
+    let w : c.self.inside.at + (c.args.from + c.args.len) ≤ length c.self.inside.values.now = at-within _ _ _ _ _ (c.args.from + c.args.len) c.self.invariant (rw (← c.self.view_is) at c.requires) in
+    rw (← c.self.view_is) (piece-is _ _ _ _ _ _ _ c.args.from c.args.len c.self.invariant (omega (arith, w)) c.past_codes-start.ensures.is_point c.past_codes-start.ensures.place c.past_codes-end.ensures.place)

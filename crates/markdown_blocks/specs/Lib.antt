@@ -1,0 +1,7 @@
+-- The definitions of this crate.
+pub mod BlockRows
+pub mod ItemRows
+pub mod LineRest
+pub mod LinesLeft
+pub mod PathItems
+pub mod TreeDepth

@@ -1,0 +1,63 @@
+//! The blocks of a document, line by line.
+
+ghost use Rattle.std.specs.Prelude.{◌≡◌, ◌<◌, ◌≤◌, length, IfOk};
+ghost use Rattle.markdown_content.specs.Content.{document_limit};
+ghost use Rattle.markdown_content.specs.DocumentWalk.{IsPoint};
+ghost use Rattle.markdown_block_model.specs.DocumentBlocks.{blocks_of};
+ghost use Rattle.markdown_blocks.specs.BlockRows.{tree_of, IsBetween};
+ghost use Rattle.markdown_blocks.specs.LinesLeft.{read_on};
+
+use crate::block::Blocks;
+use crate::path::Path;
+use crate::read;
+use crate::reader::Reader;
+use crate::rest::Rest;
+use crate::text::HasText;
+use markdown_block_line::document::line_at;
+use markdown_content::walk::DOCUMENT_START;
+use markdown_event::event::Point;
+use std::alloc::{AllocError, Global};
+
+// Reads the line that begins at a place, and returns where the next one begins.
+fn read_line_at<T: HasText>(
+    alloc: Global,
+    test: &T,
+    reader: &mut Reader,
+    bytes: &[u8],
+    start: Point,
+    buffer: &mut Vec<u8>,
+) -> Result<Point, AllocError>
+    requires fits { length bytes.now ≤ document_limit }
+    requires is_point { IsPoint bytes.now start }
+    requires begins { start.index < length bytes.now }
+    requires between { IsBetween bytes.now reader.old }
+    ensures is_point { IfOk result (λ stop. IsPoint bytes.now stop) }
+    ensures forward { IfOk result (λ stop. start.index < stop.index) }
+    ensures between { IfOk result (λ _. IsBetween bytes.now reader.new) }
+    ensures same { IfOk result (λ stop. read_on T.has_text bytes.now reader.new stop ≡ read_on T.has_text bytes.now reader.old start) }
+{
+    let line = line_at(bytes, start, buffer)?;
+    read::read_line(alloc, test, reader, &Rest::new(bytes, start, line.values))?;
+    Ok(line.stop)
+}
+
+/// Returns the blocks of a document of at most `usize::MAX / 8` bytes.
+///
+/// The only error is that memory was refused.
+pub fn blocks<T: HasText>(alloc: Global, test: &T, bytes: &[u8]) -> Result<Blocks, AllocError>
+    requires { length bytes.now ≤ document_limit }
+    ensures { IfOk result (λ b. tree_of bytes.now b ≡ blocks_of T.has_text bytes.now) }
+{
+    let mut reader = Reader {
+        rows: Vec::new(alloc),
+        path: Path::new(alloc),
+        open: None,
+    };
+    let mut buffer = Vec::new(alloc);
+    let mut point = DOCUMENT_START;
+    while point.index < bytes.len() {
+        point = read_line_at(alloc, test, &mut reader, bytes, point, &mut buffer)?;
+    }
+    read::put_open(&mut reader)?;
+    Ok(Blocks { rows: reader.rows })
+}

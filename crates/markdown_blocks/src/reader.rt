@@ -1,0 +1,15 @@
+//! What is read of a document, between its lines.
+
+use crate::block::{Leaf, Row};
+use crate::path::Path;
+
+/// What is read of a document: the blocks that are closed, the containers that the next line may continue, and the leaf that it may continue.
+#[derive(Drop)]
+pub struct Reader {
+    /// The blocks that are closed, in the order of the document.
+    pub rows: Vec<Row>,
+    /// The open containers.
+    pub path: Path,
+    /// The open leaf.
+    pub open: Option<Leaf>,
+}
