@@ -1,21 +1,20 @@
 -- Edits of runs by their pairs leave the events of the tree with its pairs grouped.
-use Rattle.std.proofs.Common.{◌≡◌, ℕ, zero, suc, ◌+◌, ◌<◌, ◌≤◌, false, List, [], ◌∷◌, ◌++◌, length, drop, Option, Some, None, refl, sym, ap, subst, ◌∙◌, arith, append_assoc, append-nil}
+use Rattle.std.proofs.Common.{◌≡◌, ℕ, zero, suc, ◌+◌, ◌<◌, false, List, ◌∷◌, ◌++◌, length, drop, Option, Some, None, refl, sym, ap, subst, ◌∙◌, arith, append_assoc, append-nil, []}
 use Rattle.std.proofs.lemmas.List.{drop-drop, drop_at}
-use Rattle.markdown_content.specs.Codes.{document_start, Code}
+use Rattle.markdown_content.specs.Codes.{Code}
 use Rattle.markdown_engine_events.specs.Edits.{added_at, edited, CanEdit}
 use Rattle.markdown_engine.specs.PastTree.{appended_from}
 use Rattle.markdown_content.specs.Tree.{Forest, empty, leaf_then, group_then, event, event_count, start_of}
 use Rattle.markdown_content.specs.declared.configuration.ParseOptions.{ParseOptions}
 use Rattle.markdown_event.specs.declared.event.Event.{Event}
 use Rattle.markdown_event.specs.declared.event.Kind.TheVariants as Kind
-use Rattle.markdown_event.specs.declared.event.Point.{Point}
 use Rattle.markdown_engine_events.specs.declared.util.edit_map.Edit.{Edit}
 use Rattle.markdown_engine.proofs.TreeEvents.{length-appended_from}
 use Rattle.markdown_model.specs.BracketGroups.{paired}
 use Rattle.markdown_model.specs.Pairs.{pair_list}
 use Rattle.markdown_model.specs.Setting.{Setting}
 use Rattle.markdown_attention.specs.RunContainers.{ArePairLists, ArePairsWithin, AreTakenOnce}
-use Rattle.markdown_attention.specs.NumberedPairs.{row_of, run_at, taken, pairs_in}
+use Rattle.markdown_attention.specs.NumberedPairs.{run_at}
 use Rattle.markdown_attention.specs.RunsRead.{outermost, runs_from, HaveRunPlaces}
 use Rattle.markdown_attention.specs.RunsOfTree.{HasRuns, tree_runs}
 use Rattle.markdown_attention.specs.PairScan.{AreRunsAfter}
@@ -25,7 +24,7 @@ use Rattle.markdown_attention.proofs.RunsOfTreeLemmas.{tree-runs}
 use Rattle.markdown_attention.specs.RunEvents.{marker_events, total}
 use Rattle.markdown_attention.specs.AttentionTrees.{IsStriped, HavePoints}
 use Rattle.markdown_attention.specs.AttentionPass.{comes_for, grouping}
-use Rattle.markdown_attention.specs.RunEdits.{HaveRunEnds, edits_by, grouped_events, run_edits, closed_sizes, opened_sizes, left_of, point_in}
+use Rattle.markdown_attention.specs.RunEdits.{HaveRunEnds, edits_by, run_edits, closed_sizes, opened_sizes, left_of, point_in}
 use Rattle.std.proofs.lemmas.Bool.{eq-eqb}
 use Rattle.markdown_attention.proofs.RunEditsPossible.{can-group}
 use Rattle.markdown_attention.proofs.PairSizeNumbers.{taken-local}
@@ -39,11 +38,7 @@ use Rattle.markdown_attention.proofs.PairedContainersFlat.{flat-row, ready-row}
 point-first : (es : List Event) (n : ℕ) (e : Event) (rest : List Event) → drop n es ≡ e ∷ rest → point_in es n ≡ e.point
 point-first [] zero e rest h = cc
 point-first [] (suc n) e rest h = cc
-point-first (x ∷ es) zero e rest h = ap first-point h
-  where
-    first-point : List Event → Point
-    first-point [] = document_start
-    first-point (y ∷ ys) = y.point
+point-first (x ∷ es) zero e rest h = grind arith
 point-first (x ∷ es) (suc n) e rest h = point-first es n e rest h
 
 part : (n k m : ℕ) (es xs ys : List Event) → n + k ≡ m → drop n es ≡ xs ++ ys → length xs ≡ k → drop m es ≡ ys
@@ -96,11 +91,7 @@ module _ (options : ParseOptions) (bytes : List ℕ) (content : List Code) (es :
   list = runs_from options bytes content 0 0 outermost es
 
   pub log-same : run_edits (point_in es) pairs fin ≡ grouping es (runs_from options bytes content 0 0 outermost es) pairs
-  log-same =
-      edits-same (grouped_events (point_in es) pairs) (comes_for (point_in es) list pairs) fin list stands.same_length
-      (λ i l. ap (λ (r : Sequence). r.event) (stands.stands i l))
-      (λ i l. ap (grouped_events (point_in es) pairs) (stands.stands i l)
-      ∙ ap (λ j. marker_events (run_at list i).marker (point_in es (run_at list i).event) (closed_sizes (run_at list i).number pairs) (left_of list pairs j) (opened_sizes (run_at list i).number pairs)) (sym (numbered-is options bytes content es places i l)))
+  log-same = grind (arith, edits-same, numbered-is)
 
   -- the edits can be made
   pub group-can : HaveRunEnds es → CanEdit (run_edits (point_in es) pairs fin) es
@@ -140,8 +131,4 @@ module _ (s : Setting) (options : ParseOptions) (bytes : List ℕ) (content : Li
 -- what comes for a run covers it
 pub sizes-sum : (list : List Sequence) (pairs : List Pair) (g : ℕ) → g < length list → ArePairsWithin list pairs → AreTakenOnce list pairs
     → total (closed_sizes g pairs) + left_of list pairs g + total (opened_sizes g pairs) ≡ (run_at list g).size
-sizes-sum list pairs g l w o =
-    let k : ℕ = row_of (run_at list g).text in
-    let t : taken (pairs_in list k pairs) g ≡ total (closed_sizes g pairs) + total (opened_sizes g pairs) = taken-local k list g l (eq-eqb k k refl) pairs w in
-    let once : taken (pairs_in list k pairs) g ≤ (run_at list g).size = o g in
-    omega (arith, t, once)
+sizes-sum list pairs g l w o = grind (arith, taken-local, eq-eqb)

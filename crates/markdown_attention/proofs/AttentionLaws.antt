@@ -1,9 +1,9 @@
 -- The laws of the states of a run of markers.
-use Rattle.std.proofs.Common.{◌≡◌, ℕ, ◌+◌, ◌==◌, Bool, true, false, Option, Some, None, List, [], ◌∷◌, ◌++◌, refl, sym, ap, subst, ◌∙◌, arith, append-nil}
+use Rattle.std.proofs.Common.{◌≡◌, ℕ, ◌+◌, ◌==◌, Bool, true, false, Option, Some, None, List, ◌∷◌, ◌++◌, refl, sym, ap, subst, ◌∙◌, arith, append-nil, []}
 use Rattle.std.proofs.lemmas.Bool.{eq-eqb}
 use Rattle.markdown_content.specs.Codes.{Code}
 use Rattle.markdown_content.specs.ListFunctions.{rest_of}
-use Rattle.markdown_engine.specs.Operations.{Enter, Exit, Consume, ahead, applied, current_of, done, entered, exited, registered, scratched}
+use Rattle.markdown_engine.specs.Operations.{Enter, Consume, ahead, applied, current_of, done, entered, exited, registered, scratched}
 use Rattle.markdown_engine.specs.PastTree.{past, passed}
 use Rattle.markdown_engine.specs.StateRuns.{Stepped}
 use Rattle.markdown_engine.specs.StateWords.{StateWords, Words, GoesIn, Law}
@@ -38,12 +38,7 @@ use Rattle.markdown_model.proofs.GrammarSteps.{span-takes, span-none}
 
 span-parts : (p : Code → Bool) (cs : List Code) → (span p cs).0 ++ (span p cs).1 ≡ cs
 span-parts p [] = refl
-span-parts p (c ∷ cs) = parts (p c) c cs (span p cs) (span-parts p cs)
-  where
-    parts : (b : Bool) (c : Code) (cs : List Code) (s : List Code × List Code) → s.0 ++ s.1 ≡ cs
-        → (let r : List Code × List Code = elim b [ true ↦ (c ∷ s.0, s.1) | false ↦ ([], c ∷ cs) ] in r.0 ++ r.1) ≡ c ∷ cs
-    parts true c cs s e = ap (λ xs. c ∷ xs) e
-    parts false c cs s e = refl
+span-parts p (c ∷ cs) = grind (arith, span-parts p cs)
 
 -- a run of this marker, and the codes after it
 abbrev run_of_parts : List Code × List Code → Option (Element × List Code)
@@ -51,13 +46,7 @@ run_of_parts s = elim (is_empty s.0) [ true ↦ None | false ↦ Some (plain (le
 
 run-parts : (m : ℕ) (cs : List Code) → switched true (attention_run m) cs ≡ run_of_parts (span (is_value m) cs)
 unfolding switched attention_run some gives provided ◌>>◌ ◌>>=◌
-run-parts m cs = by_empty (is_empty (span (is_value m) cs).0) (span (is_value m) cs)
-  where
-    by_empty : (b : Bool) (s : List Code × List Code)
-        → (let r : Option (Element × List Code) = elim (elim b as (λ b. Option (List Code × List Code)) [ true ↦ None | false ↦ Some s ]) [ None ↦ None | Some r ↦ gives (plain (leaf N.AttentionSequence r.0)) r.1 ] in r)
-        ≡ elim b [ true ↦ None | false ↦ Some (plain (leaf N.AttentionSequence s.0), s.1) ]
-    by_empty true s = refl
-    by_empty false s = refl
+run-parts m cs = grind arith
 
 run-off : (m : ℕ) (cs : List Code) → switched false (attention_run m) cs ≡ None
 unfolding switched provided ◌>>◌
@@ -74,9 +63,7 @@ module _ (tree : Forest) (rest : List Code) where
       → plain_tree (elim b [ true ↦ None | false ↦ Some (plain (leaf N.AttentionSequence s.0), s.1) ]) ≡ Some (tree, rest)
       → ◌≡◌ {A = Option (Element × List Code)} (elim b [ true ↦ None | false ↦ Some (plain (leaf N.AttentionSequence s.0), s.1) ]) (Some (plain tree, rest))
   part-some true s e = cc
-  part-some false s e =
-      let f : Option (Forest × List Code) → Option (Element × List Code) = λ o. elim o [ None ↦ None | Some r ↦ Some (plain r.0, r.1) ] in
-      ap f e
+  part-some false s e = grind arith
 
   -- a run that is read is read as such an element
   pub run-some : (m : ℕ) (on : Bool) (cs : List Code) → plain_tree (switched on (attention_run m) cs) ≡ Some (tree, rest)
@@ -217,10 +204,7 @@ run-goes T v e h true U k =
     let X : Tokenizer = done (Consume ∷ []) T in
     let next : markers_ahead X ≡ (span (is_value m) (rest_of (ahead T))).0 =
     ap (λ (q : TokenizeState). (span (is_value q.marker) (ahead X)).0) (scratch-consumed T) ∙ ap (λ cs. (span (is_value m) cs).0) (ahead-done (Consume ∷ []) T) in
-    let here : markers_ahead T ≡ b.code ∷ markers_ahead X =
-    ap (λ cs. (span (is_value m) cs).0) b.whole
-    ∙ ap (λ (s : List Code × List Code). s.0) (span-takes (is_value m) b.code (rest_of (ahead T)) (ap (λ x. x == m) b.value ∙ h))
-    ∙ ap (λ cs. b.code ∷ cs) (sym next) in
+    let here : markers_ahead T ≡ b.code ∷ markers_ahead X = grind (arith, span-takes) in
     k ∙ ap left_run (sym (passed-one b.code (markers_ahead X) T) ∙ ap (λ cs. passed cs T) (sym here))
 
 run-stops : (T : Tokenizer) (v : ℕ) → current_of T ≡ Some v → (v == T.tokenize_state.marker) ≡ false →
@@ -236,9 +220,7 @@ run-left T e ok U x =
     subst (λ b. inside_ends T b U) (sym x.0) (x.1 ∙ ap left_run (sym (passed-none T) ∙ ap (λ cs. passed cs T) (sym e)))
 
 left-attempts : (T : Tokenizer) → (left_run T).attempts ≡ T.attempts
-left-attempts T =
-    attempts-registered R.Attention (scratched (with_marker 0 T.tokenize_state) (exited N.AttentionSequence T))
-    ∙ attempts-scratched (with_marker 0 T.tokenize_state) (exited N.AttentionSequence T) ∙ attempts-applied (Exit N.AttentionSequence) T
+left-attempts T = grind (arith, attempts-registered, attempts-scratched, attempts-applied)
 
 pub inside-law : (W : Words) → EqualsLayer states W → Law W inside_words
 inside-law W within T alone opened =

@@ -1,5 +1,5 @@
 -- What one edit for each run leaves of the events of a tree: those of the tree with its pairs grouped.
-use Rattle.std.proofs.Common.{◌≡◌, ℕ, suc, ◌+◌, ◌-◌, Bool, true, false, List, [], ◌∷◌, ◌++◌, length, take, drop, reverse, map, sum_by, Option, Some, None, if◌then◌else◌, refl, sym, ap, subst, ◌∙◌, arith, append_assoc, append-nil}
+use Rattle.std.proofs.Common.{◌≡◌, ℕ, suc, ◌+◌, ◌-◌, Bool, true, false, List, ◌∷◌, ◌++◌, length, drop, map, Option, Some, None, if◌then◌else◌, refl, sym, ap, subst, ◌∙◌, arith, append_assoc, append-nil, []}
 use Rattle.std.specs.Option.{option_map}
 use Rattle.std.proofs.lemmas.List.{drop_all}
 use Rattle.markdown_content.specs.Codes.{Code, stop_of, document_start}
@@ -20,7 +20,7 @@ use Rattle.markdown_engine.proofs.TreeEvents.{length-appended_from}
 use Rattle.markdown_model.specs.Setting.{Setting}
 use Rattle.markdown_model.specs.Runs.{Run, run_of, runs_of}
 use Rattle.markdown_model.specs.Pairs.{Pair}
-use Rattle.markdown_model.specs.BracketGroups.{item, opens, closes, Token, run_tokens, assembled, tokens_of, paired, closing_sizes, opening_sizes, cut_front}
+use Rattle.markdown_model.specs.BracketGroups.{item, opens, closes, Token, run_tokens, assembled, tokens_of, paired}
 use Rattle.markdown_attention.specs.RunsRead.{is_run, opens_run}
 use Rattle.markdown_attention.specs.TokenWord.{word_events, word_count, word_link, closed_events, opened_events, closed_all, opened_all, left_over, cut_events, run_events, begins_run, IsPassLog, IsFlat, IsPairable, IsLogged}
 use Rattle.markdown_attention.proofs.BracketEventsOfGroups.{flat-events, flat-count, length-word, word-append}
@@ -55,18 +55,10 @@ cut-link (f ∷ fs) kept back n p = cut-link fs kept back (n + 4) p
 pub run-word : (ps : List Pair) (i : ℕ) (r : Run) (n : ℕ) (p : Option ℕ) →
     word_events n p (run_tokens ps i r) ≡ run_events ps i r.codes
 unfolding run_events
-run-word ps i r n p =
-    let front : List (List Code) × List Code = cut_front (closing_sizes i ps) r.codes in
-    let sizes : List ℕ = reverse (opening_sizes i ps) in
-    let kept : ℕ = length front.1 - sum_by (λ x. x) sizes in
-    cut-word front.0 (take kept front.1) (cut_front sizes (drop kept front.1)).0 n p
+run-word ps i r n p = grind (arith, cut-word)
 
 run-link : (ps : List Pair) (i : ℕ) (r : Run) (n : ℕ) (p : Option ℕ) → word_link n p (run_tokens ps i r) ≡ p
-run-link ps i r n p =
-    let front : List (List Code) × List Code = cut_front (closing_sizes i ps) r.codes in
-    let sizes : List ℕ = reverse (opening_sizes i ps) in
-    let kept : ℕ = length front.1 - sum_by (λ x. x) sizes in
-    cut-link front.0 (take kept front.1) (cut_front sizes (drop kept front.1)).0 n p
+run-link ps i r n p = grind (arith, cut-link)
 
 pub run-codes : (s : Setting) (cs : List Code) → (run_of s cs).codes ≡ cs
 unfolding run_of
@@ -149,13 +141,7 @@ module _ (es : List Event) (log : List Edit) (comes : ℕ → List Event) (is_lo
     by-tokens n m previous row tail v w e l = subst (λ (x : List Token). LeavesTokens n m previous row tail x) (sym e) l
 
     law-empty : RunRowLaw empty
-    law-empty n m ps i previous tail h =
-        let same : n ≡ n + 0 = omega arith in
-        by-tokens n m previous empty tail (tokens empty ps i) [] (tokens-empty s pairs_of ps i) (record {
-          events = ap (λ k. edited_from log k tail) same;
-          placed = ap (start log) (sym same) ∙ h.placed ∙ omega arith;
-          fresh = subst (λ (k : ℕ). FreshForRuns k) same h.fresh;
-        })
+    law-empty n m ps i previous tail h = grind (arith, by-tokens, tokens-empty)
 
     leaf-other : (name : Name) (cs : List Code) (rest : Forest) → is_run name ≡ false → RunRowLaw rest →
         RunRowLaw (leaf_then name None cs rest)

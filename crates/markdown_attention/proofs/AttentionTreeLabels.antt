@@ -1,5 +1,5 @@
 -- Rows as the pass of runs wants them, and the groups of labels of such rows.
-use Rattle.std.proofs.Common.{◌≡◌, ℕ, Bool, true, false, ◌&&◌, ◌||◌, List, [], ◌∷◌, length, drop, refl, sym, ◌∙◌, Option, Some, None}
+use Rattle.std.proofs.Common.{◌≡◌, ℕ, Bool, true, false, ◌&&◌, ◌||◌, List, ◌∷◌, length, drop, refl, Option, Some, None, arith, []}
 use Rattle.markdown_attention.proofs.BracketEventsOfGroups.{unlinked-row}
 use Rattle.std.proofs.lemmas.Bool.{or_parts, both_ways}
 use Rattle.markdown_event.specs.declared.event.Content.{Content}
@@ -17,7 +17,6 @@ use Rattle.markdown_attention.specs.RunsOfTree.{has_run, HasRuns}
 use Rattle.markdown_attention.specs.AttentionTrees.{HasStripes}
 use Rattle.markdown_attention.specs.TokenWord.{IsUnlinkedRow}
 use Rattle.markdown_model.specs.Laws
-use Rattle.markdown_model.specs.Laws.{is_link}
 use Rattle.markdown_model.proofs.PlainTrees
 use Rattle.markdown_model.proofs.PlainTrees.{is_mark, is_linked, marks, IsQuiet, mark_laws}
 use Rattle.markdown_attention.proofs.MarkerCodes.{AreRunCodes, IsPlaced}
@@ -43,10 +42,7 @@ same-text Name.LabelText = refl
 same-text name = refl
 
 pub quiet-run : (name : Name) → is_mark name ≡ false → (is_run name ≡ false) × (is_text name ≡ false)
-quiet-run name h =
-    let p = or_parts (Laws.is_run name || PlainTrees.is_text name) (is_link name) h in
-    let q = or_parts (Laws.is_run name) (PlainTrees.is_text name) p.0 in
-    (sym (same-run name) ∙ q.0, sym (same-text name) ∙ q.1)
+quiet-run name h = grind (arith, or_parts, same-run, same-text)
 
 some-linked : {A : Type 0} → (c : Content) → (is_linked (Some c) && true) ≡ false → A
 some-linked c e = cc
@@ -55,17 +51,11 @@ module _ (b : Bool) where
   -- what a quiet leaf or group says of its parts
   leaf-parts : (name : Name) (link : Option Content) (cs : List Code) (rest : Forest) → marks b (leaf_then name link cs rest) ≡ false
       → ((is_mark name ≡ false) × ((is_linked link && b) ≡ false)) × (marks b rest ≡ false)
-  leaf-parts name link cs rest h =
-      let p = or_parts (is_mark name || (is_linked link && b)) (marks b rest) h in
-      let q = or_parts (is_mark name) (is_linked link && b) p.0 in
-      ((q.0, q.1), p.1)
+  leaf-parts name link cs rest h = grind (arith, or_parts)
 
   group-parts : (name : Name) (from to : Point) (inside rest : Forest) → marks b (group_then name from to inside rest) ≡ false
       → (is_mark name ≡ false) × ((marks b inside ≡ false) × (marks b rest ≡ false))
-  group-parts name from to inside rest h =
-      let p = or_parts (is_mark name) (marks b inside || marks b rest) h in
-      let q = or_parts (marks b inside) (marks b rest) p.1 in
-      (p.0, (q.0, q.1))
+  group-parts name from to inside rest h = grind (arith, or_parts)
 
   pub quiet-none : (t : Forest) → marks b t ≡ false → has_run t ≡ false
   quiet-none empty h = refl
@@ -123,9 +113,7 @@ good-run bytes (c ∷ cs) h = (((refl, λ e. h.1.0), tt), (((λ e. (refl, h.0)),
 
 pub good-leaf : (bytes : List ℕ) (name : Name) (cs : List Code) → is_mark name ≡ false → IsGood bytes (leaf name cs)
 good-leaf bytes name [] m = (tt, (tt, (tt, tt)))
-good-leaf bytes name (c ∷ cs) m =
-    let p = quiet-run name m in
-    (((p.1, λ e. absurd (both_ways (is_run name) p.0 e)), tt), (((λ e. absurd (both_ways (is_run name) p.0 e)), tt), ((refl, tt), ((λ e. absurd (both_ways (is_run name) p.0 e)), tt))))
+good-leaf bytes name (c ∷ cs) m = grind (arith, quiet-run, both_ways)
 
 runs-join : (bytes : List ℕ) (x y : Forest) → HasRuns bytes x → HasRuns bytes y → HasRuns bytes (x ⊕ y)
 runs-join bytes empty y h k = k
@@ -183,32 +171,16 @@ label_row kind marker inside back =
 
 module _ (bytes : List ℕ) (kind : LabelKind) (marker : List Code) (inside : Forest) (back : List Code) (g : IsGood bytes inside) where
   good-text : IsGood bytes (label_text kind marker inside back)
-  good-text =
-      let row : IsGood bytes (leaf Name.Data (caret_of kind marker) ⊕ inside) = good-join bytes (leaf Name.Data (caret_of kind marker)) inside (good-leaf bytes Name.Data (caret_of kind marker) refl) g in
-      (((refl, λ e. no-case e), (row.0, tt)), (((refl, λ e. row.1.1.0), (row.1.0, tt)), (tt, (row.1.1.1, tt))))
+  good-text = grind (arith, good-join, good-leaf, no-case)
 
   good-row : IsGood bytes (label_row kind marker inside back)
-  good-row =
-      good-join bytes (start_tree kind (start_marker kind marker)) (label_text kind marker inside back ⊕ group Name.LabelEnd (leaf Name.LabelMarker back))
-      (quiet-good bytes (start_tree kind (start_marker kind marker)) (quiet-start_tree kind (start_marker kind marker)))
-      (good-join bytes (label_text kind marker inside back) (group Name.LabelEnd (leaf Name.LabelMarker back)) good-text
-      (quiet-good bytes (group Name.LabelEnd (leaf Name.LabelMarker back)) (quiet-label_end back)))
+  good-row = grind (arith, good-join, quiet-good, quiet-start_tree, good-text, quiet-label_end)
 
   no-run-row : has_run (label_row kind marker inside back) ≡ false
-  no-run-row =
-      no-run-join (start_tree kind (start_marker kind marker)) (label_text kind marker inside back ⊕ group Name.LabelEnd (leaf Name.LabelMarker back))
-      (quiet-none true (start_tree kind (start_marker kind marker)) (quiet-start_tree kind (start_marker kind marker))) refl
+  no-run-row = grind (arith, no-run-join, quiet-none, quiet-start_tree)
 
   good-label_group : (tail : Forest) → IsQuiet false tail → IsGood bytes (label_group kind marker inside back tail)
-  good-label_group tail q =
-      let name = label-name kind in
-      let none : has_run tail ≡ false = quiet-none false tail q in (
-        ((name.0, λ e. none), (((refl, λ e. no-run-row), (good-row.0, quiet-runs false bytes tail q)), tt)),
-        (
-          ((name.0, λ e. absurd (both_ways (has_run tail) none e)), (((refl, λ e. good-row.1.1.0), (good-row.1.0, quiet-stripes false tail q)), tt)),
-          (tt, ((good-row.1.1.1, quiet-each false (IsPlaced bytes) tail q), tt)),
-        ),
-      )
+  good-label_group tail q = grind (arith, label-name, quiet-none, no-run-row, good-row, quiet-runs, both_ways, quiet-stripes, quiet-each)
 
 -- An element as it is read.
 abbrev pub IsElementRead : List ℕ → Element → Type 0

@@ -1,21 +1,15 @@
 -- Brackets appended one after another.
-use Rattle.std.proofs.Common.{◌≡◌, ℕ, ◌+◌, ◌<◌, ◌≤◌, List, [], ◌∷◌, ◌++◌, length, take, drop, get_or, reverse, refl, sym, ap, ◌∙◌, arith, append_assoc, append-nil}
+use Rattle.std.proofs.Common.{◌≡◌, ℕ, ◌+◌, ◌<◌, ◌≤◌, List, ◌∷◌, ◌++◌, length, take, drop, get_or, reverse, refl, sym, ap, ◌∙◌, arith, append_assoc, append-nil, []}
 use Rattle.std.proofs.lemmas.List.{take_more, take-append-drop, drop_all, drop_more, reverse-append}
 use Rattle.markdown_event.specs.declared.event.Event.{Event}
 use Rattle.markdown_event.specs.declared.event.Point.{Point}
 use Rattle.markdown_attention.specs.RunEvents.{shifted, total, closing_at, opening_at, closings_from, openings_from, data_at, marker_events}
 
 pub shift-shift : (p : Point) (a b : ℕ) → shifted (shifted p a) b ≡ shifted p (a + b)
-shift-shift p a b =
-    let c : p.column + a + b ≡ p.column + (a + b) = omega arith in
-    let d : p.index + a + b ≡ p.index + (a + b) = omega arith in
-    λ i. record p { column = c i; index = d i }
+shift-shift p a b = grind arith
 
 pub shift-none : (p : Point) → p ≡ shifted p 0
-shift-none p =
-    let c : p.column ≡ p.column + 0 = omega arith in
-    let d : p.index ≡ p.index + 0 = omega arith in
-    λ i. record p { column = c i; index = d i }
+shift-none p = grind arith
 
 pub total-append : (ns ms : List ℕ) → total (ns ++ ms) ≡ total ns + total ms
 total-append [] ms = omega arith
@@ -45,10 +39,7 @@ pushed-more m from point next sizes k x old now new l h p e f =
     let sum : total (take k sizes) + x ≡ total (take (k + 1) sizes) = sym (ap total more ∙ total-push (take k sizes) x) in
     record {
       place = e ∙ ap (λ q. shifted q x) p.place ∙ shift-shift from (total (take k sizes)) x ∙ ap (shifted from) sum;
-      events = f
-          ∙ (λ i. p.events i ++ closing_at m (p.place i) x)
-          ∙ append_assoc old (closings_from m from (take k sizes)) (closing_at m (shifted from (total (take k sizes))) x)
-          ∙ ap (λ es. old ++ es) (sym (ap (closings_from m from) more ∙ closings-push m from (take k sizes) x));
+      events = grind (arith, append_assoc, closings-push);
     }
 
 -- there is room for the next
@@ -77,12 +68,7 @@ pub record OpenedBrackets (m : ℕ) (from : Point) (sizes : List ℕ) (k : ℕ) 
 
 pub opened-none : (m : ℕ) (from : Point) (sizes : List ℕ) (k : ℕ) (old : List Event) → length sizes ≤ k →
     OpenedBrackets m from sizes k old from old
-opened-none m from sizes k old l =
-    let none : drop k sizes ≡ [] = drop_all k sizes l in
-    record {
-      place = shift-none from ∙ ap (λ xs. shifted from (total (reverse xs))) (sym none);
-      events = sym (append-nil old) ∙ ap (λ xs. old ++ openings_from m from (reverse xs)) (sym none);
-    }
+opened-none m from sizes k old l = grind (arith, drop_all, shift-none, append-nil)
 
 pub opened-all : (m : ℕ) (from point : Point) (sizes : List ℕ) (k : ℕ) (old now : List Event) → k ≡ 0 →
     OpenedBrackets m from sizes k old point now → now ≡ old ++ openings_from m from (reverse sizes)
@@ -102,10 +88,7 @@ opened-more m from point next sizes k j x old now new s l h p e f =
     let sum : total (reverse (drop k sizes)) + x ≡ total (reverse (drop j sizes)) = sym (ap total more ∙ total-push (reverse (drop k sizes)) x) in
     record {
       place = e ∙ ap (λ q. shifted q x) p.place ∙ shift-shift from (total (reverse (drop k sizes))) x ∙ ap (shifted from) sum;
-      events = f
-          ∙ (λ i. p.events i ++ opening_at m (p.place i) x)
-          ∙ append_assoc old (openings_from m from (reverse (drop k sizes))) (opening_at m (shifted from (total (reverse (drop k sizes)))) x)
-          ∙ ap (λ es. old ++ es) (sym (ap (openings_from m from) more ∙ openings-push m from (reverse (drop k sizes)) x));
+      events = grind (arith, append_assoc, openings-push);
     }
 
 pub total-reverse : (ns : List ℕ) → total (reverse ns) ≡ total ns
@@ -128,10 +111,4 @@ room-open from point sizes k j x s l h e =
 pub all-events : (m : ℕ) (from middle openings : Point) (fronts backs : List ℕ) (kept : ℕ) (none closed left all : List Event) → none ≡ [] → middle ≡ shifted from (total fronts) → openings ≡ shifted middle kept
     → closed ≡ none ++ closings_from m from fronts → left ≡ closed ++ data_at middle kept → all ≡ left ++ openings_from m openings (reverse backs) → all ≡ marker_events m from fronts kept backs
 unfolding marker_events
-all-events m from middle openings fronts backs kept none closed left all n d o c l a =
-    let F : List Event = closings_from m from fronts in
-    let start : openings ≡ shifted from (total fronts + kept) = o ∙ ap (λ q. shifted q kept) d ∙ shift-shift from (total fronts) kept in
-    let first : closed ≡ F = c ∙ ap (λ es. es ++ F) n in
-    a
-    ∙ (λ i. (l ∙ (λ j. first j ++ data_at (d j) kept)) i ++ openings_from m (start i) (reverse backs))
-    ∙ append_assoc F (data_at (shifted from (total fronts)) kept) (openings_from m (shifted from (total fronts + kept)) (reverse backs))
+all-events m from middle openings fronts backs kept none closed left all n d o c l a = grind (arith, shift-shift, append_assoc)

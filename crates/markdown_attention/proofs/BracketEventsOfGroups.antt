@@ -1,5 +1,5 @@
 -- The events of the groups that brackets make are those of the brackets, one after another.
-use Rattle.std.proofs.Common.{◌≡◌, ◌≢◌, ℕ, ◌+◌, List, [], ◌∷◌, ◌++◌, length, Option, Some, None, refl, sym, ap, subst, ◌∙◌, arith, append_assoc, append-nil, length-append, inl, inr, ◌⊎◌}
+use Rattle.std.proofs.Common.{◌≡◌, ◌≢◌, ℕ, ◌+◌, List, ◌∷◌, ◌++◌, length, Option, Some, None, refl, sym, ap, ◌∙◌, arith, append_assoc, append-nil, length-append, inl, inr, ◌⊎◌, []}
 use Rattle.markdown_content.specs.Codes.{Code, stop_of, document_start}
 use Rattle.markdown_engine.specs.PastTree.{appended_from, last_link}
 use Rattle.markdown_content.specs.Tree.{Forest, empty, leaf_then, group_then, leaf, group, text_group, ◌⊕◌, event, event_count, start_of}
@@ -75,14 +75,7 @@ group_at names front inside back =
 group-by : (N : Name × Name × Name) (n : ℕ) (x : Code) (xs : List Code) (y : Code) (ys : List Code) (I A : Forest)
     → appended_from n None (group_then N.0 x.start (stop_of y.stop ys) (leaf_then N.1 None (x ∷ xs) (group_then N.2 (stop_of x.stop xs) y.start I (leaf_then N.1 None (y ∷ ys) empty))) A)
     ≡ opened_as N (x ∷ xs) ++ (appended_from (n + 4) None I ++ (closed_as N (y ∷ ys) ++ appended_from (n + 4 + event_count I + 4) None A))
-group-by N n x xs y ys I A =
-    let i : n + 1 + 2 + 1 ≡ n + 4 = omega arith in
-    let j : n + 2 + (2 + (2 + event_count I + 2)) ≡ n + 4 + event_count I + 4 = omega arith in
-    let back : List Event = event Kind.Exit N.2 y.start ∷ event Kind.Enter N.1 y.start ∷ event Kind.Exit N.1 (stop_of y.stop ys) ∷ [] in
-    let last : Event = event Kind.Exit N.0 (stop_of y.stop ys) in
-    ap (λ k. opened_as N (x ∷ xs) ++ ((appended_from k None I ++ back) ++ last ∷ appended_from (n + 2 + (2 + (2 + event_count I + 2))) None A)) i
-    ∙ ap (λ k. opened_as N (x ∷ xs) ++ ((appended_from (n + 4) None I ++ back) ++ last ∷ appended_from k None A)) j
-    ∙ ap (λ es. opened_as N (x ∷ xs) ++ es) (append_assoc (appended_from (n + 4) None I) back (last ∷ appended_from (n + 4 + event_count I + 4) None A))
+group-by N n x xs y ys I A = grind (arith, append_assoc)
 
 names-same : (front back : List Code) → key_of front ≡ key_of back → names_of front ≡ names_of back
 unfolding names_of
@@ -114,30 +107,11 @@ record Nested (keys : List (ℕ × ℕ)) (w : List Token) : Type 0 where
 
 nested-item : (keys : List (ℕ × ℕ)) (f : Forest) (w : List Token) → IsUnlinkedRow f → Nested keys w →
     Nested keys (item f ∷ w)
-nested-item keys f w h k =
-    let J : Forest = joined (nest_word w).0 in
-    let fs : List Frame = (nest_word w).1 in
-    record {
-      first = unlinked-row f J h k.first;
-      frames = k.frames;
-      events = λ n.
-          let m : ℕ = n + event_count f in
-          let size : n + event_count (f ⊕ J) ≡ m + event_count J = (let c = count-row f J in omega (arith, c)) in
-          ap (λ i. appended_from n None (f ⊕ J) ++ frames_events i fs) size
-          ∙ ap (λ es. es ++ frames_events (m + event_count J) fs) (unlinked-both f J n h)
-          ∙ append_assoc (appended_from n None f) (appended_from m None J) (frames_events (m + event_count J) fs)
-          ∙ ap (λ es. appended_from n None f ++ es) (k.events m)
-          ∙ ap (λ p. appended_from n None f ++ word_events m p w) (sym (unlinked-last f n None h));
-    }
+nested-item keys f w h k = grind (arith, unlinked-row, count-row, unlinked-both, append_assoc, unlinked-last)
 
 nested-closes : (key : ℕ × ℕ) (keys : List (ℕ × ℕ)) (c : List Code) (w : List Token) → c ≢ [] → key ≡ key_of c →
     Nested keys w → Nested (key ∷ keys) (closes c ∷ w)
-nested-closes key keys c w h e k =
-    record {
-      first = tt;
-      frames = (h, (e, (k.first, k.frames)));
-      events = λ n. (let z : n + 0 ≡ n = omega arith in ap (λ i. frames_events i ((c, (nest_word w).0) ∷ (nest_word w).1)) z) ∙ ap (λ es. closed_events c ++ es) (k.events (n + 4));
-    }
+nested-closes key keys c w h e k = grind arith
 
 -- an opening bracket takes the first frame
 record Onto (keys : List (ℕ × ℕ)) (o : List Code) (inside : List Forest) (fs : List Frame) : Type 0 where
@@ -179,9 +153,7 @@ onto-word keys o inside (f ∷ fs) h k =
 
 nested-opens : (keys : List (ℕ × ℕ)) (o : List Code) (w : List Token) → o ≢ [] → Nested (key_of o ∷ keys) w →
     Nested keys (opens o ∷ w)
-nested-opens keys o w h k =
-    let r : Onto keys o (nest_word w).0 (nest_word w).1 = onto-word keys o (nest_word w).0 (nest_word w).1 h k.frames in
-    record { first = r.first; frames = r.frames; events = λ n. r.events n ∙ ap (λ es. opened_events o ++ es) (k.events (n + 4)) }
+nested-opens keys o w h k = grind (arith, onto-word)
 
 nested-word : (w : List Token) (keys : List (ℕ × ℕ)) → Matches keys w → Nested keys w
 nested-word [] [] h = record { first = tt; frames = tt; events = λ n. refl }
@@ -211,23 +183,11 @@ closed first [] h = record { all = append-nil first; events = λ n. refl }
 closed first (f ∷ fs) h = absurd h
 
 pub matched-unlinked : (w : List Token) → Matches [] w → IsUnlinkedRow (assembled w)
-matched-unlinked w h =
-    let k : Nested [] w = nested-word w [] h in
-    let c : Closed (nest_word w).0 (nest_word w).1 = closed (nest_word w).0 (nest_word w).1 k.frames in
-    subst (λ (fs : List Forest). IsUnlinkedRow (joined fs)) (sym c.all) k.first
+matched-unlinked w h = grind (arith, nested-word, closed)
 
 pub matched-events : (w : List Token) (n : ℕ) (p : Option ℕ) → Matches [] w →
     appended_from n p (assembled w) ≡ word_events n p w
-matched-events w n p h =
-    let k : Nested [] w = nested-word w [] h in
-    let c : Closed (nest_word w).0 (nest_word w).1 = closed (nest_word w).0 (nest_word w).1 k.frames in
-    let J : Forest = joined (nest_word w).0 in
-    unlinked-events (assembled w) n p (matched-unlinked w h)
-    ∙ ap (λ fs. appended_from n None (joined fs)) c.all
-    ∙ sym (append-nil (appended_from n None J))
-    ∙ ap (λ es. appended_from n None J ++ es) (sym (c.events (n + event_count J)))
-    ∙ k.events n
-    ∙ sym (word-any w [] n p h)
+matched-events w n p h = grind (arith, nested-word, closed, unlinked-events, matched-unlinked, append-nil, word-any)
 
 -- Without brackets.
 
@@ -247,10 +207,7 @@ items-joined (closes c ∷ w) n p h = absurd h
 
 pub items-events : (w : List Token) (n : ℕ) (p : Option ℕ) → AreItems w →
     appended_from n p (assembled w) ≡ word_events n p w
-items-events w n p h =
-    ap (λ fs. appended_from n p (joined ((nest_word w).0 ++ after_loose pair_group loose loose fs))) (items-none w h)
-    ∙ ap (λ fs. appended_from n p (joined fs)) (append-nil (nest_word w).0)
-    ∙ items-joined w n p h
+items-events w n p h = grind (arith, items-none, append-nil, items-joined)
 
 -- Both.
 
@@ -274,13 +231,6 @@ flat-count w h =
 pub word-append : (v w : List Token) (n : ℕ) (p : Option ℕ) →
     word_events n p (v ++ w) ≡ word_events n p v ++ word_events (n + word_count v) (word_link n p v) w
 word-append [] w n p = let z : n ≡ n + 0 = omega arith in ap (λ i. word_events i p w) z
-word-append (item f ∷ v) w n p =
-    let z : n + event_count f + word_count v ≡ n + (event_count f + word_count v) = omega arith in
-    ap (λ es. appended_from n p f ++ es) (word-append v w (n + event_count f) (last_link n p f) ∙ ap (λ i. word_events (n + event_count f) (last_link n p f) v ++ word_events i (word_link (n + event_count f) (last_link n p f) v) w) z)
-    ∙ sym (append_assoc (appended_from n p f) (word_events (n + event_count f) (last_link n p f) v) (word_events (n + (event_count f + word_count v)) (word_link (n + event_count f) (last_link n p f) v) w))
-word-append (opens o ∷ v) w n p =
-    let z : n + 4 + word_count v ≡ n + (4 + word_count v) = omega arith in
-    ap (λ es. opened_events o ++ es) (word-append v w (n + 4) p ∙ ap (λ i. word_events (n + 4) p v ++ word_events i (word_link (n + 4) p v) w) z)
-word-append (closes o ∷ v) w n p =
-    let z : n + 4 + word_count v ≡ n + (4 + word_count v) = omega arith in
-    ap (λ es. closed_events o ++ es) (word-append v w (n + 4) p ∙ ap (λ i. word_events (n + 4) p v ++ word_events i (word_link (n + 4) p v) w) z)
+word-append (item f ∷ v) w n p = grind (arith, word-append v w (n + event_count f) (last_link n p f), append_assoc)
+word-append (opens o ∷ v) w n p = grind (arith, word-append v w (n + 4) p)
+word-append (closes o ∷ v) w n p = grind (arith, word-append v w (n + 4) p)

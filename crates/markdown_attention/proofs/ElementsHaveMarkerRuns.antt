@@ -1,10 +1,9 @@
 -- The elements of a content are sound, so its tree of labels is striped.
-use Rattle.std.proofs.Common.{◌≡◌, ℕ, false, List, [], ◌∷◌, ◌++◌, refl, sym, subst, Option, Some, None, inl, inr}
+use Rattle.std.proofs.Common.{◌≡◌, ℕ, false, List, ◌∷◌, ◌++◌, refl, sym, subst, Option, Some, None, inl, inr, arith, []}
 use Rattle.markdown_event.specs.declared.event.Name.{Name}
 use Rattle.markdown_content.specs.declared.label_kind.LabelKind.{LabelKind}
 use Rattle.markdown_content.specs.Codes.{Code}
 use Rattle.markdown_content.specs.Tree.{Forest, leaf}
-use Rattle.markdown_model.specs.CodeTests.{is_value}
 use Rattle.markdown_model.specs.Grammar.{Reading, ◌>>=◌, gives, some}
 use Rattle.markdown_model.specs.Setting.{Setting, within}
 use Rattle.markdown_model.specs.LabelEnd.{Element, plain, ends, Label, label_before, outcome_of, label_end}
@@ -20,7 +19,7 @@ use Rattle.markdown_attention.specs.OpenRuns.{IsMarker}
 use Rattle.markdown_attention.proofs.AttentionTreeLabels.{IsGood, IsElementRead, quiet-good, good-run, good-leaf, good-labels}
 use Rattle.markdown_model.proofs.PlainTrees.{IsQuiet, plain-quiet, quiet_after_label}
 use Rattle.markdown_model.proofs.PlainConstructs.{IsPlainTree, ReadsPlain}
-use Rattle.markdown_attention.proofs.MarkerCodes.{AreSingles, AreRunCodes, singles-back, run-leaf}
+use Rattle.markdown_attention.proofs.MarkerCodes.{AreSingles, singles-back, run-leaf}
 
 -- Readings whose values all pass, at codes of a content.
 
@@ -54,12 +53,7 @@ module _ (bytes : List ℕ) where
 
   sound_run : (m : ℕ) → IsMarker m → Sound (attention_run m)
   unfolding attention_run ◌>>=◌ gives
-  sound_run m k = record { at = λ cs h. by_answer (some (is_value m) cs) (run-leaf bytes m cs k h) }
-    where
-      by_answer : (r : Option (List Code × List Code)) → PassesValue (AreRunCodes bytes) r
-          → PassesValue (IsElementRead bytes) (elim r [ None ↦ None | Some x ↦ Some (plain (leaf Name.AttentionSequence x.0), x.1) ])
-      by_answer None h = tt
-      by_answer (Some x) h = good-run bytes x.0 h
+  sound_run m k = grind (arith, run-leaf, good-run)
 
   -- Ends of labels.
 

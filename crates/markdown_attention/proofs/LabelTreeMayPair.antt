@@ -1,16 +1,13 @@
 -- What a caller of the pass of runs has from the tree of labels of a content.
-use Rattle.std.proofs.Common.{◌≡◌, ℕ, ◌+◌, ◌*◌, ◌^◌, ◌<◌, ◌≤◌, true, List, [], length, None, sym, ap, subst, refl, ◌∙◌, arith, append-nil, sum_by}
+use Rattle.std.proofs.Common.{◌≡◌, ℕ, ◌+◌, ◌*◌, ◌^◌, ◌<◌, ◌≤◌, true, List, length, None, sym, ap, subst, refl, ◌∙◌, arith, append-nil, sum_by, []}
 use Rattle.std.specs.List.{count_by}
 use Rattle.markdown_content.specs.Codes.{Code}
 use Rattle.markdown_content.specs.CommonMark.{rules_of}
-use Rattle.markdown_content.specs.Content.{content_of, IsContent}
 use Rattle.markdown_engine.specs.PastTree.{appended_from}
 use Rattle.markdown_content.specs.Tree.{Forest, leaf_codes}
 use Rattle.markdown_content.specs.declared.configuration.ParseOptions.{ParseOptions}
 use Rattle.markdown_event.specs.declared.event.Event.{Event}
-use Rattle.markdown_content.specs.declared.parser.Piece.{Piece}
 use Rattle.markdown_engine.specs.declared.tokenizer.Tokenizer.{Tokenizer}
-use Rattle.markdown_engine.proofs.PlaceBounds.{content_fits}
 use Rattle.markdown_model.specs.Elements.{elements_of, text_choice}
 use Rattle.markdown_model.specs.InlineTree.{label_tree, run_count, pair_count, opener_count, closer_count, paired_whole}
 use Rattle.markdown_model.specs.BracketGroups.{paired}
@@ -31,7 +28,6 @@ use Rattle.markdown_attention.specs.AttentionTrees.{IsStriped}
 use Rattle.markdown_attention.proofs.AttentionEditsLaw.{group-events}
 use Rattle.markdown_attention.proofs.RunCounts.{tree-few, run-count, opener-count, closer-count}
 use Rattle.markdown_attention.proofs.PairCountsOfTree.{pair-count}
-use Rattle.markdown_attention.proofs.RunPlaces.{tree-meets}
 use Rattle.markdown_model.specs.Runs.{rows_of}
 use Rattle.markdown_model.proofs.PairListsWithin.{lists-within}
 
@@ -56,13 +52,6 @@ pub tree-small : (options : ParseOptions) (bytes : List ℕ) (content : List Cod
 tree-small options bytes content t es h e l =
     let few = tree-few options bytes content t 0 0 0 None h in
     subst IsSmall (sym (events-runs options bytes content t es h e)) (record { markers = omega (arith, few.0, l); count = omega (arith, few.1, l) })
-
-pub content-small : (s : Setting) (options : ParseOptions) (bytes : List ℕ) (pieces : List Piece) (content : List Code) (es : List Event) → IsContent bytes pieces → es ≡ appended_from 0 None (label_tree s (content_of bytes pieces))
-    → IsSmall (runs_from options bytes content 0 0 outermost es)
-content-small s options bytes pieces content es h e =
-    let cs : List Code = content_of bytes pieces in
-    let codes : length (leaf_codes (label_tree s cs)) ≡ length cs = ap length (codes-tree s cs) in
-    tree-small options bytes content (label_tree s cs) es (tree-meets bytes s pieces h).runs e (omega (arith, codes, content_fits bytes pieces h))
 
 -- What the pass leaves of the events of a tree of labels.
 
@@ -103,9 +92,7 @@ module _ (T : Tokenizer) (after : List Event) (probes : ℕ) (g : IsGrouped T.pa
   -- the runs are those within the codes of a tree of the content
   grouped-within : (t : Forest) → ((rules_of T.parse_state.now.options.now).neighbours_in_content ≡ true → leaf_codes t ≡ T.cursor.codes) →
       IsGrouped T.parse_state.now.options.now (runs_from T.parse_state.now.options.now T.parse_state.now.bytes.now (leaf_codes t) 0 0 outermost T.events) T.events after probes
-  grouped-within t codes =
-      subst (λ (list : List Sequence). IsGrouped T.parse_state.now.options.now list T.events after probes)
-      (same-runs T.parse_state.now.options.now T.parse_state.now.bytes.now T.cursor.codes (leaf_codes t) T.events (λ on. sym (codes on))) g
+  grouped-within t codes = grind (arith, same-runs)
 
   pub left-paired : HaveRunPlaces T.parse_state.now.bytes.now T.events → (s : Setting) (t : Forest) → IsOf s t T → HasRuns T.parse_state.now.bytes.now t → IsStriped t
       → T.events ≡ appended_from 0 None t → after ≡ appended_from 0 None (paired_whole s (pair_list s) t)

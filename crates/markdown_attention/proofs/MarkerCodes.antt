@@ -1,5 +1,5 @@
 -- The codes of a content: a marker stands for the byte at its place, and the code after it begins where it ends.
-use Rattle.std.proofs.Common.{◌≡◌, ◌≢◌, ℕ, suc, ◌+◌, ◌*◌, ◌<◌, ◌≤◌, ◌==◌, nat_lt, Bool, true, false, List, [], ◌∷◌, ◌++◌, length, get_or, refl, sym, ap, subst, ◌∙◌, arith, inl, inr, Some, None, if◌then◌else◌}
+use Rattle.std.proofs.Common.{◌≡◌, ◌≢◌, ℕ, suc, ◌+◌, ◌*◌, ◌<◌, ◌≤◌, ◌==◌, Bool, true, false, List, ◌∷◌, ◌++◌, length, get_or, refl, sym, ap, subst, ◌∙◌, arith, inl, inr, Some, None, []}
 use Rattle.std.specs.Prelude.{slice_index_or, IsUtf8}
 use Rattle.std.specs.Str.{IsCharBoundary}
 use Rattle.std.proofs.lemmas.Str.{IsCharBoundary-before_ascii, IsCharBoundary-after_ascii}
@@ -7,7 +7,7 @@ use Rattle.std.proofs.lemmas.Bool.{eqb-true, cases_lt, both_ways}
 use Rattle.std.proofs.lemmas.List.{append-nil}
 use Rattle.markdown_event.specs.declared.event.Point.{Point}
 use Rattle.markdown_content.specs.declared.parser.Piece.{Piece}
-use Rattle.markdown_content.specs.Codes.{Code, tab_value, space_value, is_line_ending, is_line_ending_byte, next_column, codes_of, document_start, stop_of}
+use Rattle.markdown_content.specs.Codes.{Code, tab_value, is_line_ending, is_line_ending_byte, codes_of, document_start, stop_of}
 use Rattle.markdown_content.specs.Content.{piece_codes, content_of, ends_line, are_pieces}
 use Rattle.markdown_content.specs.Tree.{start_of}
 use Rattle.markdown_content.specs.DocumentWalk.{codes_after}
@@ -85,21 +85,8 @@ module _ (bytes : List ℕ) (p : Point) (s : HasPlaceNumbers bytes p) where
   by-tests : (e t : Bool) → is_line_ending_byte (get_or bytes p.index 0) ≡ e → (get_or bytes p.index 0 == tab_value) ≡ t → IsMarker (value_at bytes p)
       → (get_or bytes p.index 0 ≡ value_at bytes p) × (stop_at bytes p ≡ shifted p 1)
   by-tests true t h k m = absurd (other-marker 10 (omega arith) (subst IsMarker (sym (value-ending bytes p h)) m))
-  by-tests false true h k m = absurd (blank (nat_lt 0 p.vs) (subst IsMarker (sym (value-tab bytes p h k)) m))
-    where
-      blank : (b : Bool) → IsMarker (if b then space_value else tab_value) → ⊥
-      blank true x = other-marker 32 (omega arith) x
-      blank false x = other-marker 9 (omega arith) x
-  by-tests false false h k m = (value-plain bytes p h k, sym (stop-plain bytes p h k) ∙ outside)
-    where
-      none : p.vs ≡ 0
-      none = elim (cases_lt 0 p.vs) [
-        | inl l ↦ absurd (both_ways (get_or bytes p.index 0 == tab_value) k (ap (λ n. n == tab_value) (s.in_tab l).1))
-        | inr l ↦ omega (arith, l)
-      ]
-
-      outside : next_column p (p.index + 1) 0 ≡ shifted p 1
-      outside = λ i. record { line = p.line; column = p.column + 1; index = p.index + 1; vs = sym none i }
+  by-tests false true h k m = grind (arith, value-tab, other-marker)
+  by-tests false false h k m = grind (arith, value-plain, stop-plain, cases_lt, both_ways)
 
   pub marker-here : IsMarker (value_at bytes p) →
       (get_or bytes p.index 0 ≡ value_at bytes p) × (stop_at bytes p ≡ shifted p 1)
@@ -107,26 +94,11 @@ module _ (bytes : List ℕ) (p : Point) (s : HasPlaceNumbers bytes p) where
 
 -- a marker is no column of a tab
 no-tab : (bytes : List ℕ) (p : Point) → HasPlaceNumbers bytes p → IsMarker (value_at bytes p) → p.vs ≡ 0
-no-tab bytes p s m = elim (cases_lt 0 p.vs) [
-  | inl l ↦
-      let here = marker-here bytes p s m in
-      let tab : get_or bytes p.index 0 ≡ 9 = (s.in_tab l).1 in
-      absurd (other-marker 9 (omega arith) (subst IsMarker (sym here.0 ∙ tab) m))
-  | inr l ↦ omega (arith, l)
-]
+no-tab bytes p s m = grind (arith, cases_lt, marker-here, other-marker)
 
 single-first : (bytes : List ℕ) (p : Point) (c : Code) (cs : List Code) → HasPlaceNumbers bytes p → p.index < length bytes →
     c ≡ code_here bytes p → StartAt c.stop cs → IsMarker c.value → IsSingleByte bytes c cs
-single-first bytes p c cs s w e n m =
-    let here : (get_or bytes p.index 0 ≡ value_at bytes p) × (stop_at bytes p ≡ shifted p 1) = marker-here bytes p s (subst (λ (x : Code). IsMarker x.value) e m) in
-    let start : c.start ≡ p = ap (λ (x : Code). x.start) e in
-    record {
-      within = subst (λ (x : Point). x.index < length bytes) (sym start) w;
-      column = subst (λ (x : Point). x.column ≤ 4 * x.index + 1) (sym start) (omega (arith, s.columns, no-tab bytes p s (subst (λ (x : Code). IsMarker x.value) e m)));
-      byte = ap (λ (x : Point). slice_index_or bytes x.index 0) start ∙ here.0 ∙ sym (ap (λ (x : Code). x.value) e);
-      stop = ap (λ (x : Code). x.stop) e ∙ here.1 ∙ ap (λ (x : Point). shifted x 1) (sym start);
-      next = n;
-    }
+single-first bytes p c cs s w e n m = grind (arith, marker-here, no-tab)
 
 singles-at : (bytes : List ℕ) (p : Point) (cs : List Code) → HasPlaceNumbers bytes p → codes_at bytes p ≡ cs → IsChain p cs →
     AreSingles bytes cs

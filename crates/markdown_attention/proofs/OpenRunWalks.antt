@@ -1,5 +1,5 @@
 -- What a walk over a list of open runs has seen.
-use Rattle.std.proofs.Common.{◌≡◌, ℕ, zero, suc, ◌+◌, ◌-◌, ◌<◌, ◌≤◌, Bool, true, cond, ◌&&◌, eqb, leb, List, get_or, refl, sym, ◌∙◌, ap, subst, inl, inr, arith}
+use Rattle.std.proofs.Common.{◌≡◌, ℕ, zero, suc, ◌+◌, ◌-◌, ◌<◌, ◌≤◌, Bool, true, cond, eqb, List, get_or, sym, ◌∙◌, ap, subst, inl, inr, arith}
 use Rattle.std.proofs.lemmas.Bool.{cases_eq, cases_lt, cases_Bool, eq-eqb, ne_eqb, and_parts, and_from, le-leb, leb-true, both_ways, eqb-true}
 use Rattle.markdown_attention.specs.declared.attention.runs.Sequence.{Sequence}
 use Rattle.markdown_content.specs.declared.configuration.ParseOptions.{ParseOptions}
@@ -10,14 +10,7 @@ use Rattle.markdown_attention.proofs.ProbePotential.{upto_le, upto_add, upto_has
 module _ (options : ParseOptions) (list : List Sequence) (older : List ℕ) (mark turn : ℕ) (key : ℕ → ℕ) (open_at : ℕ → Bool) (q : ℕ)
     (older_are : (r : ℕ) → r < turn → open_at r ≡ true → Newest key open_at (key r) r (get_or older r 0)) where
   looked_no : (b r : ℕ) → (b ≤ r → key r ≡ q → open_at r ≡ true → ⊥) → ◌≡◌ {A = ℕ} (looked key open_at q b r) 0
-  looked_no b r never =
-      elim (cases_Bool (leb b r && (eqb (key r) q && open_at r))) [
-        | inr e ↦ ap (λ x. cond x 1 0) e
-        | inl e ↦
-            let p = and_parts (leb b r) (eqb (key r) q && open_at r) e in
-            let p' = and_parts (eqb (key r) q) (open_at r) p.1 in
-            absurd (never (leb-true b r p.0) (eqb-true (key r) q p'.0) p'.1)
-      ]
+  looked_no b r never = grind (arith, cases_Bool, and_parts, leb-true, eqb-true)
 
   looked_yes : (b r : ℕ) → b ≤ r → key r ≡ q → open_at r ≡ true → ◌≡◌ {A = ℕ} (looked key open_at q b r) 1
   looked_yes b r low k o = ap (λ x. cond x 1 0) (and_from _ _ (le-leb b r low) (and_from _ _ (eq-eqb (key r) q k) o))
@@ -25,18 +18,7 @@ module _ (options : ParseOptions) (list : List Sequence) (older : List ℕ) (mar
   -- looked from b counts at most what is looked from b', where no run from b on is left out
   looked_le : (b b' r : ℕ) → (b ≤ r → key r ≡ q → open_at r ≡ true → b' ≤ r) →
       looked key open_at q b r ≤ looked key open_at q b' r
-  looked_le b b' r h =
-      elim (cases_Bool (leb b r && (eqb (key r) q && open_at r))) [
-        | inr e ↦ (let a : ◌≡◌ {A = ℕ} (looked key open_at q b r) 0 = ap (λ x. cond x 1 0) e in omega arith)
-        | inl e ↦
-            let p = and_parts (leb b r) (eqb (key r) q && open_at r) e in
-            let p' = and_parts (eqb (key r) q) (open_at r) p.1 in
-            let k = eqb-true (key r) q p'.0 in
-            let low = leb-true b r p.0 in
-            let a = looked_yes b r low k p'.1 in
-            let c = looked_yes b' r (h low k p'.1) k p'.1 in
-            omega arith
-      ]
+  looked_le b b' r h = grind (arith, cases_Bool, and_parts, eqb-true, leb-true, looked_yes)
 
   pub record Seen (n next : ℕ) : Type 0 where
     pub bound : ℕ
@@ -47,14 +29,7 @@ module _ (options : ParseOptions) (list : List Sequence) (older : List ℕ) (mar
 
   pub seen : (head n next : ℕ) → Newest key open_at q turn head → Passed options list older mark turn head n next →
       Seen n next
-  seen head zero next top h =
-      record {
-        bound = turn;
-        within = omega arith;
-        newest = subst (λ x. Newest key open_at q turn x) (sym h) top;
-        refused = λ r low high k o. absurd (omega arith);
-        count = omega arith;
-      }
+  seen head zero next top h = grind arith
   seen head (suc n) next top h =
       let r = h.0 in
       let s = seen head n (suc r) top h.1 in
@@ -69,17 +44,7 @@ module _ (options : ParseOptions) (list : List Sequence) (older : List ℕ) (mar
       let between : (i : ℕ) → r < i → i < s.bound → key i ≡ q → open_at i ≡ true → ⊥ =
       (λ i low high k e. both_ways (open_at i) (s.newest.none_above i (omega arith) high k) e) in
       let each : (i : ℕ) → i < turn → looked key open_at q s.bound i + cond (eqb i r) 1 0 ≤ looked key open_at q r i =
-      λ i _. elim (cases_eq i r) [
-        | inl e ↦
-            let a : ◌≡◌ {A = ℕ} (looked key open_at q s.bound i) 0 = looked_no s.bound i (λ low k e'. omega arith) in
-            let b : ◌≡◌ {A = ℕ} (cond (eqb i r) 1 0) 1 = rw (eq-eqb i r e) refl in
-            let c = looked_yes r i (omega arith) (ap key e ∙ l) (ap open_at e ∙ o) in
-            omega arith
-        | inr ne ↦
-            let b : ◌≡◌ {A = ℕ} (cond (eqb i r) 1 0) 0 = rw (ne_eqb i r ne) refl in
-            let c = looked_le s.bound r i (λ low k e'. omega arith) in
-            omega arith
-      ] in
+      λ i _. grind (arith, cases_eq, looked_no, eq-eqb, looked_yes, ne_eqb, looked_le) in
       let sum = upto_le (λ i. looked key open_at q s.bound i + cond (eqb i r) 1 0) (looked key open_at q r) turn each in
       let split = upto_add (looked key open_at q s.bound) (λ i. cond (eqb i r) 1 0) turn in
       let one = upto_has r turn inside in
@@ -107,23 +72,7 @@ module _ (options : ParseOptions) (list : List Sequence) (older : List ℕ) (mar
 
   pub found_open : (head o looks : ℕ) → Newest key open_at q turn head →
       WalkFound options list older mark turn head o looks → FoundOpen head o looks
-  found_open head o looks top f =
-      let s = seen head f.refused (suc o) top f.passed in
-      let w = s.newest.within (omega arith) in
-      let sw = s.within in
-      let same : o ≡ suc o - 1 = omega arith in
-      let sum = upto_le (looked key open_at q s.bound) (looked key open_at q (o + 1)) turn
-      (λ r _. looked_le s.bound (o + 1) r (λ low k e. omega arith)) in
-      record {
-        before = omega arith;
-        listed = ap key same ∙ s.newest.listed (omega arith);
-        is_open = ap open_at same ∙ s.newest.is_open (omega arith);
-        refused = λ r low high k e. elim (cases_lt r s.bound) [
-          | inl below ↦ absurd (both_ways (open_at r) (s.newest.none_above r (omega arith) below k) e)
-          | inr above ↦ s.refused r above high k e
-        ];
-        count = (let c = s.count in let l = f.counted in omega arith);
-      }
+  found_open head o looks top f = grind (arith, seen, upto_le, looked_le, cases_lt, both_ways)
 
   pub record NoneOpen (head looks : ℕ) : Type 0 where
     pub refused : (r : ℕ) → mark ≤ r → r < turn → key r ≡ q → open_at r ≡ true → Refused options list mark turn r
@@ -131,18 +80,4 @@ module _ (options : ParseOptions) (list : List Sequence) (older : List ℕ) (mar
 
   pub none_open : (head looks : ℕ) → Newest key open_at q turn head →
       WalkEnded options list older mark turn head looks → NoneOpen head looks
-  none_open head looks top f =
-      let s = seen head f.refused f.next top f.passed in
-      let m = f.marked in
-      let sum = upto_le (looked key open_at q s.bound) (looked key open_at q mark) turn
-      (λ r l. elim (cases_lt r s.bound) [
-        | inl below ↦ (let a : ◌≡◌ {A = ℕ} (looked key open_at q s.bound r) 0 = looked_no s.bound r (λ low k e. omega arith) in omega arith)
-        | inr above ↦ looked_le s.bound mark r (λ low k e. (s.refused r low l k e).unmarked)
-      ]) in
-      record {
-        refused = λ r low high k e. elim (cases_lt r s.bound) [
-          | inl below ↦ absurd (both_ways (open_at r) (s.newest.none_above r (omega arith) below k) e)
-          | inr above ↦ s.refused r above high k e
-        ];
-        count = (let c = s.count in let l = f.counted in omega arith);
-      }
+  none_open head looks top f = grind (arith, seen, upto_le, cases_lt, looked_no, looked_le, both_ways)

@@ -1,5 +1,5 @@
 -- The pairs of all containers of a tree are as many as those of one scan over all runs.
-use Rattle.std.proofs.Common.{◌≡◌, ℕ, zero, suc, ◌+◌, ◌<◌, ◌≤◌, ◌==◌, Bool, true, false, if◌then◌else◌, cond, List, [], ◌∷◌, ◌++◌, length, map, Option, Some, None, refl, sym, ap, subst, ◌∙◌, arith, inl, inr, ◌⊎◌, sum_by}
+use Rattle.std.proofs.Common.{◌≡◌, ℕ, zero, suc, ◌+◌, ◌<◌, ◌≤◌, ◌==◌, Bool, true, false, if◌then◌else◌, List, ◌∷◌, ◌++◌, length, map, Option, Some, None, refl, sym, ap, subst, ◌∙◌, arith, inl, inr, ◌⊎◌, sum_by, []}
 use Rattle.std.specs.Prelude.{All}
 use Rattle.std.proofs.lemmas.Bool.{cases_lt, eq-eqb, ne_eqb, cases_Bool}
 use Rattle.std.proofs.lemmas.List.{length-map}
@@ -49,11 +49,7 @@ row-no : (r m : ℕ) → (r ≡ m → ⊥) → is_row r m ≡ 0
 row-no r m e = ap (λ (b : Bool). if b then 1 else 0) (ne_eqb r m e)
 
 row-few : (r m : ℕ) → is_row r m ≤ 1
-row-few r m = by_test (r == m)
-  where
-    by_test : (b : Bool) → (if b then 1 else 0) ≤ 1
-    by_test true = omega arith
-    by_test false = omega arith
+row-few r m = grind arith
 
 sums-append : (f : ℕ → ℕ) (xs ys : Texts) → sums f (xs ++ ys) ≡ sums f xs + sums f ys
 sums-append f [] ys = omega arith
@@ -85,26 +81,14 @@ own-no f m name inside e = ap (λ (b : Bool). sums f (if b then (m, inside) ∷ 
 group-sums : (f : ℕ → ℕ) (m : ℕ) (name : Name) (a b : Point) (inside rest : Forest)
     → sums f (texts_of m (group_then name a b inside rest))
     ≡ sums f (own m name inside) + (sums f (texts_of (m + as_text name) inside) + sums f (texts_of (m + as_text name + text_count inside) rest))
-group-sums f m name a b inside rest =
-    sums-append f (own m name inside) (texts_of (m + as_text name) inside ++ texts_of (m + as_text name + text_count inside) rest)
-    ∙ ap (λ x. sums f (own m name inside) + x) (sums-append f (texts_of (m + as_text name) inside) (texts_of (m + as_text name + text_count inside) rest))
+group-sums f m name a b inside rest = grind (arith, sums-append)
 
 -- its row is the next, if it is a text
 own-out : (r m : ℕ) (name : Name) (inside : Forest) → (r ≤ m) ⊎ (m + as_text name < r) → hits r (own m name inside) ≡ 0
-own-out r m name inside far = elim (cases_Bool (is_text name)) [
-  | inl e ↦
-      let one : as_text name ≡ 1 = ap (λ (b : Bool). if b then 1 else 0) e in
-      let ne : r ≡ m + 1 → ⊥ = (λ k. elim far [ inl l ↦ omega (arith, l, k) | inr l ↦ omega (arith, l, k, one) ]) in
-      let x : hits r (own m name inside) ≡ is_row r (m + 1) + 0 = own-yes (is_row r) m name inside e in
-      omega (arith, x, row-no r (m + 1) ne)
-  | inr e ↦ own-no (is_row r) m name inside e
-]
+own-out r m name inside far = grind (arith, cases_Bool, own-yes, row-no, own-no)
 
 own-few : (r m : ℕ) (name : Name) (inside : Forest) → hits r (own m name inside) ≤ 1
-own-few r m name inside = elim (cases_Bool (is_text name)) [
-  | inl e ↦ let x : hits r (own m name inside) ≡ is_row r (m + 1) + 0 = own-yes (is_row r) m name inside e in omega (arith, x, row-few r (m + 1))
-  | inr e ↦ let x : hits r (own m name inside) ≡ 0 = own-no (is_row r) m name inside e in omega (arith, x)
-]
+own-few r m name inside = grind (arith, cases_Bool, own-yes, row-few, own-no)
 
 -- Rows of texts are different: texts are counted.
 
@@ -129,11 +113,7 @@ hits-high (group_then name a b inside rest) m r l =
     omega (arith, group-sums (is_row r) m name a b inside rest, x, y, z)
 
 cases-le : (a b : ℕ) → (a ≤ b) ⊎ (b < a)
-cases-le a b = by_test (cases_lt b a)
-  where
-    by_test : (b < a) ⊎ (a ≤ b) → (a ≤ b) ⊎ (b < a)
-    by_test (inl l) = inr l
-    by_test (inr l) = inl l
+cases-le a b = grind (arith, cases_lt)
 
 hits-once : (t : Forest) (m r : ℕ) → hits r (texts_of m t) ≤ 1
 hits-once empty m r = omega arith
@@ -150,12 +130,7 @@ hits-once (group_then name a b inside rest) m r =
           let y : hits r (texts_of m' inside) ≡ 0 = hits-low inside m' r l in
           let z : hits r (texts_of past rest) ≡ 0 = hits-low rest past r (omega (arith, l)) in
           omega (arith, parts, in_own, y, z)
-      | inr l ↦
-          let x : hits r (own m name inside) ≡ 0 = own-out r m name inside (inr l) in
-          elim (cases-le r past) [
-            | inl u ↦ let z : hits r (texts_of past rest) ≡ 0 = hits-low rest past r u in omega (arith, parts, in_front, x, z)
-            | inr u ↦ let y : hits r (texts_of m' inside) ≡ 0 = hits-high inside m' r u in omega (arith, parts, in_back, x, y)
-          ]
+      | inr l ↦ grind (arith, own-out, cases-le, hits-low, hits-high)
     ]
 
 -- The row of each run is that of the whole or of a text.
@@ -231,12 +206,7 @@ module _ (list : List Sequence) (texts : Texts) where
   in_row ps m = length (pairs_in list m ps)
 
   one-more : (p : Pair) (ps : List Pair) (m : ℕ) → in_row (p ∷ ps) m ≡ is_row (row_in p) m + in_row ps m
-  one-more p ps m = by_test (row_in p == m)
-    where
-      by_test : (b : Bool) →
-          length (cond b (p ∷ pairs_in list m ps) (pairs_in list m ps)) ≡ (if b then 1 else 0) + in_row ps m
-      by_test true = omega arith
-      by_test false = omega arith
+  one-more p ps m = grind arith
 
   -- each pair is of one container
   abbrev AreOnce : List Pair → Type 0
@@ -289,14 +259,7 @@ module _ (s : Setting) (options : ParseOptions) (bytes : List ℕ) (content : Li
       let rows : sum_by count_of (rows_inside s (group_then name a b inside rest)) ≡ sum_by count_of (runs_of s inside ∷ rows_inside s inside) + sum_by count_of (rows_inside s rest) =
       ap (λ z. sum_by count_of z) (rows-group s name a b inside rest) ∙ sum_by-append count_of (runs_of s inside ∷ rows_inside s inside) (rows_inside s rest) in
       let first : sum_by count_of (runs_of s inside ∷ rows_inside s inside) ≡ count_of (runs_of s inside) + sum_by count_of (rows_inside s inside) = sum_by-cons count_of (runs_of s inside) (rows_inside s inside) in
-      let it : count_of (runs_of s inside) ≡ sums of_row (own m name inside) = elim (cases_Bool (is_text name)) [
-        | inl e ↦
-            let z : EachText ((m, inside) ∷ []) = subst (λ (b : Bool). EachText (if b then (m, inside) ∷ [] else [])) e x.0 in
-            let w : sums of_row (own m name inside) ≡ of_row (m + 1) + 0 = own-yes of_row m name inside e in
-            omega (arith, z.0, w)
-        | inr e ↦
-            ap (λ z. count_of z) (none-in s options bytes content same given held inside (h.0.1 e)) ∙ empty-list s ∙ sym (own-no of_row m name inside e)
-      ] in
+      let it : count_of (runs_of s inside) ≡ sums of_row (own m name inside) = grind (arith, cases_Bool, own-yes, none-in, empty-list, own-no) in
       omega (arith, front, back, rows, first, it, group-sums of_row m name a b inside rest)
 
 module _ (s : Setting) (options : ParseOptions) (bytes : List ℕ) (content : List Code) (same : s.bytes ≡ bytes) (given : s.options ≡ options) (held : s.content ≡ content) (t : Forest) (h : HasRuns bytes t)
@@ -321,18 +284,7 @@ module _ (s : Setting) (options : ParseOptions) (bytes : List ℕ) (content : Li
 
     once-all : (ps : List Pair) → ArePairsWithin all_runs ps → AreOnce all_runs (texts_of 0 t) ps
     once-all [] w = tt
-    once-all (p ∷ ps) w =
-        let r : ℕ = row_of (run_at all_runs p.closer).text in
-        let few : hits r (texts_of 0 t) ≤ 1 = hits-once t 0 r in
-        let here : is_row r 0 + hits r (texts_of 0 t) ≡ 1 = elim (every-at (IsInRowOrTexts 0 (texts_of 0 t)) all_runs p.closer w.0.within (stays-tree options bytes content t 0 0 0 None)) [
-          | inl e ↦
-              let low : hits r (texts_of 0 t) ≡ 0 = hits-low t 0 r (omega (arith, e)) in
-              omega (arith, row-yes r 0 e, low)
-          | inr l ↦
-              let apart : r ≡ 0 → ⊥ = (λ e. let low : hits r (texts_of 0 t) ≡ 0 = hits-low t 0 r (omega (arith, e)) in omega (arith, low, l)) in
-              omega (arith, row-no r 0 apart, few, l)
-        ] in
-        (here, once-all ps w.1)
+    once-all (p ∷ ps) w = grind (arith, hits-once, every-at, stays-tree, hits-low, row-yes, row-no, once-all ps w.1)
 
     pub pair-count : sum_by (λ rs. length (pair_list s rs)) (rows_of s t) ≡ length pairs
     unfolding rows_of

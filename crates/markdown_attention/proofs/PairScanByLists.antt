@@ -1,5 +1,5 @@
 -- The invariant of the scan by lists, and its steps.
-use Rattle.std.proofs.Common.{◌≡◌, ℕ, zero, suc, ◌+◌, ◌-◌, ◌*◌, ◌<◌, ◌≤◌, Bool, true, false, eqb, List, [], ◌∷◌, ◌++◌, length, get_or, refl, sym, ◌∙◌, ap, subst, inl, inr, ◌⊎◌, arith, add-one}
+use Rattle.std.proofs.Common.{◌≡◌, ℕ, zero, suc, ◌+◌, ◌-◌, ◌*◌, ◌<◌, ◌≤◌, Bool, true, false, eqb, List, ◌∷◌, ◌++◌, length, get_or, refl, sym, ◌∙◌, ap, subst, inl, inr, ◌⊎◌, arith, add-one, []}
 use Rattle.std.proofs.lemmas.Bool.{cases_eq, cases_lt, cases_Bool, both_ways}
 use Rattle.std.proofs.lemmas.List.{length_push, get_or_append_left, get_or_push}
 use Rattle.std.specs.Prelude.{IsTrue, All}
@@ -95,15 +95,7 @@ module _ (older : List ℕ) (turn : ℕ) (key : ℕ → ℕ) (open_at : ℕ → 
 
   pub cut_newest : (head next : ℕ) → o < turn → Newest key open_at q turn head → IsCut older o head next →
       Newest key open_at q (o + 1) next
-  cut_newest head next l top c =
-      let s = cut_from head c.steps next l top c.cut in
-      let b = s.low in
-      record {
-        none_above = λ r low high k. s.newest.none_above r low (omega arith) k;
-        within = λ some. c.low;
-        listed = s.newest.listed;
-        is_open = s.newest.is_open;
-      }
+  cut_newest head next l top c = grind (arith, cut_from)
 
 module _ (layout : Layout) (options : ParseOptions) (runs list : List Sequence) (turn : ℕ) (pairs : List Pair) (probes : ℕ) (heads older marks : List ℕ)
     (h : Inv layout.line options runs list turn pairs probes heads older marks) (here : turn < length runs) (by : ListsByMarker runs)
@@ -213,10 +205,7 @@ module _ (layout : Layout) (options : ParseOptions) (runs list : List Sequence) 
   refuses : (r : ℕ) → r < turn → list_of layout.line runs r ≡ k
       → sizes_fit options (run_at runs r) (run_at runs turn) (left runs (own runs pairs r) r) (left runs (own runs pairs turn) turn) ≡ false
       → RefusesCloser options (run_at runs r) (left runs (own runs pairs r) r) class
-  refuses r l key unfit = λ b y m e.
-      class_decides options (run_at runs r) b (run_at runs turn) (left runs (own runs pairs r) r) y (left runs (own runs pairs turn) turn)
-      (m ∙ same_marker layout runs r turn by (omega arith) here key) (e ∙ sym class_is)
-      ∙ unfit
+  refuses r l key unfit = λ b y m e. grind (arith, class_decides, same_marker, class_is)
 
   unfit_of : (mark r : ℕ) → r < turn → Refused options list mark turn r
       → sizes_fit options (run_at runs r) (run_at runs turn) (left runs (own runs pairs r) r) (left runs (own runs pairs turn) turn) ≡ false
@@ -313,11 +302,7 @@ module _ (layout : Layout) (options : ParseOptions) (runs list : List Sequence) 
         }
 
     pub taking_fits : (0 < size) × (size ≤ (run_at list o).remaining) × (size ≤ (run_at list turn).remaining)
-    taking_fits =
-        let before : o < turn = found.before in
-        let o_is : run_at list o ≡ standing runs pairs o = h.stands.stands o (omega arith) in
-        let a : 0 < (run_at list o).remaining = subst (λ x. 0 < x.remaining) (sym o_is) (open_parts runs pairs o found.is_open).some_left in
-        fits_size (run_at list o).remaining (run_at list turn).remaining size a some is_size
+    taking_fits = grind (arith, found, open_parts, fits_size)
 
     abbrev container : ℕ
     container = row_of (run_at runs turn).text
@@ -332,9 +317,7 @@ module _ (layout : Layout) (options : ParseOptions) (runs list : List Sequence) 
 
     not_in_container : (r i : ℕ) → list_of layout.line runs r ≡ i → (i < line * 3) ⊎ (line * 3 + 3 ≤ i) →
         (row_of (run_at runs r).text) ≡ container → ⊥
-    not_in_container r i e far c = let z = kinds (run_at runs r).marker in
-        let same : layout.line (row_of (run_at runs r).text) ≡ line = ap layout.line c in
-        elim far [ inl below ↦ omega arith | inr above ↦ omega arith ]
+    not_in_container r i e far c = grind (arith, kinds)
 
     pub inv_pair : (heads' marks' : List ℕ) → looks ≤ turn → length heads' ≡ length heads
         → ((i : ℕ) → i < length heads → (i < line * 3) ⊎ (line * 3 + 3 ≤ i) → get_or heads' i 0 ≡ get_or heads i 0)
@@ -449,33 +432,4 @@ module _ (layout : Layout) (options : ParseOptions) (runs list : List Sequence) 
 pub inv_start : (layout : Layout) (options : ParseOptions) (runs : List Sequence) (heads marks : List ℕ) → AreUntaken runs
     → ((i : ℕ) → get_or heads i 0 ≡ 0) → ((i : ℕ) → get_or marks i 0 ≡ 0) → Inv layout.line options runs runs 0 [] 0 heads [] marks
 unfolding taken
-inv_start layout options runs heads marks whole no_heads no_marks =
-    record {
-      stands = record {
-        same_length = refl;
-        stands = λ i inside.
-            let w : (run_at runs i).remaining ≡ (run_at runs i).size = whole i inside in
-            let z : (run_at runs i).remaining ≡ (run_at runs i).size - 0 = omega arith in
-            ap (λ x. let r : Sequence = record (run_at runs i) { remaining = x } in r) z;
-      };
-      scanned = scanned_none options runs;
-      within = omega arith;
-      half = omega arith;
-      least = omega arith;
-      most = omega arith;
-      paid = omega arith;
-      lists = record {
-        older_length = refl;
-        older_down = λ r l. absurd (omega arith);
-        heads_le = λ i li. (let z = no_heads i in omega arith);
-        heads_are = λ i li. rw (no_heads i) (record {
-          none_above = λ r low high key. absurd (omega arith);
-          within = λ some. absurd (omega arith);
-          listed = λ some. absurd (omega arith);
-          is_open = λ some. absurd (omega arith);
-        });
-        older_are = λ r l e. absurd (omega arith);
-        marks_le = λ i c li lc. (let z = no_marks (i * 6 + c) in omega arith);
-        refusals = λ r c l lc e low. absurd (omega arith);
-      };
-    }
+inv_start layout options runs heads marks whole no_heads no_marks = grind (arith, scanned_none)

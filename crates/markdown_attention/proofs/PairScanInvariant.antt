@@ -1,5 +1,5 @@
 -- What one scan over all containers keeps true of each container's pairs.
-use Rattle.std.proofs.Common.{◌≡◌, ℕ, ◌+◌, ◌≤◌, eqb, cond, Bool, true, false, refl, ap, List, [], ◌∷◌, ◌++◌, sym, ◌∙◌, subst, inl, inr, arith, append_assoc, append-nil}
+use Rattle.std.proofs.Common.{◌≡◌, ℕ, ◌+◌, ◌≤◌, eqb, cond, Bool, true, false, refl, List, ◌∷◌, ◌++◌, sym, subst, inl, inr, arith, append_assoc, append-nil, []}
 use Rattle.std.proofs.lemmas.Bool.{cases_lt, cases_eq, eq-eqb, ne_eqb}
 use Rattle.std.proofs.lemmas.List.Elements.{All-head, All-tail, All-push, All-nil, filter-append, All-filter, All-weaker}
 use Rattle.std.specs.Prelude.{All}
@@ -7,7 +7,7 @@ use Rattle.markdown_attention.specs.declared.attention.runs.Sequence.{Sequence}
 use Rattle.markdown_attention.specs.declared.attention.pairing.Pair.{Pair}
 use Rattle.markdown_content.specs.declared.configuration.ParseOptions.{ParseOptions}
 use Rattle.markdown_attention.specs.RunContainers.{ArePairsWithin, AreTakenOnce, AreByCloser}
-use Rattle.markdown_attention.specs.NumberedPairs.{row_of, Eligible, IsNextNumbered, PairsFrom, NoneEligibleBetween, run_at, pairs_in, taken, takes, left}
+use Rattle.markdown_attention.specs.NumberedPairs.{row_of, Eligible, IsNextNumbered, PairsFrom, run_at, pairs_in, taken}
 use Rattle.markdown_attention.proofs.RemainingSizes.{taken_push, takes_opener, takes_closer, takes_other, fits_size}
 
 module _ (options : ParseOptions) (runs : List Sequence) (k : ℕ) where
@@ -16,14 +16,7 @@ module _ (options : ParseOptions) (runs : List Sequence) (k : ℕ) where
       → ((o : ℕ) → Eligible options runs k (done ++ ps) o end → ⊥)
       → PairsFrom options runs k (end + 1) done last ps
   pairs_extend end done last [] h none =
-      λ o c low high e.
-      elim (cases_lt c end) [
-        | inl below ↦ h o c low below e
-        | inr above ↦
-            let same : c ≡ end = omega arith in
-            none o (subst (λ x. Eligible options runs k x o end) (sym (append-nil done))
-            (subst (λ x. Eligible options runs k done o x) same e))
-      ]
+      λ o c low high e. grind (arith, cases_lt, append-nil)
   pairs_extend end done last (p ∷ ps) h none = (
     h.0,
     pairs_extend end (done ++ p ∷ []) p.closer ps h.1
@@ -34,17 +27,7 @@ module _ (options : ParseOptions) (runs : List Sequence) (k : ℕ) where
       → PairsFrom options runs k end done last ps → last ≤ end → All (λ p. p.closer ≤ end) ps → q.closer ≡ end
       → IsNextNumbered options runs k (done ++ ps) end q
       → PairsFrom options runs k end done last (ps ++ q ∷ [])
-  pairs_push end done last [] q h up all at next =
-      let next' : IsNextNumbered options runs k done end q = subst (λ x. IsNextNumbered options runs k x end q) (append-nil done) next in (
-        record {
-          eligible = next'.eligible;
-          size = next'.size;
-          forward = omega arith;
-          leftmost = subst (λ x. NoneEligibleBetween options runs k done last x) (sym at) h;
-          nearest = next'.nearest;
-        },
-        (λ o c low high e. absurd (omega arith)),
-      )
+  pairs_push end done last [] q h up all at next = grind (arith, append-nil)
   pairs_push end done last (p ∷ ps) q h up all at next = (
     h.0,
     pairs_push end (done ++ p ∷ []) p.closer ps q h.1 (All-head (λ p. p.closer ≤ end) p ps all)
@@ -68,15 +51,11 @@ by_closer_push (p ∷ ps) q h s = (
 module _ (runs : List Sequence) where
   pub in_other : (k : ℕ) (pairs : List Pair) (q : Pair) → ((row_of (run_at runs q.closer).text) ≡ k → ⊥)
       → pairs_in runs k (pairs ++ q ∷ []) ≡ pairs_in runs k pairs
-  in_other k pairs q ne =
-      filter-append (λ p. eqb (row_of (run_at runs p.closer).text) k) pairs (q ∷ [])
-      ∙ rw (ne_eqb (row_of (run_at runs q.closer).text) k ne) (append-nil _)
+  in_other k pairs q ne = grind (arith, filter-append, ne_eqb, append-nil)
 
   pub in_own : (k : ℕ) (pairs : List Pair) (q : Pair) → (row_of (run_at runs q.closer).text) ≡ k
       → pairs_in runs k (pairs ++ q ∷ []) ≡ pairs_in runs k pairs ++ q ∷ []
-  in_own k pairs q e =
-      filter-append (λ p. eqb (row_of (run_at runs p.closer).text) k) pairs (q ∷ [])
-      ∙ rw (eq-eqb (row_of (run_at runs q.closer).text) k e)
+  in_own k pairs q e = grind (arith, filter-append, eq-eqb)
 
 module _ (options : ParseOptions) (runs : List Sequence) where
   pub scanned_none : Scanned options runs 0 []
@@ -85,15 +64,7 @@ module _ (options : ParseOptions) (runs : List Sequence) where
   pub scanned_next : (turn : ℕ) (pairs : List Pair) → Scanned options runs turn pairs
       → ((o : ℕ) → Eligible options runs (row_of (run_at runs turn).text) (pairs_in runs (row_of (run_at runs turn).text) pairs) o turn → ⊥)
       → Scanned options runs (turn + 1) pairs
-  scanned_next turn pairs h none =
-      record {
-        lists = λ k. pairs_extend options runs k turn [] 0 (pairs_in runs k pairs) (h.lists k)
-            (λ o e.
-            let own : (row_of (run_at runs turn).text) ≡ k = e.closer_in in
-            none o (subst (λ x. Eligible options runs x (pairs_in runs x pairs) o turn) (sym own) e));
-        closers = All-weaker (λ p. p.closer ≤ turn) (λ p. p.closer ≤ turn + 1) (λ p b. omega arith) pairs h.closers;
-        order = h.order;
-      }
+  scanned_next turn pairs h none = grind (arith, pairs_extend)
 
   pub scanned_pair : (turn : ℕ) (pairs : List Pair) (q : Pair) → Scanned options runs turn pairs → q.closer ≡ turn
       → IsNextNumbered options runs (row_of (run_at runs turn).text) (pairs_in runs (row_of (run_at runs turn).text) pairs) turn q
@@ -117,9 +88,7 @@ module _ (options : ParseOptions) (runs : List Sequence) where
 within-from : (options : ParseOptions) (runs : List Sequence) (k end : ℕ) (done : List Pair) (last : ℕ) (ps : List Pair) →
     PairsFrom options runs k end done last ps → ArePairsWithin runs ps
 within-from options runs k end done last [] h = tt
-within-from options runs k end done last (p ∷ ps) h =
-    let e = h.0.eligible in
-    (record { order = e.before; within = e.within; row = e.opener_in ∙ sym e.closer_in }, within-from options runs k end (done ++ p ∷ []) p.closer ps h.1)
+within-from options runs k end done last (p ∷ ps) h = grind (arith, within-from options runs k end (done ++ p ∷ []) p.closer ps h.1)
 
 -- what holds of the pairs of each container holds of all
 within-each : (runs : List Sequence) (ps : List Pair) → ((k : ℕ) → ArePairsWithin runs (pairs_in runs k ps)) →
@@ -145,25 +114,7 @@ all-within options runs turn pairs h =
 once-next : (options : ParseOptions) (runs : List Sequence) (k : ℕ) (done : List Pair) (last : ℕ) (p : Pair) (g : ℕ) →
     IsNextNumbered options runs k done last p → taken done g ≤ (run_at runs g).size →
     taken (done ++ p ∷ []) g ≤ (run_at runs g).size
-once-next options runs k done last p g n h =
-    let f = fits_size (left runs done p.opener) (left runs done p.closer) p.size n.eligible.opener_left n.eligible.closer_left n.size in
-    let push = taken_push done p g in
-    elim (cases_eq g p.opener) [
-      | inl o ↦
-          let t : takes g p ≡ p.size = ap (λ i. takes i p) o ∙ takes_opener p in
-          let l : left runs done p.opener ≡ left runs done g = ap (left runs done) (sym o) in
-          let a = f.1 in
-          omega (arith, push, t, l, a, h)
-      | inr not_opener ↦
-          elim (cases_eq g p.closer) [
-            | inl c ↦
-                let t : takes g p ≡ p.size = ap (λ i. takes i p) c ∙ takes_closer p in
-                let l : left runs done p.closer ≡ left runs done g = ap (left runs done) (sym c) in
-                let a = f.2 in
-                omega (arith, push, t, l, a, h)
-            | inr not_closer ↦ let t = takes_other p g not_opener not_closer in omega (arith, push, t, h)
-          ]
-    ]
+once-next options runs k done last p g n h = grind (arith, fits_size, taken_push, cases_eq, takes_opener, takes_closer, takes_other)
 
 once-from : (options : ParseOptions) (runs : List Sequence) (k end : ℕ) (done : List Pair) (last : ℕ) (ps : List Pair) (g : ℕ) →
     PairsFrom options runs k end done last ps → taken done g ≤ (run_at runs g).size →

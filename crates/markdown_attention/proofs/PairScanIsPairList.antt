@@ -1,5 +1,5 @@
 -- The pairs of a container, by the numbers in it, are its pair list of the definition.
-use Rattle.std.proofs.Common.{◌≡◌, ℕ, ◌+◌, ◌-◌, ◌%◌, ◌<◌, ◌≤◌, Bool, true, false, not, cond, ◌&&◌, ◌||◌, eqb, ltb, List, [], ◌∷◌, ◌++◌, length, map, refl, sym, ◌∙◌, ap, subst, inl, inr, ◌⊎◌, arith}
+use Rattle.std.proofs.Common.{◌≡◌, ℕ, ◌+◌, ◌-◌, ◌%◌, ◌<◌, ◌≤◌, Bool, true, false, not, cond, ◌&&◌, ◌||◌, eqb, ltb, List, ◌∷◌, ◌++◌, length, map, refl, sym, ◌∙◌, ap, subst, inl, inr, ◌⊎◌, arith, []}
 use Rattle.std.proofs.lemmas.Bool.{cases_eq, cases_lt, cases_order, cases_Bool, eq-eqb, eqb-true, ne_eqb, lt-ltb, le-ltb, and_parts, not-false, not_from_false, not-true}
 use Rattle.std.proofs.lemmas.List.{map_push}
 use Rattle.std.proofs.lemmas.List.Elements.{All-head, All-tail, All-push, All-nil}
@@ -47,15 +47,7 @@ read-whole options size x e =
 
 -- what sizes of tildes the rule for them allows
 tilde-sizes : (options : ParseOptions) (x y : ℕ) → is_tilde_pair options x y ≡ true → (x ≡ y) × ((y ≡ 2) ⊎ (y ≡ 1))
-tilde-sizes options x y h =
-    let p = and_parts (eqb x y) (eqb y 2 || (eqb y 1 && options.gfm_strikethrough_single_tilde)) h in (
-      eqb-true x y p.0,
-      elim (cases_eq y 2) [
-        | inl two ↦ inl two
-        | inr not_two ↦ inr (eqb-true y 1 (and_parts (eqb y 1) options.gfm_strikethrough_single_tilde
-            (subst (λ b. (b || (eqb y 1 && options.gfm_strikethrough_single_tilde)) ≡ true) (ne_eqb y 2 not_two) p.1)).0)
-      ],
-    )
+tilde-sizes options x y h = grind (arith, and_parts, eqb-true, cases_eq, ne_eqb)
 
 three-equal : (x y : ℕ) → x ≡ y → (y ≡ 2) ⊎ (y ≡ 1) → ((x + y) % 3 ≡ 0) → ⊥
 three-equal x y e (inl two) = λ z. omega arith
@@ -64,51 +56,22 @@ three-equal x y e (inr one) = λ z. omega arith
 -- the rule of three never refuses what the rule for tildes allows
 three-tilde : (options : ParseOptions) (a b : Sequence) (x y : ℕ) → x ≡ a.size → y ≡ b.size →
     is_tilde_pair options x y ≡ true → three options a b x y ≡ false
-three-tilde options a b x y ea eb h =
-    let t = tilde-sizes options x y h in
-    let none : eqb ((ruled_size options a.size x + ruled_size options b.size y) % 3) 0 ≡ false =
-    rw (read-whole options a.size x ea, read-whole options b.size y eb) (ne_eqb ((x + y) % 3) 0 (three-equal x y t.0 t.1)) in
-    rw none (ap (λ z. (a.may_close || b.may_open) && z) (and-false (not (eqb (ruled_size options b.size y % 3) 0))) ∙ and-false (a.may_close || b.may_open))
+three-tilde options a b x y ea eb h = grind (arith, tilde-sizes, read-whole, ne_eqb, three-equal, and-false)
 
 tilde-same : (options : ParseOptions) (x y : ℕ) →
     (eqb x y && (eqb x 2 || (eqb x 1 && options.gfm_strikethrough_single_tilde))) ≡ is_tilde_pair options x y
-tilde-same options x y =
-    elim (cases_eq x y) [
-      | inl e ↦ rw (eq-eqb x y e) (ap (λ z. eqb z 2 || (eqb z 1 && options.gfm_strikethrough_single_tilde)) e)
-      | inr ne ↦ rw (ne_eqb x y ne) refl
-    ]
+tilde-same options x y = grind (arith, cases_eq, eq-eqb, ne_eqb)
 
 -- the sizes fit where neither rule refuses
 pub fit-rules : (options : ParseOptions) (a b : Sequence) (x y : ℕ) → a.marker ≡ b.marker → 0 < x → 0 < y → IsTildeWhole a x → IsTildeWhole b y
     → sizes_fit options a b x y ≡ true → (three options a b x y ≡ false) × (tilde options a.marker x y ≡ false)
 unfolding sizes_fit
-fit-rules options a b x y m lx ly wa wb h =
-    elim (cases_eq b.marker 126) [
-      | inl is ↦
-          let t : eqb b.marker 126 ≡ true = eq-eqb b.marker 126 is in
-          let allowed : is_tilde_pair options x y ≡ true = (let f = h in rw t at f) in (
-            three-tilde options a b x y (wa (m ∙ is) lx) (wb is ly) allowed,
-            rw (m, t) (ap not (tilde-same options x y ∙ allowed)),
-          )
-      | inr other ↦
-          let t : eqb b.marker 126 ≡ false = ne_eqb b.marker 126 other in
-          let open_to : not (is_refused_by_three (a.may_close || b.may_open) (ruled_size options a.size x) (ruled_size options b.size y)) ≡ true = (let f = h in rw t at f) in (
-            sym (and-assoc (a.may_close || b.may_open) _ _) ∙ not-true _ open_to,
-            rw (m, t) refl,
-          )
-    ]
+fit-rules options a b x y m lx ly wa wb h = grind (arith, cases_eq, eq-eqb, three-tilde, tilde-same, ne_eqb, and-assoc, not-true)
 
 pub rules-fit : (options : ParseOptions) (a b : Sequence) (x y : ℕ) → a.marker ≡ b.marker
     → three options a b x y ≡ false → tilde options a.marker x y ≡ false → sizes_fit options a b x y ≡ true
 unfolding sizes_fit
-rules-fit options a b x y m no_three no_tilde =
-    elim (cases_eq b.marker 126) [
-      | inl is ↦
-          let t : eqb b.marker 126 ≡ true = eq-eqb b.marker 126 is in
-          rw t (sym (tilde-same options x y) ∙ not-false _ (let f = no_tilde in rw (m, t) at f))
-      | inr other ↦
-          rw (ne_eqb b.marker 126 other) (not_from_false _ (and-assoc (a.may_close || b.may_open) _ _ ∙ no_three))
-    ]
+rules-fit options a b x y m no_three no_tilde = grind (arith, cases_eq, eq-eqb, tilde-same, not-false, ne_eqb, not_from_false, and-assoc)
 
 -- After pairs that follow each other, a run of tildes is whole or used up.
 
@@ -127,11 +90,7 @@ module _ (options : ParseOptions) (runs : List Sequence) (k : ℕ) where
   sizes-pair : (done : List Pair) (last : ℕ) (p : Pair) → IsNextNumbered options runs k done last p → (run_at runs p.closer).marker ≡ 126
       → (p.size ≡ left runs done p.opener) × (p.size ≡ left runs done p.closer)
   unfolding sizes_fit
-  sizes-pair done last p n is =
-      let fit : is_tilde_pair options (left runs done p.opener) (left runs done p.closer) ≡ true = (let f = n.eligible.fit in rw (eq-eqb (run_at runs p.closer).marker 126 is) at f) in
-      let t = tilde-sizes options (left runs done p.opener) (left runs done p.closer) fit in
-      let all = n.size ∙ size-all (left runs done p.opener) (left runs done p.closer) t.0 t.1 in
-      (all, all ∙ t.0)
+  sizes-pair done last p n is = grind (arith, eq-eqb, tilde-sizes, size-all)
 
   whole-pair : (done : List Pair) (last : ℕ) (p : Pair) → IsNextNumbered options runs k done last p → AreTildesWhole done →
       AreTildesWhole (done ++ p ∷ [])
@@ -206,21 +165,10 @@ module _ (s : Setting) (runs : List Sequence) (k : ℕ) (rs : List Run) (shapes 
       elim (cases_lt j i) [ inl below ↦ absurd (let m = lt_to j i b a below in omega arith) | inr above ↦ above ]
 
   eqb_same : (i j : ℕ) → Member i → Member j → eqb (f i) (f j) ≡ eqb i j
-  eqb_same i j a b =
-      elim (cases_order i j) [
-        | inl e ↦ eq-eqb (f i) (f j) (ap f e) ∙ sym (eq-eqb i j e)
-        | inr d ↦ elim d [
-          | inl l ↦ ne_eqb (f i) (f j) (λ e. let m = lt_to i j a b l in omega arith) ∙ sym (ne_eqb i j (λ e. omega arith))
-          | inr g ↦ ne_eqb (f i) (f j) (λ e. let m = lt_to j i b a g in omega arith) ∙ sym (ne_eqb i j (λ e. omega arith))
-        ]
-      ]
+  eqb_same i j a b = grind (arith, cases_order, eq-eqb, ne_eqb, lt_to)
 
   ltb_same : (i j : ℕ) → Member i → Member j → ltb (f i) (f j) ≡ ltb i j
-  ltb_same i j a b =
-      elim (cases_lt i j) [
-        | inl l ↦ lt-ltb (f i) (f j) (lt_to i j a b l) ∙ sym (lt-ltb i j l)
-        | inr g ↦ le-ltb (f i) (f j) (le_to j i b a g) ∙ sym (le-ltb i j g)
-      ]
+  ltb_same i j a b = grind (arith, cases_lt, lt-ltb, lt_to, le-ltb, le_to)
 
   abbrev moved : List Pair → List Model.Pair
   moved done = map (placed k runs) done
@@ -298,21 +246,7 @@ module _ (s : Setting) (runs : List Sequence) (k : ℕ) (rs : List Run) (shapes 
 
   eligible_from : (done : List Pair) (o c : ℕ) → All AreBothMembers done → Member o → Member c
       → Model.IsEligible s rs (moved done) (f o) (f c) → Eligible s.options runs k done o c
-  eligible_from done o c h a b e =
-      let one : (run_at runs o).marker ≡ (run_at runs c).marker = sym (stands o a).marker ∙ e.one_marker ∙ (stands c b).marker in
-      record {
-        before = lt_from o c a b e.in_order;
-        within = b.within;
-        opener_in = a.inside;
-        closer_in = b.inside;
-        one_marker = one;
-        may_open = sym (stands o a).may_open ∙ e.may_open;
-        may_close = sym (stands c b).may_close ∙ e.may_close;
-        opener_left = rw (left_same done o a h) at e.opener_left;
-        closer_left = rw (left_same done c b h) at e.closer_left;
-        not_between = sym (shut_same done o a h) ∙ e.not_within;
-        fit = rules-fit s.options (run_at runs o) (run_at runs c) (left runs done o) (left runs done c) one (sym (three_same done o c a b h) ∙ e.three) (sym (tilde_same done o c a b h) ∙ e.tilde);
-      }
+  eligible_from done o c h a b e = grind (arith, stands, lt_from, left_same, shut_same, rules-fit, three_same, tilde_same)
 
   -- the run that has a number in the container
   record Source (j : ℕ) : Type 0 where
@@ -334,9 +268,7 @@ module _ (s : Setting) (runs : List Sequence) (k : ℕ) (rs : List Run) (shapes 
   back done o c h e =
       let a : Source o = source o (let x = e.in_order in let y = e.in_container in omega arith) in
       let b : Source c = source c e.in_container in
-      let e' : Model.IsEligible s rs (moved done) (f a.run) (f b.run) =
-      subst (λ x. Model.IsEligible s rs (moved done) (f a.run) x) (sym b.is)
-      (subst (λ x. Model.IsEligible s rs (moved done) x c) (sym a.is) e) in
+      let e' : Model.IsEligible s rs (moved done) (f a.run) (f b.run) = grind arith in
       record { opener = a; closer = b; eligible = eligible_from done a.run b.run h a.member b.member e' }
 
   -- two places from which closers count
@@ -345,11 +277,7 @@ module _ (s : Setting) (runs : List Sequence) (k : ℕ) (rs : List Run) (shapes 
     pub from : (c : ℕ) → Member c → last' ≤ f c → last ≤ c
 
   pair_sizes : (x y : ℕ) → 0 < x → 0 < y → size_of_pair x y ≡ min 2 (min x y)
-  pair_sizes x y a b =
-      elim (cases_lt 1 x) [
-        | inl more ↦ elim (cases_lt 1 y) [ inl more' ↦ rw (lt-ltb 1 x more, lt-ltb 1 y more') (omega arith) | inr one ↦ rw (lt-ltb 1 x more, le-ltb 1 y one) (omega arith) ]
-        | inr one ↦ rw (le-ltb 1 x one) (omega arith)
-      ]
+  pair_sizes x y a b = grind (arith, cases_lt, lt-ltb, le-ltb)
 
   next_to : (done : List Pair) (last last' : ℕ) (p : Pair) → All AreBothMembers done → AreTildesWhole s.options runs k done → SamePlace last last' →
       AreBothMembers p
@@ -385,10 +313,7 @@ module _ (s : Setting) (runs : List Sequence) (k : ℕ) (rs : List Run) (shapes 
       n z.opener.run z.closer.run (at.from z.closer.run z.closer.member low') z.closer.member.within z.eligible
   pairs_to done last last' (p ∷ ps) h w at n =
       let b : AreBothMembers p = record { opener = opener_of done p.opener p.closer n.0.eligible; closer = closer_of done p.opener p.closer n.0.eligible } in
-      let at' : SamePlace p.closer (f p.closer) = record {
-        to = λ c m l. le_to p.closer c b.closer m l;
-        from = λ c m l. le_from p.closer c b.closer m l;
-      } in (
+      let at' : SamePlace p.closer (f p.closer) = grind (arith, le_to, le_from) in (
         next_to done last last' p h w at b n.0,
         subst (λ x. Model.ArePairsFrom s rs (length rs) x (f p.closer) (moved ps)) (map_push (placed k runs) done p)
             (pairs_to (done ++ p ∷ []) p.closer (f p.closer) ps (All-push AreBothMembers done p h b) (whole-pair s.options runs k done last p n.0 w) at' n.1),
@@ -400,6 +325,4 @@ module _ (s : Setting) (runs : List Sequence) (k : ℕ) (rs : List Run) (shapes 
 
 pub are-pair-lists : (options : ParseOptions) (runs : List Sequence) (pairs : List Pair)
     → ((k : ℕ) → AreItsPairs options runs k (pairs_in runs k pairs)) → ArePairLists options runs pairs
-are-pair-lists options runs pairs h s container rs same shapes =
-    to-model s runs (row_of container) rs shapes (pairs_in runs (row_of container) pairs)
-    (subst (λ o. AreItsPairs o runs (row_of container) (pairs_in runs (row_of container) pairs)) (sym same) (h (row_of container)))
+are-pair-lists options runs pairs h s container rs same shapes = grind (arith, to-model)

@@ -1,5 +1,5 @@
 -- What the code of one turn does to the lists.
-use Rattle.std.proofs.Common.{◌≡◌, ℕ, ◌+◌, ◌-◌, ◌*◌, ◌^◌, ◌<◌, ◌≤◌, Bool, true, false, cond, ◌&&◌, eqb, ltb, List, [], ◌∷◌, ◌++◌, length, get_or, set, refl, sym, ◌∙◌, ap, subst, inl, inr, ◌⊎◌, arith, length-set, replicate}
+use Rattle.std.proofs.Common.{◌≡◌, ℕ, ◌+◌, ◌-◌, ◌*◌, ◌^◌, ◌<◌, ◌≤◌, Bool, true, false, cond, ◌&&◌, eqb, ltb, List, ◌∷◌, ◌++◌, length, get_or, set, refl, sym, ◌∙◌, ap, subst, inl, inr, ◌⊎◌, arith, length-set, replicate, []}
 use Rattle.std.proofs.lemmas.Bool.{cases_eq, cases_lt, ne_eqb, cases_Bool, both_ways, and_parts, and_from, lt-ltb, ltb-true, eq-eqb}
 use Rattle.std.proofs.lemmas.List.{get_or-set_same, get_or-set_other, get_or-replicate, get_or_past, length-replicate}
 use Rattle.std.specs.Prelude.{IsTrue, IsFalse}
@@ -10,7 +10,7 @@ use Rattle.markdown_attention.specs.RunContainers.{ArePairLists}
 use Rattle.markdown_attention.proofs.PairScanIsPairList.{are-pair-lists}
 use Rattle.markdown_attention.proofs.ProbePotential.{counted-all, openers, closers}
 use Rattle.std.specs.Prelude.{count_by}
-use Rattle.markdown_attention.specs.NumberedPairs.{PairsFrom, row_of, left, run_at, pairs_in, size_of_pair, after_taking, markers_left, no_run}
+use Rattle.markdown_attention.specs.NumberedPairs.{row_of, run_at, size_of_pair, after_taking, markers_left}
 use Rattle.markdown_attention.specs.OpenRuns.{key_of, class_of, list_of, is_open, IsCut, WalkFound, WalkEnded, mark_of, IsClosing}
 use Rattle.markdown_attention.proofs.OpenRunLists.{Layout, ListsByMarker}
 use Rattle.markdown_attention.specs.PairScan.{standing, AreUntaken, AreSmall}
@@ -43,27 +43,8 @@ module _ (layout : Layout) (options : ParseOptions) (runs list : List Sequence) 
       × (is_open runs pairs turn ≡ false → get_or heads' k 0 ≡ get_or heads k 0)
   head_set heads' is =
       elim (cases_Bool (closer.may_open && ltb 0 closer.remaining)) [
-        | inl t ↦
-            let p = and_parts closer.may_open (ltb 0 closer.remaining) t in
-            let is' : heads' ≡ set heads k (turn + 1) = is ∙ rw t refl in
-            let may : IsTrue (run_at runs turn).may_open = sym (ap (λ r. r.may_open) closer_is) ∙ p.0 in
-            let some : 0 < left runs (own runs pairs turn) turn = subst (λ r. 0 < r.remaining) closer_is (ltb-true 0 closer.remaining p.1) in (
-              rw is' (length-set heads k (turn + 1)),
-              (λ i li ne. rw is' (get_or-set_other heads k i (turn + 1) 0 ne)),
-              (λ o. rw is' (get_or-set_same heads k (turn + 1) 0 (keys turn here))),
-              (λ o. absurd (both_ways (is_open runs pairs turn) o (open_turn runs pairs turn h.scanned.closers may some))),
-            )
-        | inr f ↦
-            let is' : heads' ≡ heads = is ∙ rw f refl in (
-              ap length is',
-              (λ i li ne. rw is' refl),
-              (λ o.
-                  let p = open_parts runs pairs turn o in
-                  let may : closer.may_open ≡ true = ap (λ r. r.may_open) closer_is ∙ p.may_open in
-                  let some : 0 < closer.remaining = subst (λ r. 0 < r.remaining) (sym closer_is) p.some_left in
-                  absurd (both_ways _ f (and_from closer.may_open (ltb 0 closer.remaining) may (lt-ltb 0 closer.remaining some)))),
-              (λ o. rw is' refl),
-            )
+        | inl t ↦ grind (arith, and_parts, closer_is, ltb-true, length-set, get_or-set_other, get_or-set_same, both_ways, open_turn)
+        | inr f ↦ grind (arith, open_parts, closer_is, both_ways, and_from, lt-ltb)
       ]
 
   mark_inside : k * 6 + class < length marks
@@ -155,25 +136,14 @@ module _ (layout : Layout) (options : ParseOptions) (runs list : List Sequence) 
 
 pub small_runs : (layout : Layout) (options : ParseOptions) (runs list : List Sequence) (turn : ℕ) (pairs : List Pair) (probes : ℕ) (heads older marks : List ℕ)
     → Inv layout.line options runs list turn pairs probes heads older marks → AreUntaken runs → markers_left runs < 2 ^ 63 → AreSmall list
-small_runs layout options runs list turn pairs probes heads older marks h whole small = λ i inside.
-    let fits : i < length runs = (let e = h.stands.same_length in omega arith) in
-    let is : run_at list i ≡ standing runs pairs i = h.stands.stands i fits in
-    let part : (run_at runs i).remaining ≤ markers_left runs = get_or-le-sum_by (λ r. r.remaining) runs i no_run fits in
-    let all : (run_at runs i).remaining ≡ (run_at runs i).size = whole i fits in
-    let a : (run_at list i).size ≡ (run_at runs i).size = ap (λ r. r.size) is in
-    let b : (run_at list i).remaining ≡ left runs (own runs pairs i) i = ap (λ r. r.remaining) is in
-    (omega arith, omega arith)
+small_runs layout options runs list turn pairs probes heads older marks h whole small = λ i inside. grind (arith, fits, get_or-le-sum_by)
 
 pub some_key : (layout : Layout) (runs : List Sequence) (n : ℕ) (heads : List ℕ) → length heads ≡ n * 3 → ((r : ℕ) → r < length runs → layout.line (row_of (run_at runs r).text) < n)
     → (r : ℕ) → r < length runs → list_of layout.line runs r < length heads
 some_key layout runs n heads l h r inside = let a = h r inside in let z = kinds (run_at runs r).marker in omega arith
 
 pub zeros : (n i : ℕ) → ◌≡◌ {A = ℕ} (get_or (replicate n 0) i 0) 0
-zeros n i =
-    elim (cases_lt i n) [
-      | inl inside ↦ get_or-replicate n i 0 0 inside
-      | inr past ↦ get_or_past (replicate n 0) i 0 (rw length-replicate past)
-    ]
+zeros n i = grind (arith, cases_lt, get_or-replicate, get_or_past, length-replicate)
 
 pub length_if : (b : Bool) (xs : List ℕ) (i v : ℕ) → length (cond b (set xs i v) xs) ≡ length xs
 length_if true xs i v = length-set xs i v
@@ -185,9 +155,7 @@ less k a b s e f = omega arith
 -- after the last turn the scan has found the pair lists
 pub scanned-all : (layout : Layout) (options : ParseOptions) (runs list : List Sequence) (turn : ℕ) (pairs : List Pair) (probes : ℕ) (heads older marks : List ℕ)
     → Inv layout.line options runs list turn pairs probes heads older marks → length list ≤ turn → ArePairLists options runs pairs
-scanned-all layout options runs list turn pairs probes heads older marks h last =
-    let all : turn ≡ length runs = (let a = h.within in let b = h.stands.same_length in omega arith) in
-    are-pair-lists options runs pairs (λ k. subst (λ n. PairsFrom options runs k n [] 0 (pairs_in runs k pairs)) all (h.scanned.lists k))
+scanned-all layout options runs list turn pairs probes heads older marks h last = grind (arith, are-pair-lists)
 
 pub paid-all : (layout : Layout) (options : ParseOptions) (runs list : List Sequence) (turn : ℕ) (pairs : List Pair) (probes : ℕ) (heads older marks : List ℕ)
     → Inv layout.line options runs list turn pairs probes heads older marks → length list ≤ turn
@@ -201,6 +169,4 @@ paid-all layout options runs list turn pairs probes heads older marks h last =
 
 pub looks-all : (layout : Layout) (options : ParseOptions) (runs list : List Sequence) (turn : ℕ) (pairs : List Pair) (probes : ℕ) (heads older marks : List ℕ)
     → Inv layout.line options runs list turn pairs probes heads older marks → length list ≤ turn → probes ≤ (length runs + length pairs) * length runs
-looks-all layout options runs list turn pairs probes heads older marks h last =
-    let all : turn ≡ length runs = (let a = h.within in let b = h.stands.same_length in omega arith) in
-    subst (λ n. probes ≤ (n + length pairs) * length runs) all h.most
+looks-all layout options runs list turn pairs probes heads older marks h last = grind arith

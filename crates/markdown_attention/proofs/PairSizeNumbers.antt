@@ -1,5 +1,5 @@
 -- What pairs take of a run, by its number in all and in its container.
-use Rattle.std.proofs.Common.{◌≡◌, ℕ, ◌+◌, ◌<◌, ◌==◌, ◌||◌, Bool, true, false, if◌then◌else◌, cond, List, [], ◌∷◌, length, map, refl, sym, ap, ◌∙◌, arith, inl, inr, sum_by}
+use Rattle.std.proofs.Common.{◌≡◌, ℕ, ◌+◌, ◌<◌, ◌==◌, ◌||◌, Bool, true, false, if◌then◌else◌, cond, List, ◌∷◌, length, map, refl, ap, ◌∙◌, arith, inl, inr, sum_by, []}
 use Rattle.std.proofs.lemmas.Bool.{cases_lt, eqb-true, both_ways, cases_Bool, ne_eqb, eq-eqb}
 use Rattle.std.proofs.lemmas.List.Sums.{sum_by-cons}
 use Rattle.markdown_model.specs.BracketGroups.{closing_sizes, opening_sizes}
@@ -55,16 +55,7 @@ module _ (k : ℕ) (list : List Sequence) (g : ℕ) (within : g < length list) (
 
   apart : (j : ℕ) → j < length list → is_in k (run_at list j) ≡ true → (j ≡ g → ⊥) →
       (place_in k list j == place_in k list g) ≡ false
-  apart j l e ne =
-      ne_eqb (place_in k list j) (place_in k list g) (λ same.
-      elim (cases_lt j g) [
-        | inl low ↦ let o = place-order k list j g low within e in omega (arith, o, same)
-        | inr high ↦
-            elim (cases_lt g j) [
-              | inl above ↦ let o = place-order k list g j above l inside in omega (arith, o, same)
-              | inr below ↦ ne (omega (arith, high, below))
-            ]
-      ])
+  apart j l e ne = grind (arith, ne_eqb, cases_lt, place-order)
 
   pub closing-local : (ps : List Pair) → ArePairsWithin list ps →
       closing_sizes (place_in k list g) (local ps) ≡ closed_sizes g ps
@@ -74,22 +65,8 @@ module _ (k : ℕ) (list : List Sequence) (g : ℕ) (within : g < length list) (
       let ih : closing_sizes i (local ps) ≡ closed_sizes g ps = closing-local ps w.1 in
       let wp = w.0.within in
       elim (cases_Bool (p.closer == g)) [
-        | inl hit ↦
-            let e : p.closer ≡ g = eqb-true p.closer g hit in
-            let row : in_row p ≡ true = ap (λ j. row_of (run_at list j).text == k) e ∙ inside in
-            ap (closing_sizes i) (local-yes p ps row)
-            ∙ closing-yes i (placed k list p) (local ps) (eq-eqb (place_in k list p.closer) i (ap (place_in k list) e))
-            ∙ ap (λ xs. p.size ∷ xs) ih
-            ∙ sym (closed-by g p ps true hit)
-        | inr miss ↦
-            elim (cases_Bool (in_row p)) [
-              | inl row ↦
-                  ap (closing_sizes i) (local-yes p ps row)
-                  ∙ closing-no i (placed k list p) (local ps) (apart p.closer wp row (λ e. absurd (both_ways (p.closer == g) miss (eq-eqb p.closer g e))))
-                  ∙ ih
-                  ∙ sym (closed-by g p ps false miss)
-              | inr out ↦ ap (closing_sizes i) (local-no p ps out) ∙ ih ∙ sym (closed-by g p ps false miss)
-            ]
+        | inl hit ↦ grind (arith, eqb-true, local-yes, closing-yes, eq-eqb, closed-by)
+        | inr miss ↦ grind (arith, cases_Bool, local-yes, closing-no, apart, both_ways, eq-eqb, closed-by, local-no)
       ]
 
   pub opening-local : (ps : List Pair) → ArePairsWithin list ps →
@@ -102,22 +79,8 @@ module _ (k : ℕ) (list : List Sequence) (g : ℕ) (within : g < length list) (
       let wo = w.0.order in
       let within_opener : p.opener < length list = omega (arith, wp, wo) in
       elim (cases_Bool (p.opener == g)) [
-        | inl hit ↦
-            let e : p.opener ≡ g = eqb-true p.opener g hit in
-            let row : in_row p ≡ true = ap (λ r. r == k) (sym w.0.row) ∙ ap (λ j. row_of (run_at list j).text == k) e ∙ inside in
-            ap (opening_sizes i) (local-yes p ps row)
-            ∙ opening-yes i (placed k list p) (local ps) (eq-eqb (place_in k list p.opener) i (ap (place_in k list) e))
-            ∙ ap (λ xs. p.size ∷ xs) ih
-            ∙ sym (opened-by g p ps true hit)
-        | inr miss ↦
-            elim (cases_Bool (in_row p)) [
-              | inl row ↦
-                  ap (opening_sizes i) (local-yes p ps row)
-                  ∙ opening-no i (placed k list p) (local ps) (apart p.opener within_opener (ap (λ r. r == k) w.0.row ∙ row) (λ e. absurd (both_ways (p.opener == g) miss (eq-eqb p.opener g e))))
-                  ∙ ih
-                  ∙ sym (opened-by g p ps false miss)
-              | inr out ↦ ap (opening_sizes i) (local-no p ps out) ∙ ih ∙ sym (opened-by g p ps false miss)
-            ]
+        | inl hit ↦ grind (arith, eqb-true, local-yes, opening-yes, eq-eqb, opened-by)
+        | inr miss ↦ grind (arith, cases_Bool, local-yes, opening-no, apart, both_ways, eq-eqb, opened-by, local-no)
       ]
 
   takes-by : (p : Pair) (o c : Bool) → (p.opener == g) ≡ o → (p.closer == g) ≡ c →
@@ -135,28 +98,8 @@ module _ (k : ℕ) (list : List Sequence) (g : ℕ) (within : g < length list) (
       λ e. ap (λ (b : Bool). sum_by (takes g) (cond b (p ∷ pairs_in list k ps) (pairs_in list k ps))) e in
       let wo = w.0.order in
       elim (cases_Bool (p.closer == g)) [
-        | inl hit ↦
-            let e : p.closer ≡ g = eqb-true p.closer g hit in
-            let not_opener : (p.opener == g) ≡ false = ne_eqb p.opener g (λ x. omega (arith, x, e, wo)) in
-            let a = in-yes (ap (λ j. row_of (run_at list j).text == k) e ∙ inside) in
-            let b = takes-by p false true not_opener hit in
-            let c = ap total (closed-by g p ps true hit) in
-            let d = ap total (opened-by g p ps false not_opener) in
-            omega (arith, a, b, c, d, ih)
-        | inr miss ↦ elim (cases_Bool (p.opener == g)) [
-          | inl hit ↦
-              let e : p.opener ≡ g = eqb-true p.opener g hit in
-              let a = in-yes (ap (λ r. r == k) (sym w.0.row) ∙ ap (λ j. row_of (run_at list j).text == k) e ∙ inside) in
-              let b = takes-by p true false hit miss in
-              let c = ap total (closed-by g p ps false miss) in
-              let d = ap total (opened-by g p ps true hit) in
-              omega (arith, a, b, c, d, ih)
-          | inr neither ↦
-              let b = takes-by p false false neither miss in
-              let c = ap total (closed-by g p ps false miss) in
-              let d = ap total (opened-by g p ps false neither) in
-              elim (cases_Bool (in_row p)) [ inl row ↦ (let a = in-yes row in omega (arith, a, b, c, d, ih)) | inr out ↦ (let a = in-no out in omega (arith, a, c, d, ih)) ]
-        ]
+        | inl hit ↦ grind (arith, eqb-true, ne_eqb, takes-by, closed-by, opened-by)
+        | inr miss ↦ grind (arith, cases_Bool, eqb-true, takes-by, closed-by, opened-by)
       ]
 
   pub taken-local : (ps : List Pair) → ArePairsWithin list ps →

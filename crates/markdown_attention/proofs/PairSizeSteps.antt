@@ -1,5 +1,5 @@
 -- What pairs take of a run, and edits run by run.
-use Rattle.std.proofs.Common.{◌≡◌, ℕ, zero, suc, ◌+◌, ◌-◌, ◌<◌, ◌≤◌, ◌^◌, ◌==◌, Bool, true, false, if◌then◌else◌, List, [], ◌∷◌, ◌++◌, length, take, drop, get_or, set, length-set, reverse, inl, inr, refl, sym, ap, subst, ◌∙◌, arith}
+use Rattle.std.proofs.Common.{◌≡◌, ℕ, zero, suc, ◌+◌, ◌-◌, ◌<◌, ◌≤◌, ◌^◌, ◌==◌, Bool, true, false, if◌then◌else◌, List, ◌∷◌, ◌++◌, length, take, drop, get_or, set, length-set, reverse, inl, inr, refl, sym, ap, subst, ◌∙◌, arith, []}
 use Rattle.std.proofs.lemmas.Bool.{cases_eq, eq-eqb, ne_eqb}
 use Rattle.std.proofs.lemmas.List.{take_more, drop_more, get_or-set_same, get_or-set_other}
 use Rattle.std.proofs.lemmas.List.Elements.{All-nil, All-cons, All-append}
@@ -15,7 +15,7 @@ use Rattle.markdown_engine_events.specs.declared.util.edit_map.Edit.{Edit}
 use Rattle.markdown_attention.specs.declared.attention.pairing.Pair.{Pair}
 use Rattle.markdown_attention.specs.declared.attention.runs.Sequence.{Sequence}
 use Rattle.markdown_attention.specs.RunEvents.{shifted, total, closing_at, opening_at, closings_from, openings_from, data_at, marker_events}
-use Rattle.markdown_attention.specs.RunEdits.{edits_by, run_edits, grouped_events, point_in, closed_sizes, opened_sizes}
+use Rattle.markdown_attention.specs.RunEdits.{edits_by, run_edits, point_in, opened_sizes}
 use Rattle.markdown_attention.specs.PairSizes.{AreSizes, added_for, HasRoom, HasRoomFor}
 
 -- The sizes of the runs, with those of one pair more before them.
@@ -27,9 +27,7 @@ module _ (pairs : List Pair) (count i : ℕ) (d : Pair) (sizes new : List (List 
   before = get_or pairs (i - 1) d
 
   next : drop (i - 1) pairs ≡ before ∷ drop i pairs
-  next =
-      let same : (i - 1) + 1 ≡ i = omega arith in
-      drop_more pairs (i - 1) d (omega arith) ∙ ap (λ j. before ∷ drop j pairs) same
+  next = grind (arith, drop_more)
 
   pub sizes-long : length new ≡ count
   sizes-long = ap length is ∙ length-set sizes before.opener (before.size ∷ get_or sizes before.opener []) ∙ long
@@ -123,10 +121,7 @@ edits-more f rs k d now new es l h e n =
 -- there is room, by what was read
 pub room-read : (p q : Point) (f g b d : List ℕ) (k : ℕ) → p ≡ q → f ≡ g → b ≡ d → (q.column + (total g + k + total d) < 2 ^ 64) × (q.index + (total g + k + total d) < 2 ^ 64)
     → (p.column + (total f + k + total b) < 2 ^ 64) × (p.index + (total f + k + total b) < 2 ^ 64)
-room-read p q f g b d k e h j r = (
-  subst (λ (x : ℕ). x < 2 ^ 64) (λ i. (sym e i).column + (total (sym h i) + k + total (sym j i))) r.0,
-  subst (λ (x : ℕ). x < 2 ^ 64) (λ i. (sym e i).index + (total (sym h i) + k + total (sym j i))) r.1,
-)
+room-read p q f g b d k e h j r = grind arith
 
 -- By the pairs.
 
@@ -138,14 +133,8 @@ edits-alike f g (r ∷ rs) h =
 
 pub edits-are : (es : List Event) (pairs : List Pair) (backs : List (List ℕ)) (rs : List Sequence) → AreSizes pairs backs →
     edits_by (added_for es pairs backs) rs ≡ run_edits (point_in es) pairs rs
-edits-are es pairs backs rs b =
-    edits-alike (added_for es pairs backs) (grouped_events (point_in es) pairs) rs
-    (λ r. λ i. marker_events r.marker (point_in es r.event) (closed_sizes r.number pairs) r.remaining (b r.number i))
+edits-are es pairs backs rs b = grind (arith, edits-alike)
 
 pub room-by : (es : List Event) (count : ℕ) (pairs : List Pair) (backs : List (List ℕ)) (r : Sequence) → AreSizes pairs backs → length backs ≡ count →
     HasRoomFor es count pairs r → HasRoom es pairs backs r
-room-by es count pairs backs r b m h =
-    let F : List ℕ = closed_sizes r.number pairs in
-    let n = h.number in
-    let room = room-read (point_in es r.event) (point_in es r.event) F F (get_or backs r.number []) (opened_sizes r.number pairs) r.remaining refl refl (b r.number) (h.column, h.index) in
-    record { event = h.event; back = omega (arith, n, m); column = room.0; index = room.1 }
+room-by es count pairs backs r b m h = grind (arith, room-read)

@@ -20,14 +20,7 @@ line-small line count entry cells len cap e w m v s = let a = v.0 in let b = v.1
 
 pub in-tables : (line list class count entry marker lists marks cells len cap : ℕ) → line + 1 ≡ entry → entry ≤ count → list ≡ line * 3 + kind_of marker → class < 6 →
     lists ≡ count * 3 → marks ≡ count * 18 → cells ≡ count * 21 → (len ≡ cells) × (len ≤ cap) → cap < 2 ^ 63 → InTables line list class lists marks
-in-tables line list class count entry marker lists marks cells len cap e w l c h m t v s =
-    from (kind_of marker) (kinds marker) l
-  where
-    from : (kind : ℕ) → kind < 3 → list ≡ line * 3 + kind → InTables line list class lists marks
-    from kind k is =
-        let a = v.0 in
-        let b = v.1 in
-        record { lists_in = omega arith; list_in = omega arith; marks_in = omega arith; mark_in = omega arith; small = omega arith }
+in-tables line list class count entry marker lists marks cells len cap e w l c h m t v s = grind (arith, kinds)
 
 pub list-small : (line list class lists marks : ℕ) → InTables line list class lists marks → Fits w64 (list * 6)
 list-small line list class lists marks t = let a = t.marks_in in let b = t.small in omega arith
@@ -41,11 +34,7 @@ lists-small line list class lists marks t six = let a = t.lists_in in let b = t.
 -- the looks that a walk may still take are counted
 pub probes-room : (probes turn pairs count left all : ℕ) → probes ≤ (turn + pairs) * count → turn ≤ count → count < 2 ^ 63 → 2 * pairs + left ≤ all →
     all < 2 ^ 63 → probes + turn < 2 ^ 128
-probes-room probes turn pairs count left all most within few half small =
-    let sum : turn + pairs ≤ 2 ^ 64 = omega arith in
-    let low : count ≤ 2 ^ 63 = omega arith in
-    let product : (turn + pairs) * count ≤ 2 ^ 64 * 2 ^ 63 = mul-le-mul sum low in
-    omega (arith, product)
+probes-room probes turn pairs count left all most within few half small = grind (arith, mul-le-mul)
 
 pub number-small : (number turn count : ℕ) → number ≡ turn → turn ≤ count → count < 2 ^ 63 → number + 1 < 2 ^ 64
 number-small number turn count e w s = omega arith
@@ -62,10 +51,7 @@ module _ (v w : Walk) (list : w.list ≡ v.list) (turn : w.turn ≡ v.turn) wher
   -- one turn fewer is left
   pub fewer-turns : (u : Walk) → v.turn < length v.list → u ≡ record w { turn = w.turn + 1 } →
       (length u.list - u.turn) + markers_left u.list < (length v.list - v.turn) + markers_left v.list
-  fewer-turns u l e =
-      let list' : u.list ≡ v.list = ap (λ (x : Walk). x.list) e ∙ list in
-      let turn' : u.turn ≡ v.turn + 1 = ap (λ (x : Walk). x.turn) e ∙ ap (λ n. n + 1) turn in
-      rw (list', turn') (omega arith)
+  fewer-turns u l e = grind arith
 
 -- the list of older runs, as it is lent
 

@@ -1,16 +1,13 @@
 -- The rows of a tree with its pair lists are flat.
-use Rattle.std.proofs.Common.{◌≡◌, ℕ, zero, suc, Bool, true, false, List, [], ◌∷◌, refl, sym, subst, inl, inr}
+use Rattle.std.proofs.Common.{◌≡◌, ℕ, zero, suc, true, List, ◌∷◌, sym, subst, arith, []}
 use Rattle.std.proofs.lemmas.Bool.{cases_Bool}
-use Rattle.markdown_content.specs.Codes.{Code}
-use Rattle.markdown_content.specs.Tree.{Forest, empty, leaf_then, group_then, start_of}
-use Rattle.markdown_event.specs.declared.event.Name.{Name}
+use Rattle.markdown_content.specs.Tree.{Forest, empty, leaf_then, group_then}
 use Rattle.markdown_model.specs.BracketGroups.{tokens_of}
 use Rattle.markdown_model.specs.Pairs.{Pair, run_at, IsPairList, pair_list}
 use Rattle.markdown_model.specs.Runs.{Run, marker_of, runs_of}
 use Rattle.markdown_model.specs.Setting.{Setting}
 use Rattle.markdown_model.proofs.PairListFacts.{pairs_are_sound}
 use Rattle.markdown_model.proofs.OnePairList.{some_pair_list}
-use Rattle.markdown_attention.specs.RunsRead.{is_run}
 use Rattle.markdown_attention.specs.RunsOfTree.{has_run}
 use Rattle.markdown_attention.specs.AttentionTrees.{HasStripes}
 use Rattle.markdown_attention.specs.TokenWord.{HasMarker, IsUnlinkedRow, IsFlat, IsPairable}
@@ -31,13 +28,7 @@ marked-at (r ∷ rs) (suc i) h = marked-at rs i h.1
 module _ (s : Setting) where
   marked-row : (t : Forest) → HasStripes t → AreOfOneMarker (runs_of s t)
   marked-row empty h = subst (λ (rs : List Run). AreOfOneMarker rs) (sym (runs-empty s)) tt
-  marked-row (leaf_then name link cs rest) h = elim (cases_Bool (is_run name)) [
-    | inl e ↦
-        subst (λ (x : Name). AreOfOneMarker (runs_of s (leaf_then x link cs rest))) (sym (run-name name e))
-        (subst (λ (rs : List Run). AreOfOneMarker rs) (sym (runs-run s link cs rest))
-        (subst (λ (ds : List Code). HasMarker (marker_of ds) ds) (sym (run-codes s cs)) (stripe-marker (marker_of cs) (start_of cs) cs (h.0 e).1.1), marked-row rest h.1))
-    | inr e ↦ subst (λ (rs : List Run). AreOfOneMarker rs) (sym (runs-leaf s name link cs rest e)) (marked-row rest h.1)
-  ]
+  marked-row (leaf_then name link cs rest) h = grind (arith, cases_Bool, run-name, runs-run, run-codes, stripe-marker, marked-row rest h.1, runs-leaf)
   marked-row (group_then name a b inside rest) h =
       subst (λ (rs : List Run). AreOfOneMarker rs) (sym (runs-group s name a b inside rest)) (marked-row rest h.1.1)
 
@@ -47,12 +38,7 @@ module _ (s : Setting) where
 
   pub flat-row : (t : Forest) → HasStripes t → (has_run t ≡ true → IsUnlinkedRow t) →
       IsFlat (tokens_of s (pair_list s) t (pair_list s (runs_of s t)) 0)
-  flat-row t h u = by-runs (has_run t) refl
-    where
-      by-runs : (b : Bool) → has_run t ≡ b → IsFlat (tokens_of s (pair_list s) t (pair_list s (runs_of s t)) 0)
-      by-runs true e =
-          inl (row-matches s (pair_list s) t (pair_list s (runs_of s t)) (cut-row t (pair_list s (runs_of s t)) h (some_pair_list s (runs_of s t))) (u e))
-      by-runs false e = inr (no-brackets s (pair_list s) t (pair_list s (runs_of s t)) 0 e)
+  flat-row t h u = grind (arith, row-matches, cut-row, some_pair_list, no-brackets)
 
   pub ready-row : (t : Forest) → HasStripes t → IsPairable s (pair_list s) t
   ready-row empty h = tt

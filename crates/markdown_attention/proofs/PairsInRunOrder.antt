@@ -1,5 +1,5 @@
 -- The pairs of a container in the order of its runs: which are open before a run, which it closes and opens.
-use Rattle.std.proofs.Common.{◌≡◌, ℕ, suc, ◌+◌, ◌<◌, ◌≤◌, Bool, true, false, ◌&&◌, ◌||◌, ◌==◌, nat_lt, nat_le, if◌then◌else◌, List, [], ◌∷◌, ◌++◌, length, refl, sym, ap, ◌∙◌, arith, inl, inr, ◌⊎◌, sum_by}
+use Rattle.std.proofs.Common.{◌≡◌, ℕ, suc, ◌+◌, ◌<◌, ◌≤◌, Bool, true, false, ◌&&◌, ◌||◌, ◌==◌, nat_lt, nat_le, if◌then◌else◌, List, ◌∷◌, ◌++◌, length, refl, sym, ap, ◌∙◌, arith, ◌⊎◌, sum_by, []}
 use Rattle.markdown_model.proofs.PairListFacts.{within_push}
 use Rattle.markdown_event.proofs.AndParts.{and-left, and-right}
 use Rattle.std.proofs.lemmas.List.Sums.{sum_by-cons}
@@ -7,7 +7,7 @@ use Rattle.std.proofs.lemmas.Bool.{cases_lt, ltb-true, eqb-true, false_from_ne_t
 use Rattle.std.specs.List.{list_any}
 use Rattle.markdown_model.specs.Setting.{Setting}
 use Rattle.markdown_model.specs.Runs.{Run, marker_of}
-use Rattle.markdown_model.specs.Pairs.{Pair, run_at, taken_by, is_strictly_within, IsNextPair, ArePairsFrom, IsPairList}
+use Rattle.markdown_model.specs.Pairs.{Pair, run_at, taken_by, is_strictly_within, ArePairsFrom, IsPairList}
 use Rattle.markdown_model.specs.BracketGroups.{closing_sizes, opening_sizes}
 use Rattle.markdown_attention.specs.RunEvents.{total, AreSome}
 
@@ -33,34 +33,10 @@ abbrev pub passes : ℕ → Pair → Bool
 passes n p = nat_lt p.opener n && nat_lt n p.closer
 
 sort-before : (o c n : ℕ) → o < c → Sorts (nat_lt o n && nat_le n c) (c == n) (nat_lt o n && nat_lt n c)
-sort-before o c n l =
-    elim (cases_lt o n) [
-      | inl a ↦
-          elim (cases_lt n c) [
-            | inl b ↦ inr (inl (and_from _ _ (lt-ltb o n a) (le-leb n c (omega (arith, b))), (ne_eqb c n (λ e. omega (arith, b, e)), and_from _ _ (lt-ltb o n a) (lt-ltb n c b))))
-            | inr b ↦
-                elim (cases_lt c n) [
-                  | inl d ↦ inr (inr (and_right _ _ (lt-leb n c d), (ne_eqb c n (λ e. omega (arith, d, e)), and_right _ _ (le-ltb n c b))))
-                  | inr d ↦ inl (and_from _ _ (lt-ltb o n a) (le-leb n c d), (eq-eqb c n (omega (arith, b, d)), and_right _ _ (le-ltb n c b)))
-                ]
-          ]
-      | inr a ↦ inr (inr (and_left _ _ (le-ltb o n a), (ne_eqb c n (λ e. omega (arith, a, e, l)), and_left _ _ (le-ltb o n a))))
-    ]
+sort-before o c n l = grind (arith, cases_lt, and_from, lt-ltb, le-leb, ne_eqb, and_right, lt-leb, le-ltb, eq-eqb, and_left)
 
 sort-after : (o c n : ℕ) → o < c → Sorts (nat_lt o (suc n) && nat_le (suc n) c) (o == n) (nat_lt o n && nat_lt n c)
-sort-after o c n l =
-    elim (cases_lt o n) [
-      | inl a ↦
-          elim (cases_lt n c) [
-            | inl b ↦ inr (inl (and_from _ _ (lt-ltb o (suc n) (omega (arith, a))) (le-leb (suc n) c (omega (arith, b))), (ne_eqb o n (λ e. omega (arith, a, e)), and_from _ _ (lt-ltb o n a) (lt-ltb n c b))))
-            | inr b ↦ inr (inr (and_right _ _ (lt-leb (suc n) c (omega (arith, b))), (ne_eqb o n (λ e. omega (arith, a, e)), and_right _ _ (le-ltb n c b))))
-          ]
-      | inr a ↦
-          elim (cases_lt n o) [
-            | inl b ↦ inr (inr (and_left _ _ (le-ltb o (suc n) (omega (arith, b))), (ne_eqb o n (λ e. omega (arith, b, e)), and_left _ _ (le-ltb o n a))))
-            | inr b ↦ inl (and_from _ _ (lt-ltb o (suc n) (omega (arith, b))) (le-leb (suc n) c (omega (arith, a, b, l))), (eq-eqb o n (omega (arith, a, b)), and_left _ _ (le-ltb o n a)))
-          ]
-    ]
+sort-after o c n l = grind (arith, cases_lt, and_from, lt-ltb, le-leb, ne_eqb, and_right, lt-leb, le-ltb, and_left, eq-eqb)
 
 abbrev pub with_marker : ℕ → List ℕ → List (ℕ × ℕ)
 with_marker m [] = []
@@ -119,47 +95,17 @@ module _ (R : List Run) where
       ((p q : Pair) → IsLaterPair p q → h p ≡ true → g q ≡ true → ⊥) → AreRanked ps →
       keys_where f ps ≡ keys_where g ps ++ keys_where h ps
   split-keys f g h [] sorts apart r = refl
-  split-keys f g h (p ∷ ps) sorts apart r =
-      let ih = split-keys f g h ps sorts apart r.1.1 in
-      elim (sorts p r.0) [
-        | inl a ↦
-            keys-yes f p ps a.0
-            ∙ ap (λ xs. key p ∷ xs) ih
-            ∙ sym (ap (λ xs. xs ++ keys_where h (p ∷ ps)) (keys-yes g p ps a.1.0) ∙ ap (λ xs. (key p ∷ keys_where g ps) ++ xs) (keys-no h p ps a.1.1))
-        | inr b ↦ elim b [
-          | inl a ↦
-              let none : keys_where g ps ≡ [] = none-later g p ps r.1.0 (λ q l e. apart p q l a.1.1 e) in
-              keys-yes f p ps a.0
-              ∙ ap (λ xs. key p ∷ xs) (ih ∙ ap (λ xs. xs ++ keys_where h ps) none)
-              ∙ sym (ap (λ xs. xs ++ keys_where h (p ∷ ps)) (keys-no g p ps a.1.0 ∙ none) ∙ keys-yes h p ps a.1.1)
-          | inr a ↦
-              keys-no f p ps a.0
-              ∙ ih
-              ∙ sym (ap (λ xs. xs ++ keys_where h (p ∷ ps)) (keys-no g p ps a.1.0) ∙ ap (λ xs. keys_where g ps ++ xs) (keys-no h p ps a.1.1))
-        ]
-      ]
+  split-keys f g h (p ∷ ps) sorts apart r = grind (arith, split-keys f g h ps sorts apart r.1.1, keys-yes, keys-no, none-later)
 
   -- before a run: those that it closes, and those around it
   pub before-run : (n : ℕ) (ps : List Pair) → AreRanked ps →
       keys_where (spans n) ps ≡ keys_where (closes_at n) ps ++ keys_where (passes n) ps
-  before-run n ps r =
-      split-keys (spans n) (closes_at n) (passes n) ps (λ p h. sort-before p.opener p.closer n h.order)
-      (λ p q l a b. let x : n < p.closer = ltb-true n p.closer (and-right (nat_lt p.opener n) (nat_lt n p.closer) a) in let y : q.closer ≡ n = eqb-true q.closer n b in let z = l.0 in omega (arith, x, y, z))
-      r
+  before-run n ps r = grind (arith, split-keys, sort-before, ltb-true, and-right, eqb-true)
 
   -- after it: those that it opens, and those around it
   pub after-run : (n : ℕ) (ps : List Pair) → AreRanked ps →
       keys_where (spans (suc n)) ps ≡ keys_where (opens_at n) ps ++ keys_where (passes n) ps
-  after-run n ps r =
-      split-keys (spans (suc n)) (opens_at n) (passes n) ps (λ p h. sort-after p.opener p.closer n h.order)
-      (λ p q l a b.
-      let e : q.opener ≡ n = eqb-true q.opener n b in
-      let x : p.opener < n = ltb-true p.opener n (and-left (nat_lt p.opener n) (nat_lt n p.closer) a) in
-      let y : n < p.closer = ltb-true n p.closer (and-right (nat_lt p.opener n) (nat_lt n p.closer) a) in
-      let low : p.opener < q.opener = omega (arith, x, e) in
-      let high : q.opener < p.closer = omega (arith, y, e) in
-      both_ways (is_strictly_within q.opener p) l.1 (and_from _ _ (lt-ltb p.opener q.opener low) (lt-ltb q.opener p.closer high)))
-      r
+  after-run n ps r = grind (arith, split-keys, sort-after, eqb-true, ltb-true, and-left, and-right, both_ways, and_from, lt-ltb)
 
   -- none is open at the start, nor at the end
   pub none-first : (ps : List Pair) → AreRanked ps → keys_where (spans 0) ps ≡ []
@@ -174,52 +120,20 @@ module _ (R : List Run) where
   pub closed-keys : (n : ℕ) (ps : List Pair) → AreRanked ps →
       keys_where (closes_at n) ps ≡ with_marker (marker_of (run_at R n).codes) (closing_sizes n ps)
   closed-keys n [] r = refl
-  closed-keys n (p ∷ ps) r = by-test (p.closer == n) refl (closed-keys n ps r.1.1)
-    where
-      by-test : (b : Bool) → (p.closer == n) ≡ b →
-          keys_where (closes_at n) ps ≡ with_marker (marker_of (run_at R n).codes) (closing_sizes n ps) →
-          keys_where (closes_at n) (p ∷ ps) ≡ with_marker (marker_of (run_at R n).codes) (closing_sizes n (p ∷ ps))
-      by-test true e ih =
-          let same : marker_of (run_at R p.opener).codes ≡ marker_of (run_at R n).codes = r.0.marker ∙ ap (λ i. marker_of (run_at R i).codes) (eqb-true p.closer n e) in
-          keys-yes (closes_at n) p ps e ∙ (λ i. (same i, p.size) ∷ ih i)
-          ∙ ap (λ (x : Bool). with_marker (marker_of (run_at R n).codes) (elim x as (λ y. List ℕ) [ true ↦ p.size ∷ closing_sizes n ps | false ↦ closing_sizes n ps ])) (sym e)
-      by-test false e ih =
-          keys-no (closes_at n) p ps e ∙ ih
-          ∙ ap (λ (x : Bool). with_marker (marker_of (run_at R n).codes) (elim x as (λ y. List ℕ) [ true ↦ p.size ∷ closing_sizes n ps | false ↦ closing_sizes n ps ])) (sym e)
+  closed-keys n (p ∷ ps) r = grind (arith, closed-keys n ps r.1.1, eqb-true, keys-yes, keys-no)
 
   pub opened-keys : (n : ℕ) (ps : List Pair) → AreRanked ps →
       keys_where (opens_at n) ps ≡ with_marker (marker_of (run_at R n).codes) (opening_sizes n ps)
   opened-keys n [] r = refl
-  opened-keys n (p ∷ ps) r = by-test (p.opener == n) refl (opened-keys n ps r.1.1)
-    where
-      by-test : (b : Bool) → (p.opener == n) ≡ b →
-          keys_where (opens_at n) ps ≡ with_marker (marker_of (run_at R n).codes) (opening_sizes n ps) →
-          keys_where (opens_at n) (p ∷ ps) ≡ with_marker (marker_of (run_at R n).codes) (opening_sizes n (p ∷ ps))
-      by-test true e ih =
-          let same : marker_of (run_at R p.opener).codes ≡ marker_of (run_at R n).codes = ap (λ i. marker_of (run_at R i).codes) (eqb-true p.opener n e) in
-          keys-yes (opens_at n) p ps e ∙ (λ i. (same i, p.size) ∷ ih i)
-          ∙ ap (λ (x : Bool). with_marker (marker_of (run_at R n).codes) (elim x as (λ y. List ℕ) [ true ↦ p.size ∷ opening_sizes n ps | false ↦ opening_sizes n ps ])) (sym e)
-      by-test false e ih =
-          keys-no (opens_at n) p ps e ∙ ih
-          ∙ ap (λ (x : Bool). with_marker (marker_of (run_at R n).codes) (elim x as (λ y. List ℕ) [ true ↦ p.size ∷ opening_sizes n ps | false ↦ opening_sizes n ps ])) (sym e)
+  opened-keys n (p ∷ ps) r = grind (arith, opened-keys n ps r.1.1, eqb-true, keys-yes, keys-no)
 
   pub closing-some : (n : ℕ) (ps : List Pair) → AreRanked ps → AreSome (closing_sizes n ps)
   closing-some n [] r = tt
-  closing-some n (p ∷ ps) r = by-test (p.closer == n) (closing-some n ps r.1.1)
-    where
-      by-test : (b : Bool) → AreSome (closing_sizes n ps) →
-          AreSome (elim b as (λ y. List ℕ) [ true ↦ p.size ∷ closing_sizes n ps | false ↦ closing_sizes n ps ])
-      by-test true ih = (r.0.some, ih)
-      by-test false ih = ih
+  closing-some n (p ∷ ps) r = grind (arith, closing-some n ps r.1.1)
 
   pub opening-some : (n : ℕ) (ps : List Pair) → AreRanked ps → AreSome (opening_sizes n ps)
   opening-some n [] r = tt
-  opening-some n (p ∷ ps) r = by-test (p.opener == n) (opening-some n ps r.1.1)
-    where
-      by-test : (b : Bool) → AreSome (opening_sizes n ps) →
-          AreSome (elim b as (λ y. List ℕ) [ true ↦ p.size ∷ opening_sizes n ps | false ↦ opening_sizes n ps ])
-      by-test true ih = (r.0.some, ih)
-      by-test false ih = ih
+  opening-some n (p ∷ ps) r = grind (arith, opening-some n ps r.1.1)
 
   pub total-taken : (n : ℕ) (ps : List Pair) → AreRanked ps →
       total (closing_sizes n ps) + total (opening_sizes n ps) ≡ sum_by (taken_by n) ps
@@ -250,13 +164,7 @@ module _ (s : Setting) (R : List Run) where
   ranked-from : (end : ℕ) (earlier : List Pair) (last : ℕ) (ps : List Pair) → ArePairsFrom s R end earlier last ps →
       AreRanked R ps
   ranked-from end earlier last [] a = tt
-  ranked-from end earlier last (p ∷ ps) a = (
-    record { some = some a.0; order = a.0.eligible.in_order; within = a.0.eligible.in_container; marker = a.0.eligible.one_marker },
-    (all-later p end (earlier ++ p ∷ []) p.closer ps (λ i e. (within_push earlier p i e).1) (omega arith) a.1, ranked-from end (earlier ++ p ∷ []) p.closer ps a.1),
-  )
-    where
-      some : IsNextPair s R earlier last p → 0 < p.size
-      some n = let x = n.eligible.opener_left in let y = n.eligible.closer_left in rw n.size (omega (arith, x, y))
+  ranked-from end earlier last (p ∷ ps) a = grind (arith, all-later, within_push, ranked-from end (earlier ++ p ∷ []) p.closer ps a.1)
 
   pub ranked : (ps : List Pair) → IsPairList s R ps → AreRanked R ps
   ranked ps h = ranked-from (length R) [] 0 ps h

@@ -31,15 +31,10 @@ module _ (T U : Tokenizer) (same : U ≡ T) (may : MayPair T) (list fin runs : L
   content = T.cursor.codes
 
   pairing : IsPairing T.parse_state.now.options.now (runs_of_events T) runs pairs probes
-  pairing =
-      subst (λ (x : List Sequence). IsPairing T.parse_state.now.options.now x runs pairs probes) read
-      (subst (λ (x : List Sequence). IsPairing T.parse_state.now.options.now list x pairs probes) (sym are)
-      (subst (λ (x : List Pair). IsPairing T.parse_state.now.options.now list fin x probes) (sym as_found) left))
+  pairing = grind arith
 
   pub numbered-in : Numbered runs
-  numbered-in i l =
-      let u : i < length (runs_of_events T) = omega (arith, l, pairing.left.same_length) in
-      ap (λ (r : Sequence). r.number) (pairing.left.stands i u) ∙ numbered-is options bytes content T.events may.places i u
+  numbered-in i l = grind (arith, pairing, numbered-is)
 
   pub openers-in : All (λ p. p.opener < length runs) pairs
   openers-in = have-openers options bytes content T.events may.places may.ends may.room runs pairs pairing.left pairing.within

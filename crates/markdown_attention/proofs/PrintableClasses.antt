@@ -1,5 +1,5 @@
 -- The class of a printable character of ASCII, which is the same by all rules.
-use Rattle.std.proofs.Common.{◌≡◌, ℕ, ◌≤◌, ◌<◌, ◌==◌, ◌&&◌, ◌||◌, nat_le, Bool, true, false, Some, cond, refl, ap, ◌∙◌, arith}
+use Rattle.std.proofs.Common.{◌≡◌, ℕ, ◌≤◌, ◌<◌, ◌==◌, ◌&&◌, ◌||◌, nat_le, Bool, true, false, Some, refl, ap, ◌∙◌, arith}
 use Rattle.std.proofs.Math.Bool.{and-false}
 use Rattle.std.proofs.lemmas.Bool.{lt-leb, ne_eqb}
 use Rattle.std.specs.Char.{is_ascii_punctuation}
@@ -34,31 +34,11 @@ letter-unmarked c low high =
 
 module _ (c : ℕ) (low : 32 ≤ c) (high : c < 127) where
   listed-is : is_listed_space c ≡ (c == 32)
-  listed-is =
-      listed_space_ascii c (omega arith)
-      ∙ by-fifth (c == 9) (c == 10) (c == 12) (c == 13) (c == 32) (ne_eqb c 9 (λ e. omega arith)) (ne_eqb c 10 (λ e. omega arith)) (ne_eqb c 12 (λ e. omega arith)) (ne_eqb c 13 (λ e. omega arith))
+  listed-is = grind (arith, listed_space_ascii, by-fifth, ne_eqb)
 
   read-is : (r : Rules) → as_read r (Some c) ≡ Some c
-  read-is r = ap (λ b. Some (cond b 0xFFFD c)) (none r.nul_is_replaced (c == 0) (ne_eqb c 0 (λ e. omega arith)))
-    where
-      none : (a b : Bool) → b ≡ false → (a && b) ≡ false
-      none true b h = h
-      none false b h = refl
+  read-is r = grind (arith, ne_eqb)
 
   pub class-is : (r : Rules) (s p : Bool) → (c == 32) ≡ s → is_ascii_punctuation c ≡ p → class_beside r (Some c) ≡ kind_by s p
   unfolding class_beside class_of listed_class_of
-  class-is r s p e f =
-      ap (λ x. cond r.listed_spaces (listed_class_of x) (class_of x)) (read-is r)
-      ∙ same r.listed_spaces (listed_class_of (Some c)) (class_of (Some c)) (kind-of is_listed_space c s p (listed-is ∙ e) marked) white
-    where
-      marked : is_punctuation c ≡ p
-      marked = punctuation_ascii c (omega arith) ∙ f
-
-      white : class_of (Some c) ≡ kind_by s p
-      white =
-          ap (λ t. kind_by t (is_punctuation c)) (white_space_ascii c (omega arith) ∙ by-last (nat_le 9 c) (nat_le c 13) (c == 32) (lt-leb c 13 (omega arith)) ∙ e)
-          ∙ ap (kind_by s) marked
-
-      same : (b : Bool) (x y : Kind) → x ≡ kind_by s p → y ≡ kind_by s p → cond b x y ≡ kind_by s p
-      same true x y h k = h
-      same false x y h k = k
+  class-is r s p e f = grind (arith, read-is, kind-of, listed-is, punctuation_ascii, white_space_ascii, by-last, lt-leb)

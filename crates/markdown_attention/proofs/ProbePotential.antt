@@ -58,17 +58,7 @@ upto_zero f (suc n) h = let a = upto_zero f n (λ r l. h r (omega arith)) in let
 -- only one value counts
 pub upto_one : (v o n : ℕ) → upto (λ r. cond (eqb r o) v 0) n ≤ v
 upto_one v o zero = omega arith
-upto_one v o (suc n) =
-    elim (cases_eq n o) [
-      | inl e ↦
-          let rest : upto (λ r. cond (eqb r o) v 0) n ≡ 0 = upto_zero (λ r. cond (eqb r o) v 0) n (λ r l. rw (ne_eqb r o (λ e'. omega arith)) refl) in
-          let here : cond (eqb n o) v 0 ≡ v = rw (eq-eqb n o e) refl in
-          omega arith
-      | inr ne ↦
-          let rest = upto_one v o n in
-          let here : cond (eqb n o) v 0 ≡ 0 = rw (ne_eqb n o ne) refl in
-          omega arith
-    ]
+upto_one v o (suc n) = grind (arith, cases_eq, upto_zero, ne_eqb, eq-eqb, upto_one v o n)
 
 -- of six marks, how many are not above r
 abbrev pub one_unless_marked : (ℕ → ℕ) → ℕ → ℕ → ℕ
@@ -81,9 +71,7 @@ pub at_most_one : (b : Bool) → cond b 1 0 ≤ 1
 at_most_one b = elim b as (λ v. cond v 1 0 ≤ 1) [ true ↦ omega arith | false ↦ omega arith ]
 
 pub unmarked_le : (mark : ℕ → ℕ) (r : ℕ) → unmarked mark r ≤ 6
-unmarked_le mark r =
-    let a : upto (one_unless_marked mark r) 6 ≤ upto (λ c. 1) 6 = upto_le (one_unless_marked mark r) (λ c. 1) 6 (λ c l. at_most_one (leb (mark c) r)) in
-    a
+unmarked_le mark r = grind (arith, upto_le, at_most_one)
 
 pub upto_has : (o n : ℕ) → o < n → 1 ≤ upto (λ r. cond (eqb r o) 1 0) n
 upto_has o zero l = absurd (omega arith)
@@ -99,40 +87,17 @@ pub unmarked_falls : (mark mark' : ℕ → ℕ) (r class : ℕ) → class < 6 �
 unmarked_falls mark mark' r class l same low high =
     let gain : upto (λ c. one_unless_marked mark' r c + cond (eqb c class) 1 0) 6 ≤ unmarked mark r =
     upto_le (λ c. one_unless_marked mark' r c + cond (eqb c class) 1 0) (one_unless_marked mark r) 6
-    (λ c b. elim (cases_eq c class) [
-      | inl e ↦
-          let p : ◌≡◌ {A = ℕ} (cond (leb (mark' c) r) 1 0) 0 = rw (e, lt-leb (mark' class) r high) refl in
-          let q : ◌≡◌ {A = ℕ} (cond (eqb c class) 1 0) 1 = rw (eq-eqb c class e) refl in
-          let s : ◌≡◌ {A = ℕ} (cond (leb (mark c) r) 1 0) 1 = rw (e, le-leb (mark class) r low) refl in
-          omega arith
-      | inr ne ↦
-          let p : ◌≡◌ {A = ℕ} (cond (leb (mark' c) r) 1 0) (cond (leb (mark c) r) 1 0) = rw (same c b ne) refl in
-          let q : ◌≡◌ {A = ℕ} (cond (eqb c class) 1 0) 0 = rw (ne_eqb c class ne) refl in
-          omega arith
-    ]) in
+    (λ c b. grind (arith, cases_eq, lt-leb, eq-eqb, le-leb, ne_eqb)) in
     let split = upto_add (one_unless_marked mark' r) (λ c. cond (eqb c class) 1 0) 6 in
     let one : 1 ≤ upto (λ c. cond (eqb c class) 1 0) 6 = upto_has class 6 l in
     omega arith
 
 pub unmarked_same : (mark mark' : ℕ → ℕ) (r : ℕ) → ((c : ℕ) → c < 6 → leb (mark' c) r ≡ leb (mark c) r) →
     unmarked mark' r ≤ unmarked mark r
-unmarked_same mark mark' r h =
-    upto_le (one_unless_marked mark' r) (one_unless_marked mark r) 6
-    (λ c l. let e : ◌≡◌ {A = ℕ} (cond (leb (mark' c) r) 1 0) (cond (leb (mark c) r) 1 0) = ap (λ b. cond b 1 0) (h c l) in omega arith)
+unmarked_same mark mark' r h = grind (arith, upto_le)
 
 pub unmarked_some : (mark : ℕ → ℕ) (r class : ℕ) → class < 6 → mark class ≤ r → 1 ≤ unmarked mark r
-unmarked_some mark r class l low =
-    let a : upto (λ c. cond (eqb c class) 1 0) 6 ≤ unmarked mark r =
-    upto_le (λ c. cond (eqb c class) 1 0) (one_unless_marked mark r) 6
-    (λ c b. elim (cases_eq c class) [
-      | inl e ↦
-          let q : ◌≡◌ {A = ℕ} (cond (eqb c class) 1 0) 1 = rw (eq-eqb c class e) refl in
-          let s : ◌≡◌ {A = ℕ} (cond (leb (mark c) r) 1 0) 1 = rw (e, le-leb (mark class) r low) refl in
-          omega arith
-      | inr ne ↦ (let q : ◌≡◌ {A = ℕ} (cond (eqb c class) 1 0) 0 = rw (ne_eqb c class ne) refl in omega arith)
-    ]) in
-    let one = upto_has class 6 l in
-    omega arith
+unmarked_some mark r class l low = grind (arith, upto_le, cases_eq, eq-eqb, le-leb, ne_eqb, upto_has)
 
 -- what is kept for a run: one look for each class that it may still be refused for
 abbrev pub kept : (ℕ → ℕ) → (ℕ → Bool) → (ℕ → ℕ → ℕ) → ℕ → ℕ
@@ -151,11 +116,7 @@ kept_shut : (key : ℕ → ℕ) (open_at : ℕ → Bool) (mark : ℕ → ℕ →
 kept_shut key open_at mark r e = rw e refl
 
 pub kept_le : (key : ℕ → ℕ) (open_at : ℕ → Bool) (mark : ℕ → ℕ → ℕ) (r : ℕ) → kept key open_at mark r ≤ 6
-kept_le key open_at mark r =
-    elim (cases_Bool (open_at r)) [
-      | inl e ↦ (let a = kept_open key open_at mark r e in let b = unmarked_le (mark (key r)) r in omega arith)
-      | inr e ↦ (let a = kept_shut key open_at mark r e in omega arith)
-    ]
+kept_le key open_at mark r = grind (arith, cases_Bool, kept_open, unmarked_le, kept_shut)
 
 module _ (key : ℕ → ℕ) (open_at : ℕ → Bool) (mark mark' : ℕ → ℕ → ℕ) (turn q class : ℕ) (small : class < 6)
     (others : (q' c : ℕ) → c < 6 → (q' ≡ q → ⊥) → mark' q' c ≡ mark q' c) where

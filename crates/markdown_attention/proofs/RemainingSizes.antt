@@ -1,8 +1,7 @@
 -- The runs as they stand say what the pairs of each container took of them.
-use Rattle.std.proofs.Common.{◌≡◌, ◌≢◌, ℕ, ◌+◌, ◌*◌, ◌<◌, ◌≤◌, false, ◌&&◌, ◌||◌, eqb, ltb, List, [], ◌∷◌, ◌++◌, length, get_or, set, refl, sym, ◌∙◌, ap, inl, inr, arith, length-set}
+use Rattle.std.proofs.Common.{◌≡◌, ℕ, ◌+◌, ◌*◌, ◌<◌, ◌≤◌, false, ◌||◌, List, ◌∷◌, ◌++◌, length, set, refl, sym, ◌∙◌, ap, arith, length-set, []}
 use Rattle.std.proofs.lemmas.Bool.{eq-eqb, ne_eqb, cases_Bool, and_parts, ltb-true, le-ltb, and_right}
 use Rattle.std.proofs.lemmas.List.{get_or-set_same, get_or-set_other}
-use Rattle.std.proofs.lemmas.List.Elements.{All-weaker}
 use Rattle.std.proofs.lemmas.List.Folds.{list_any-append, list_any_none}
 use Rattle.std.proofs.lemmas.List.Sums.{sum_by_push, sum_by-set}
 use Rattle.std.specs.Prelude.{All}
@@ -15,10 +14,7 @@ use Rattle.markdown_attention.specs.NumberedPairs.{run_at, no_run, size_of_pair,
 -- no pair is around a run that no closer is past
 pub not_shut_past : (turn : ℕ) (pairs : List Pair) → All (λ p. p.closer ≤ turn) pairs → is_shut pairs turn ≡ false
 unfolding is_shut
-not_shut_past turn pairs h =
-    list_any_none (is_around turn) pairs
-    (All-weaker (λ p. p.closer ≤ turn) (λ p. is_around turn p ≡ false)
-    (λ p b. and_right (ltb p.opener turn) (ltb turn p.closer) (le-ltb turn p.closer b)) pairs h)
+not_shut_past turn pairs h = grind (arith, list_any_none, and_right, le-ltb)
 
 pub shut_push : (pairs : List Pair) (q : Pair) (i : ℕ) →
     is_shut (pairs ++ q ∷ []) i ≡ (is_shut pairs i || is_around i q)
@@ -35,9 +31,7 @@ pub takes_opener : (q : Pair) → takes q.opener q ≡ q.size
 takes_opener q = rw (eq-eqb q.opener q.opener refl)
 
 pub takes_closer : (q : Pair) → takes q.closer q ≡ q.size
-takes_closer q =
-    elim (cases_Bool (eqb q.opener q.closer))
-    [ inl e ↦ rw e | inr e ↦ rw (e, eq-eqb q.closer q.closer refl) ]
+takes_closer q = grind (arith, cases_Bool, eq-eqb)
 
 pub takes_other : (q : Pair) (i : ℕ) → (i ≡ q.opener → ⊥) → (i ≡ q.closer → ⊥) → takes i q ≡ 0
 takes_other q i a b = rw (ne_eqb q.opener i (λ e. a (sym e)), ne_eqb q.closer i (λ e. b (sym e)))
@@ -51,37 +45,14 @@ module _ (list : List Sequence) (o c size : ℕ) (below : o < c) (within : c < l
       get_or-set_same (set list o (lower (run_at list o) size)) c (lower (run_at list c) size) no_run (rw length-set within)
 
   pub taking_opener : run_at (after_taking list o c size) o ≡ lower (run_at list o) size
-  taking_opener =
-      let ne : o ≢ c = omega arith in
-      let inside : o < length list = omega arith in
-      get_or-set_other (set list o (lower (run_at list o) size)) c o (lower (run_at list c) size) no_run ne
-      ∙ get_or-set_same list o (lower (run_at list o) size) no_run inside
+  taking_opener = grind (arith, get_or-set_other, get_or-set_same)
 
   pub taking_other : (i : ℕ) → (i ≡ o → ⊥) → (i ≡ c → ⊥) → run_at (after_taking list o c size) i ≡ run_at list i
-  taking_other i a b =
-      get_or-set_other (set list o (lower (run_at list o) size)) c i (lower (run_at list c) size) no_run b
-      ∙ get_or-set_other list o i (lower (run_at list o) size) no_run a
+  taking_other i a b = grind (arith, get_or-set_other)
 
   pub markers_taking : size ≤ (run_at list o).remaining → size ≤ (run_at list c).remaining
       → markers_left (after_taking list o c size) + 2 * size ≡ markers_left list
-  markers_taking a b =
-      let ne : c ≢ o = omega arith in
-      let first = sum_by-set (λ r. r.remaining) list o (lower (run_at list o) size) no_run (omega arith) in
-      let second = sum_by-set (λ r. r.remaining) (set list o (lower (run_at list o) size)) c (lower (run_at list c) size) no_run (rw length-set within) in
-      let same : get_or (set list o (lower (run_at list o) size)) c no_run ≡ run_at list c =
-      get_or-set_other list o c (lower (run_at list o) size) no_run ne in
-      let same' : (get_or (set list o (lower (run_at list o) size)) c no_run).remaining ≡ (run_at list c).remaining = ap (λ r. r.remaining) same in
-      omega (arith, first, second, same')
+  markers_taking a b = grind (arith, sum_by-set, length-set, get_or-set_other)
 
 pub fits_size : (x y size : ℕ) → 0 < x → 0 < y → size ≡ size_of_pair x y → (0 < size) × (size ≤ x) × (size ≤ y)
-fits_size x y size a b e =
-    elim (cases_Bool (ltb 1 x && ltb 1 y)) [
-      | inl both ↦
-          let p = and_parts (ltb 1 x) (ltb 1 y) both in
-          let is : size ≡ 2 = e ∙ rw both refl in
-          let u = ltb-true 1 x p.0 in let v = ltb-true 1 y p.1 in
-          (omega arith, omega arith, omega arith)
-      | inr less ↦
-          let is : size ≡ 1 = e ∙ rw less refl in
-          (omega arith, omega arith, omega arith)
-    ]
+fits_size x y size a b e = grind (arith, cases_Bool, and_parts, ltb-true)

@@ -1,5 +1,5 @@
 -- The runs of a tree's events, counted by its containers, and by its codes.
-use Rattle.std.proofs.Common.{◌≡◌, ℕ, ◌+◌, ◌≤◌, Bool, true, false, if◌then◌else◌, List, [], ◌∷◌, ◌++◌, length, filter, Option, None, refl, sym, ap, ◌∙◌, arith, inl, inr, sum_by, length-append}
+use Rattle.std.proofs.Common.{◌≡◌, ℕ, ◌+◌, ◌≤◌, Bool, true, false, List, ◌∷◌, ◌++◌, length, filter, Option, None, refl, sym, ap, ◌∙◌, arith, inl, inr, sum_by, length-append, []}
 use Rattle.std.proofs.lemmas.Bool.{cases_Bool}
 use Rattle.std.specs.List.{count_by}
 use Rattle.std.proofs.lemmas.List.Sums.{sum_by-append, sum_by-cons, length-filter}
@@ -115,10 +115,7 @@ module _ (s : Setting) (options : ParseOptions) (bytes : List ℕ) (content : Li
 
   rows-counted : (t : Forest) (n i m : ℕ) (k : Container) → HasRuns bytes t →
       in_rows t ≡ G (tree_runs options bytes content n i m k t)
-  rows-counted empty n i m k h =
-      let a : F (runs_of s empty) ≡ 0 = ap F (runs-empty s) ∙ f.none in
-      let b : sum_by F (rows_inside s empty) ≡ 0 = ap (λ x. sum_by F x) (rows-empty s) in
-      omega (arith, a, b, g.none)
+  rows-counted empty n i m k h = grind (arith, runs-empty, rows-empty)
   rows-counted (leaf_then name link cs rest) n i m k h =
       let here : List Sequence = leaf_run options bytes content n i k name (start_of cs) (stop_of document_start cs) in
       let more : List Sequence = tree_runs options bytes content (n + length here) (i + 2) m k rest in
@@ -158,13 +155,7 @@ module _ (s : Setting) (options : ParseOptions) (bytes : List ℕ) (content : Li
 
 count-one : {A B : Type 0} (p : A → Bool) (q : B → Bool) (x : A) (y : B) → p x ≡ q y →
     count_by p (x ∷ []) ≡ count_by q (y ∷ [])
-count-one {A} {B} p q x y e = sym (length-filter p (x ∷ [])) ∙ by_tests (p x) (q y) e ∙ length-filter q (y ∷ [])
-  where
-    by_tests : (a b : Bool) → a ≡ b → length (if a then x ∷ [] else []) ≡ length (if b then y ∷ [] else [])
-    by_tests true true h = refl
-    by_tests false false h = refl
-    by_tests true false h = absurd (cc)
-    by_tests false true h = absurd (cc)
+count-one {A} {B} p q x y e = grind (arith, length-filter)
 
 module _ (s : Setting) (options : ParseOptions) (bytes : List ℕ) (content : List Code) (same : s.bytes ≡ bytes) (given : s.options ≡ options) (held : s.content ≡ content) (t : Forest) (h : HasRuns bytes t) where
   abbrev all_runs : List Sequence

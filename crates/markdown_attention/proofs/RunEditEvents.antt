@@ -1,5 +1,5 @@
 -- What comes for each run of a tree are the events of its tokens.
-use Rattle.std.proofs.Common.{◌≡◌, ℕ, suc, ◌+◌, ◌-◌, ◌<◌, ◌≤◌, Bool, true, false, cond, if◌then◌else◌, List, [], ◌∷◌, ◌++◌, length, map, reverse, Option, None, refl, sym, ap, subst, ◌∙◌, arith, append_assoc, append-nil, length-append, inl, inr, sum_by}
+use Rattle.std.proofs.Common.{◌≡◌, ℕ, suc, ◌+◌, ◌-◌, ◌<◌, ◌≤◌, Bool, true, false, cond, if◌then◌else◌, List, ◌∷◌, ◌++◌, length, map, reverse, Option, None, refl, sym, ap, subst, ◌∙◌, arith, append_assoc, append-nil, length-append, inl, inr, sum_by, []}
 use Rattle.markdown_content.specs.declared.configuration.ParseOptions.{ParseOptions}
 use Rattle.markdown_attention.proofs.BracketAppends.{total-reverse}
 use Rattle.std.proofs.lemmas.Bool.{eq-eqb, both_ways, cases_Bool, or_parts}
@@ -41,12 +41,7 @@ at-behind (x ∷ front) r back = at-behind front r back
 place-behind : (k : ℕ) (front : List Sequence) (r : Sequence) (back : List Sequence) →
     place_in k (front ++ r ∷ back) (length front) ≡ length (runs_in k front)
 place-behind k [] r back = refl
-place-behind k (x ∷ front) r back = by-test (is_in k x) (place-behind k front r back)
-  where
-    by-test : (b : Bool) → place_in k (front ++ r ∷ back) (length front) ≡ length (runs_in k front)
-        → (if b then suc (place_in k (front ++ r ∷ back) (length front)) else place_in k (front ++ r ∷ back) (length front)) ≡ length (cond b (x ∷ runs_in k front) (runs_in k front))
-    by-test true e = ap suc e
-    by-test false e = e
+place-behind k (x ∷ front) r back = grind (arith, place-behind k front r back)
 
 no-shapes : (xs : List Sequence) → map whole_shape xs ≡ [] → xs ≡ []
 no-shapes [] e = refl

@@ -1,5 +1,5 @@
 -- What the edits of runs collect at each place.
-use Rattle.std.proofs.Common.{◌≡◌, ℕ, zero, suc, ◌+◌, ◌<◌, ◌≤◌, ◌==◌, ◌&&◌, Bool, true, false, if◌then◌else◌, List, [], ◌∷◌, ◌++◌, length, drop, refl, sym, ap, subst, ◌∙◌, arith, append-nil, inl, inr}
+use Rattle.std.proofs.Common.{◌≡◌, ℕ, zero, suc, ◌+◌, ◌<◌, ◌≤◌, ◌==◌, ◌&&◌, Bool, true, false, if◌then◌else◌, List, ◌∷◌, ◌++◌, length, drop, refl, sym, ap, subst, ◌∙◌, arith, append-nil, inl, inr, []}
 use Rattle.std.proofs.lemmas.Bool.{cases_Bool, ne_eqb, eq-eqb}
 use Rattle.markdown_content.specs.declared.configuration.ParseOptions.{ParseOptions}
 use Rattle.markdown_engine_events.specs.Edits.{removed_at, front_at, back_at, added_at}
@@ -70,10 +70,7 @@ module _ (comes : Sequence → List Event) where
   pub back-run : (n k g : ℕ) (rs : List Sequence) → AreInOrderFrom n rs → g < length rs → (run_at rs g).event ≡ k →
       back_at k (edits rs) ≡ comes (run_at rs g)
   back-run n k g [] h l e = absurd (omega (arith, l))
-  back-run n k zero (r ∷ rs) h l e =
-      back-by k r rs true (eq-eqb r.event k e)
-      ∙ ap (λ xs. comes r ++ xs) (back-below (r.event + 1) k rs h.1 (omega (arith, e)))
-      ∙ append-nil (comes r)
+  back-run n k zero (r ∷ rs) h l e = grind (arith, back-by, eq-eqb, back-below, append-nil)
   back-run n k (suc g) (r ∷ rs) h l e =
       let a : r.event + 1 ≤ k = at-least (r.event + 1) k g rs h.1 (omega (arith, l)) e in
       back-by k r rs false (ne_eqb r.event k (λ x. omega (arith, a, x))) ∙ back-run (r.event + 1) k g rs h.1 (omega (arith, l)) e
@@ -174,30 +171,14 @@ module _ (comes : Sequence → List Event) where
         let ih : back_at k (edits rest) ≡ [] =
         back-place es (n + length (first_run options bytes content n i w.container (x ∷ es))) (suc i) (where_after i x w) k j (omega (arith, e)) h.1 f in
         elim (cases_Bool (opens_run x)) [
-          | inl o ↦
-              let b = begun n i w.container x es h o in
-              ap (λ xs. back_at k (edits (xs ++ rest))) b.is
-              ∙ back-by k b.run rest false (let at = b.event in ne_eqb b.run.event k (λ y. omega (arith, at, e, y)))
-              ∙ ih
+          | inl o ↦ grind (arith, begun, back-by, ne_eqb)
           | inr o ↦ ap (λ xs. back_at k (edits (xs ++ rest))) (none-begun n i w.container x es o) ∙ ih
         ]
 
     -- the edits of these events' runs: one for each run, at its Enter
     pub pass-log : (es : List Event) (w : Around) → HaveRunPlaces bytes es →
         IsPassLog es (edits (from 0 0 w es)) (λ k. added_at k (edits (from 0 0 w es)))
-    pass-log es w h =
-        record {
-          added = λ k. by-test k (begins_run (drop k es)) refl;
-          removed = λ k. removed-place es 0 0 w k k (omega arith) h;
-        }
-      where
-        by-test : (k : ℕ) (b : Bool) → begins_run (drop k es) ≡ b →
-            added_at k (edits (from 0 0 w es)) ≡ (if begins_run (drop k es) then added_at k (edits (from 0 0 w es)) else [])
-        by-test k true e = ap (λ (b : Bool). if b then added_at k (edits (from 0 0 w es)) else []) (sym e)
-        by-test k false e =
-            ap (λ xs. xs ++ back_at k (edits (from 0 0 w es))) (fronts-none k (from 0 0 w es))
-            ∙ back-place es 0 0 w k k (omega arith) h e
-            ∙ ap (λ (b : Bool). if b then added_at k (edits (from 0 0 w es)) else []) (sym e)
+    pass-log es w h = grind (arith, removed-place, fronts-none, back-place)
 
     pub numbered : (es : List Event) (n i : ℕ) (w : Around) (g : ℕ) → HaveRunPlaces bytes es →
         g < length (from n i w es) → (run_at (from n i w es) g).number ≡ n + g
@@ -206,14 +187,6 @@ module _ (comes : Sequence → List Event) where
         let rest : List Sequence = rest_from n i w e es in
         let ih = numbered es (n + length (first_run options bytes content n i w.container (e ∷ es))) (suc i) (where_after i e w) in
         elim (cases_Bool (opens_run e)) [
-          | inl o ↦
-              let b = begun n i w.container e es h o in
-              let size : length (first_run options bytes content n i w.container (e ∷ es)) ≡ 1 = ap length b.is in
-              subst (λ (xs : List Sequence). (run_at (xs ++ rest) g).number ≡ n + g) (sym b.is)
-              (first-or g b.run rest n b.number (λ j k. ih j h.1 k ∙ omega (arith, size)) (subst (λ (xs : List Sequence). g < length (xs ++ rest)) b.is l))
-          | inr o ↦
-              let none = none-begun n i w.container e es o in
-              let size : length (first_run options bytes content n i w.container (e ∷ es)) ≡ 0 = ap length none in
-              subst (λ (xs : List Sequence). (run_at (xs ++ rest) g).number ≡ n + g) (sym none)
-              (ih g h.1 (subst (λ (xs : List Sequence). g < length (xs ++ rest)) none l) ∙ omega (arith, size))
+          | inl o ↦ grind (arith, begun, first-or)
+          | inr o ↦ grind (arith, none-begun)
         ]

@@ -1,5 +1,5 @@
 -- The events of a tree of stripes have the ends that the edits ask for.
-use Rattle.std.proofs.Common.{◌≡◌, ◌≢◌, ℕ, suc, ◌+◌, ◌-◌, false, List, [], ◌∷◌, ◌++◌, length, Option, Some, None, refl, sym, ap, subst, ◌∙◌, arith, append_assoc, append-nil}
+use Rattle.std.proofs.Common.{◌≡◌, ◌≢◌, ℕ, ◌+◌, ◌-◌, false, List, ◌∷◌, ◌++◌, Option, Some, None, refl, sym, subst, ◌∙◌, arith, append_assoc, append-nil, []}
 use Rattle.std.proofs.lemmas.Bool.{both_ways}
 use Rattle.markdown_content.specs.Codes.{Code, stop_of, document_start}
 use Rattle.markdown_engine.specs.PastTree.{appended_from}
@@ -7,7 +7,6 @@ use Rattle.markdown_content.specs.Tree.{Forest, empty, leaf_then, group_then, ev
 use Rattle.markdown_event.specs.declared.event.Content.{Content}
 use Rattle.markdown_event.specs.declared.event.Event.{Event}
 use Rattle.markdown_event.specs.declared.event.Kind.TheVariants as Kind
-use Rattle.markdown_event.specs.declared.event.Point.{Point}
 use Rattle.markdown_model.specs.Runs.{marker_of}
 use Rattle.markdown_attention.specs.RunsRead.{opens_run}
 use Rattle.markdown_attention.specs.RunEvents.{IsStripe, shifted}
@@ -21,13 +20,7 @@ no-link c e = cc
 stripe-end : (cs : List Code) → cs ≢ [] → IsStripe (marker_of cs) (start_of cs) cs →
     stop_of document_start cs ≡ shifted (start_of cs) ((stop_of document_start cs).index - (start_of cs).index)
 stripe-end [] n h = absurd (n refl)
-stripe-end (c ∷ cs) n h =
-    let p : Point = c.start in
-    let q : Point = stop_of c.stop cs in
-    let is : q ≡ shifted p (suc (length cs)) = stripe-stop c.value p p (c ∷ cs) h refl in
-    let by : q.index ≡ p.index + suc (length cs) = ap (λ (x : Point). x.index) is in
-    let size : suc (length cs) ≡ q.index - p.index = omega (arith, by) in
-    is ∙ ap (shifted p) size
+stripe-end (c ∷ cs) n h = grind (arith, stripe-stop)
 
 other-event : (e : Event) (es : List Event) → opens_run e ≡ false → HaveRunEnds es → HaveRunEnds (e ∷ es)
 other-event e es o h = (λ y. absurd (both_ways (opens_run e) o y), h)
@@ -35,12 +28,8 @@ other-event e es o h = (λ y. absurd (both_ways (opens_run e) o y), h)
 pub ends-row : (t : Forest) (n : ℕ) (previous : Option ℕ) (rest : List Event) → HasStripes t → HaveRunEnds rest →
     HaveRunEnds (appended_from n previous t ++ rest)
 ends-row empty n previous rest h r = r
-ends-row (leaf_then name None cs t) n previous rest h r =
-    let more : HaveRunEnds (appended_from (n + 2) previous t ++ rest) = ends-row t (n + 2) previous rest h.1 r in
-    ((λ e. (refl, (refl, stripe-end cs (h.0 e).1.0 (h.0 e).1.1))), other-event (event Kind.Exit name (stop_of document_start cs)) (appended_from (n + 2) previous t ++ rest) refl more)
-ends-row (leaf_then name (Some c) cs t) n previous rest h r =
-    let more : HaveRunEnds (appended_from (n + 2) (Some n) t ++ rest) = ends-row t (n + 2) (Some n) rest h.1 r in
-    ((λ e. no-link c (h.0 e).0), other-event (event Kind.Exit name (stop_of document_start cs)) (appended_from (n + 2) (Some n) t ++ rest) refl more)
+ends-row (leaf_then name None cs t) n previous rest h r = grind (arith, ends-row t (n + 2) previous rest h.1 r, stripe-end, other-event)
+ends-row (leaf_then name (Some c) cs t) n previous rest h r = grind (arith, ends-row t (n + 2) (Some n) rest h.1 r, no-link, other-event)
 ends-row (group_then name a b inside t) n previous rest h r =
     let m : ℕ = n + 2 + event_count inside in
     let x : Event = event Kind.Exit name b in

@@ -1,16 +1,13 @@
 -- The events of a tree of labels have the places of runs that the pass asks for.
-use Rattle.std.proofs.Common.{◌≡◌, ℕ, ◌+◌, false, List, [], ◌∷◌, ◌++◌, Option, Some, None, refl, sym, subst, append_assoc, append-nil, ◌*◌, ◌^◌, ◌<◌, ◌≤◌, length, arith}
+use Rattle.std.proofs.Common.{◌≡◌, ℕ, ◌+◌, false, List, ◌∷◌, ◌++◌, Option, Some, None, refl, sym, subst, append_assoc, append-nil, ◌^◌, ◌<◌, ◌≤◌, length, arith, []}
 use Rattle.std.specs.Prelude.{IsUtf8}
 use Rattle.std.proofs.lemmas.Bool.{both_ways}
 use Rattle.markdown_content.specs.Codes.{Code, stop_of, document_start}
-use Rattle.markdown_content.specs.Content.{content_of, IsContent, document_limit}
+use Rattle.markdown_content.specs.Content.{document_limit}
 use Rattle.markdown_engine.specs.PastTree.{appended_from}
 use Rattle.markdown_content.specs.Tree.{Forest, empty, leaf_then, group_then, event, event_count}
 use Rattle.markdown_event.specs.declared.event.Event.{Event}
 use Rattle.markdown_event.specs.declared.event.Kind.TheVariants as Kind
-use Rattle.markdown_content.specs.declared.parser.Piece.{Piece}
-use Rattle.markdown_model.specs.InlineTree.{label_tree}
-use Rattle.markdown_model.specs.Setting.{Setting}
 use Rattle.markdown_attention.specs.RunsRead.{opens_run, HaveRunPlaces}
 use Rattle.markdown_attention.specs.RunsOfTree.{HasRuns}
 use Rattle.markdown_attention.proofs.RunEventEnds.{ends-of}
@@ -18,8 +15,7 @@ use Rattle.markdown_attention.specs.AttentionTrees.{IsStriped}
 use Rattle.markdown_attention.specs.RunEdits.{HaveRunEnds}
 use Rattle.markdown_attention.specs.RunEdits.{HaveRunRoom}
 use Rattle.markdown_attention.proofs.AttentionTreeLabels.{EachRun, IsGood}
-use Rattle.markdown_attention.proofs.MarkerCodes.{IsPlaced, singles-content}
-use Rattle.markdown_attention.proofs.ElementsHaveMarkerRuns.{good-tree}
+use Rattle.markdown_attention.proofs.MarkerCodes.{IsPlaced}
 
 module _ (bytes : List ℕ) (u : IsUtf8 bytes) where
   other-event : (e : Event) (es : List Event) → opens_run e ≡ false → HaveRunPlaces bytes es →
@@ -29,12 +25,8 @@ module _ (bytes : List ℕ) (u : IsUtf8 bytes) where
   pub places-row : (t : Forest) (n : ℕ) (previous : Option ℕ) (rest : List Event) → HasRuns bytes t →
       EachRun (IsPlaced bytes) t → HaveRunPlaces bytes rest → HaveRunPlaces bytes (appended_from n previous t ++ rest)
   places-row empty n previous rest g h r = r
-  places-row (leaf_then name None cs t) n previous rest g h r =
-      let more : HaveRunPlaces bytes (appended_from (n + 2) previous t ++ rest) = places-row t (n + 2) previous rest g.1 h.1 r in
-      ((λ e. (h.0 e u).0), other-event (event Kind.Exit name (stop_of document_start cs)) (appended_from (n + 2) previous t ++ rest) refl more)
-  places-row (leaf_then name (Some c) cs t) n previous rest g h r =
-      let more : HaveRunPlaces bytes (appended_from (n + 2) (Some n) t ++ rest) = places-row t (n + 2) (Some n) rest g.1 h.1 r in
-      ((λ e. (h.0 e u).0), other-event (event Kind.Exit name (stop_of document_start cs)) (appended_from (n + 2) (Some n) t ++ rest) refl more)
+  places-row (leaf_then name None cs t) n previous rest g h r = grind (arith, places-row t (n + 2) previous rest g.1 h.1 r, other-event)
+  places-row (leaf_then name (Some c) cs t) n previous rest g h r = grind (arith, places-row t (n + 2) (Some n) rest g.1 h.1 r, other-event)
   places-row (group_then name a b inside t) n previous rest g h r =
       let m : ℕ = n + 2 + event_count inside in
       let x : Event = event Kind.Exit name b in
@@ -49,10 +41,7 @@ module _ (bytes : List ℕ) (u : IsUtf8 bytes) where
 module _ (bytes : List ℕ) (u : IsUtf8 bytes) (few : length bytes ≤ document_limit) where
   end-fits : (cs : List Code) → IsPlaced bytes cs →
       ((stop_of document_start cs).column < 2 ^ 64) × ((stop_of document_start cs).index < 2 ^ 64)
-  end-fits cs h =
-      let low : (stop_of document_start cs).index ≤ length bytes = (h u).0.to_between.0 in
-      let wide : (stop_of document_start cs).column ≤ 4 * (stop_of document_start cs).index + 1 = (h u).1 in
-      (omega (arith, low, wide, few), omega (arith, low, few))
+  end-fits cs h = grind arith
 
   no-room : (e : Event) (es : List Event) → opens_run e ≡ false → HaveRunRoom es → HaveRunRoom (e ∷ es)
   no-room e es o h = (λ y. absurd (both_ways (opens_run e) o y), h)
@@ -60,12 +49,8 @@ module _ (bytes : List ℕ) (u : IsUtf8 bytes) (few : length bytes ≤ document_
   room-row : (t : Forest) (n : ℕ) (previous : Option ℕ) (rest : List Event) → HasRuns bytes t →
       EachRun (IsPlaced bytes) t → HaveRunRoom rest → HaveRunRoom (appended_from n previous t ++ rest)
   room-row empty n previous rest g h r = r
-  room-row (leaf_then name None cs t) n previous rest g h r =
-      let more : HaveRunRoom (appended_from (n + 2) previous t ++ rest) = room-row t (n + 2) previous rest g.1 h.1 r in
-      ((λ e. end-fits cs (h.0 e)), no-room (event Kind.Exit name (stop_of document_start cs)) (appended_from (n + 2) previous t ++ rest) refl more)
-  room-row (leaf_then name (Some c) cs t) n previous rest g h r =
-      let more : HaveRunRoom (appended_from (n + 2) (Some n) t ++ rest) = room-row t (n + 2) (Some n) rest g.1 h.1 r in
-      ((λ e. end-fits cs (h.0 e)), no-room (event Kind.Exit name (stop_of document_start cs)) (appended_from (n + 2) (Some n) t ++ rest) refl more)
+  room-row (leaf_then name None cs t) n previous rest g h r = grind (arith, room-row t (n + 2) previous rest g.1 h.1 r, end-fits, no-room)
+  room-row (leaf_then name (Some c) cs t) n previous rest g h r = grind (arith, room-row t (n + 2) (Some n) rest g.1 h.1 r, end-fits, no-room)
   room-row (group_then name a b inside t) n previous rest g h r =
       let m : ℕ = n + 2 + event_count inside in
       let x : Event = event Kind.Exit name b in
@@ -93,9 +78,3 @@ good-meets bytes t u few g = record {
   ends = ends-of t (appended_from 0 None t) g.1.0 refl;
   room = subst (λ (xs : List Event). HaveRunRoom xs) (append-nil (appended_from 0 None t)) (room-row bytes u few t 0 None [] g.0 g.1.1.1 tt);
 }
-
--- the tree of labels of each content meets it
-pub tree-meets : (bytes : List ℕ) (s : Setting) (pieces : List Piece) → IsContent bytes pieces →
-    MeetsPass bytes (label_tree s (content_of bytes pieces))
-tree-meets bytes s pieces h =
-    good-meets bytes (label_tree s (content_of bytes pieces)) h.is_text h.fits (good-tree bytes s (content_of bytes pieces) (singles-content bytes pieces h.in_order))

@@ -1,12 +1,11 @@
 -- A walk past events that change nothing of what is read of the runs.
-use Rattle.std.proofs.Common.{◌≡◌, ℕ, zero, suc, ◌+◌, ◌-◌, ◌<◌, ◌≤◌, ◌&&◌, ◌||◌, Bool, true, false, List, [], ◌∷◌, ◌++◌, length, drop, get_or, refl, sym, ap, subst, ◌∙◌, arith, append-nil, inl, inr}
+use Rattle.std.proofs.Common.{◌≡◌, ℕ, zero, suc, ◌+◌, ◌-◌, ◌<◌, ◌≤◌, true, false, List, ◌∷◌, ◌++◌, length, drop, get_or, refl, sym, ap, subst, ◌∙◌, arith, append-nil, inl, inr, []}
 use Rattle.std.proofs.lemmas.Bool.{cases_lt}
 use Rattle.std.proofs.lemmas.List.{get_or_default}
 use Rattle.markdown_content.specs.declared.configuration.ParseOptions.{ParseOptions}
 use Rattle.markdown_event.specs.declared.event.Event.{Event}
-use Rattle.markdown_event.specs.declared.event.Name.{Name}
 use Rattle.markdown_event.specs.declared.event.Name.TheVariants as N
-use Rattle.markdown_attention.specs.RunsRead.{Container, is_enter, is_run, is_text, opens_run, where_after, first_run}
+use Rattle.markdown_attention.specs.RunsRead.{Container, is_text, opens_run, where_after, first_run}
 use Rattle.markdown_attention.specs.RunSteps.{changes_reading, is_run_or_text}
 use Rattle.markdown_attention.specs.declared.attention.reading.Where.{Where}
 use Rattle.markdown_attention.specs.declared.attention.runs.Sequence.{Sequence}
@@ -37,42 +36,18 @@ others-on es i k n first more j e low high =
     elim (cases_lt j k) [ inl b ↦ first j e low b | inr a ↦ more j e a high ]
 
 no-run : (e : Event) → changes_reading e ≡ false → opens_run e ≡ false
-no-run e h = by_test (opens_run e) (is_text e.name) h
-  where
-    by_test : (r t : Bool) → (r || t) ≡ false → r ≡ false
-    by_test true t h = h
-    by_test false t h = refl
+no-run e h = grind arith
 
 no-text : (e : Event) → changes_reading e ≡ false → is_text e.name ≡ false
-no-text e h = by_test (opens_run e) (is_text e.name) h
-  where
-    by_test : (r t : Bool) → (r || t) ≡ false → t ≡ false
-    by_test true true h = h
-    by_test true false h = refl
-    by_test false t h = h
+no-text e h = grind arith
 
 -- an event of another name changes nothing
 pub other-name : (e : Event) → is_run_or_text e.name ≡ false → changes_reading e ≡ false
-other-name e h = by_test (is_enter e.kind) (is_run e.name) (is_text e.name) h
-  where
-    by_test : (k r t : Bool) → (r || t) ≡ false → (k && r || t) ≡ false
-    by_test true r t h = h
-    by_test false true true h = h
-    by_test false true false h = refl
-    by_test false false t h = h
+other-name e h = grind arith
 
 -- the Enter of a run is no event of a text
 pub run-no-text : (e : Event) → opens_run e ≡ true → is_text e.name ≡ false
-run-no-text e h = by_name e.name (by_test (is_enter e.kind) (is_run e.name) h)
-  where
-    by_test : (k r : Bool) → (k && r) ≡ true → r ≡ true
-    by_test true r h = h
-    by_test false true h = refl
-    by_test false false h = h
-
-    by_name : (name : Name) → is_run name ≡ true → is_text name ≡ false
-    by_name N.LabelText h = cc
-    by_name _ h = refl
+run-no-text e h = grind arith
 
 -- two events at one place
 pub one-event : (es : List Event) (i : ℕ) (e x : Event) → i < length es → e ≡ get_or es i e → x ≡ get_or es i x → e ≡ x

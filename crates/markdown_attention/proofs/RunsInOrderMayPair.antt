@@ -1,5 +1,5 @@
 -- Events whose runs stand in order over a document may be given to the pass.
-use Rattle.std.proofs.Common.{◌≡◌, ◌≢◌, ℕ, suc, ◌+◌, ◌-◌, ◌*◌, ◌<◌, ◌≤◌, Bool, true, false, if◌then◌else◌, List, [], ◌∷◌, ◌++◌, length, drop, get_or, refl, sym, ap, subst, ◌∙◌, arith, inl, inr}
+use Rattle.std.proofs.Common.{◌≡◌, ◌≢◌, ℕ, suc, ◌+◌, ◌-◌, ◌*◌, ◌<◌, ◌≤◌, Bool, true, false, ◌&&◌, not, if◌then◌else◌, List, [], ◌∷◌, ◌++◌, length, drop, get_or, refl, sym, ap, subst, ◌∙◌, arith, inl, inr}
 use Rattle.std.specs.Prelude.{IsUtf8}
 use Rattle.markdown_content.specs.declared.configuration.ParseOptions.{ParseOptions}
 use Rattle.markdown_attention.proofs.BracketAppends.{shift-shift}
@@ -14,15 +14,15 @@ use Rattle.markdown_content.specs.DocumentWalk.{IsPoint}
 use Rattle.markdown_event.specs.declared.event.Event.{Event}
 use Rattle.markdown_event.specs.declared.event.Point.{Point}
 use Rattle.markdown_engine.specs.declared.tokenizer.Tokenizer.{Tokenizer}
-use Rattle.markdown_content.proofs.CodesBetween.{codes_to, first-to, IsFirstTo}
+use Rattle.markdown_content.proofs.CodesBetween.{codes_to, first-to}
 use Rattle.markdown_content.proofs.AdjacentCodes.{head_same, tail_same, cons≢nil}
 use Rattle.markdown_content.proofs.PlaceOrder.{is_before, same_place, before-asym}
-use Rattle.markdown_content.proofs.DocumentPlaces.{stands-point, there-point, toward, IsToward, same-pair}
+use Rattle.markdown_content.proofs.DocumentPlaces.{stands-point, there-point, toward, same-pair}
 use Rattle.markdown_content.proofs.ContentCodes.{none-before, piece-codes-is}
-use Rattle.markdown_content.proofs.DocumentCodes.{value_at, stop_at, code_here, HasPlaceNumbers}
+use Rattle.markdown_content.proofs.DocumentCodes.{stop_at, code_here, HasPlaceNumbers}
 use Rattle.markdown_attention.specs.OpenRuns.{IsMarker}
 use Rattle.markdown_attention.specs.NumberedPairs.{markers_left}
-use Rattle.markdown_attention.specs.RunsRead.{Around, opens_run, sequence_at, where_after, outermost, first_run, runs_from, IsRunPlace, HaveRunPlaces}
+use Rattle.markdown_attention.specs.RunsRead.{Around, is_run, is_enter, opens_run, closes_run, sequence_at, where_after, outermost, first_run, runs_from, IsRunPlace, HaveRunPlaces}
 use Rattle.markdown_attention.specs.declared.attention.runs.Sequence.{Sequence}
 use Rattle.markdown_attention.specs.RunsInOrder.{IsRunOver, HaveRunsInOrder}
 use Rattle.markdown_attention.specs.RunEvents.{shifted}
@@ -55,22 +55,7 @@ module _ (bytes : List ℕ) (u : IsUtf8 bytes) (m : ℕ) (is : IsMarker m) where
 
   first-marker : (p q : Point) (c : Code) (cs : List Code) → codes_to bytes p q ≡ c ∷ cs → c.value ≡ m →
       IsPoint bytes p → IsPoint bytes q → is_before (place_of p) (place_of q) ≡ true → IsFirstMarker p q cs
-  first-marker p q c cs e v h k before =
-      let f : IsFirstTo bytes p q = first-to bytes p q h k before in
-      let way : IsToward bytes p (place_of q) = toward bytes p (place_of q) h (there-point bytes q k) before in
-      let later : List Code = codes_to bytes (stop_at bytes p) q in
-      let both : c ∷ cs ≡ code_here bytes p ∷ later = sym e ∙ f.codes in
-      let value : value_at bytes p ≡ m = sym (ap (λ (x : Code). x.value) (head_same c (code_here bytes p) cs later both)) ∙ v in
-      let mark : IsMarker (value_at bytes p) = subst IsMarker (sym value) is in
-      let here : (get_or bytes p.index 0 ≡ value_at bytes p) × (stop_at bytes p ≡ shifted p 1) = marker-here bytes p (stands-point bytes p h) mark in
-      record {
-        within = way.in_bytes;
-        byte = subst IsMarker (sym here.0) mark;
-        stop = here.1;
-        rest = sym (tail_same c (code_here bytes p) cs later both);
-        point = f.point;
-        reached = f.reached;
-      }
+  first-marker p q c cs e v h k before = grind (arith, first-to, toward, there-point, head_same, marker-here, stands-point, tail_same)
 
   -- equal markers up to a place are as many columns
   along-markers : (p q : Point) (cs : List Code) → codes_to bytes p q ≡ cs → HasMarker m cs → IsPoint bytes p →
@@ -141,6 +126,10 @@ behind bytes e es h =
 abbrev BeginFrom : ℕ → List Event → Type 0
 BeginFrom low es = (j : ℕ) → begins_run (drop j es) ≡ true → low ≤ (point_in es j).index
 
+-- the event behind its Enter is its Exit
+closes : {bytes : List ℕ} {enter exit : Event} → IsRunOver bytes enter exit → closes_run exit ≡ true
+closes r = λ i. not (is_enter (r.kind i)) && is_run (r.name i)
+
 module _ (bytes : List ℕ) (u : IsUtf8 bytes) where
   places-in : (es : List Event) → HaveRunsInOrder bytes es → HaveRunPlaces bytes es
   places-in [] h = tt
@@ -151,7 +140,7 @@ module _ (bytes : List ℕ) (u : IsUtf8 bytes) where
   ends-in [] h = tt
   ends-in (e ∷ []) h = (λ o. absurd (h.runs 0 o), tt)
   ends-in (e ∷ x ∷ es) h =
-      (λ o. let r : IsRunOver bytes e x = h.runs 0 o in (r.enter_unlinked, (r.exit_unlinked, (fit bytes u e x r).end)), ends-in (x ∷ es) (behind bytes e (x ∷ es) h))
+      (λ o. let r : IsRunOver bytes e x = h.runs 0 o in (r.enter_unlinked, (r.exit_unlinked, (fit bytes u e x r).end, closes r)), ends-in (x ∷ es) (behind bytes e (x ∷ es) h))
 
   room-in : length bytes ≤ document_limit → (es : List Event) → HaveRunsInOrder bytes es → HaveRunRoom es
   room-in few [] h = tt

@@ -1,5 +1,5 @@
 -- The runs of a tree's events are those of its rows.
-use Rattle.std.proofs.Common.{◌≡◌, ℕ, suc, ◌+◌, ◌-◌, ◌<◌, ◌≤◌, Bool, true, false, cond, ◌||◌, List, [], ◌∷◌, ◌++◌, length, map, Option, Some, None, refl, sym, ap, subst, ◌∙◌, arith, append_assoc, append-nil, length-append, inl, inr, ◌⊎◌}
+use Rattle.std.proofs.Common.{◌≡◌, ℕ, ◌+◌, ◌-◌, ◌<◌, ◌≤◌, Bool, true, false, cond, ◌||◌, List, ◌∷◌, ◌++◌, length, map, Option, Some, None, refl, sym, ap, subst, ◌∙◌, arith, append_assoc, append-nil, length-append, inl, inr, ◌⊎◌, []}
 use Rattle.std.proofs.lemmas.Bool.{both_ways, cases_Bool, eq-eqb, ne_eqb}
 use Rattle.std.proofs.lemmas.List.{map-append}
 use Rattle.std.proofs.lemmas.List.Elements.{filter-append, All-append, All-nil, All-cons}
@@ -14,8 +14,8 @@ use Rattle.markdown_event.specs.declared.event.Link.{Link}
 use Rattle.markdown_event.specs.declared.event.Name.{Name}
 use Rattle.markdown_event.specs.declared.event.Name.TheVariants as N
 use Rattle.markdown_event.specs.declared.event.Point.{Point}
-use Rattle.markdown_model.specs.Laws.{Shape, shape_of}
-use Rattle.markdown_model.specs.Runs.{Run, is_flanking, may_act, run_of, runs_of, before_run, after_run}
+use Rattle.markdown_model.specs.Laws.{shape_of}
+use Rattle.markdown_model.specs.Runs.{Run, run_of, runs_of}
 use Rattle.markdown_event.specs.declared.event.Content.{Content}
 use Rattle.markdown_model.specs.Setting.{Setting}
 use Rattle.markdown_attention.specs.RunContainers.{whole_shape, is_in, runs_in}
@@ -38,9 +38,7 @@ module _ (options : ParseOptions) (bytes : List ℕ) (content : List Code) where
 
   passes : (n i : ℕ) (w : Where) (e : Event) (es : List Event) → opens_run e ≡ false →
       from n i w (e ∷ es) ≡ from n (i + 1) (where_after i e w) es
-  passes n i w e es h =
-      ap (λ (f : List Sequence). f ++ from (n + length f) (suc i) (where_after i e w) es) (no-first n i w.container e es h)
-      ∙ (let a : n + 0 ≡ n = omega arith in let b : suc i ≡ i + 1 = omega arith in λ z. from (a z) (b z) (where_after i e w) es)
+  passes n i w e es h = grind (arith, no-first)
 
   stays : (i : ℕ) (e : Event) (w : Where) → is_text e.name ≡ false → where_after i e w ≡ w
   stays i e w h = rw h refl
@@ -48,15 +46,7 @@ module _ (options : ParseOptions) (bytes : List ℕ) (content : List Code) where
   leaf-runs : (n i : ℕ) (w : Where) (name : Name) (p q : Point) (link : Option Link) (es : List Event) → is_text name ≡ false
       → from n i w (record { kind = Kind.Enter; name = name; point = p; link = link } ∷ event Kind.Exit name q ∷ es)
       ≡ leaf_run options bytes content n i w.container name p q ++ from (n + length (leaf_run options bytes content n i w.container name p q)) (i + 2) w es
-  leaf-runs n i w name p q link es h =
-      let e : Event = record { kind = Kind.Enter; name = name; point = p; link = link } in
-      let x : Event = event Kind.Exit name q in
-      let here : List Sequence = leaf_run options bytes content n i w.container name p q in
-      let m : ℕ = n + length here in
-      let next : from m (suc i) (where_after i e w) (x ∷ es) ≡ from m (i + 2) w es =
-      ap (λ v. from m (suc i) v (x ∷ es)) (stays i e w h) ∙ passes m (suc i) w x es refl
-      ∙ (let b : suc i + 1 ≡ i + 2 = omega arith in λ z. from m (b z) (stays (suc i) x w h z) es) in
-      ap (λ xs. here ++ xs) next
+  leaf-runs n i w name p q link es h = grind (arith, stays, passes)
 
   -- with so many texts begun
   abbrev counted : ℕ → Where → Where
@@ -65,9 +55,7 @@ module _ (options : ParseOptions) (bytes : List ℕ) (content : List Code) where
   -- runs, and those behind them
   behind : (here more : List Sequence) (n j j' m m' : ℕ) (w : Where) (es : List Event) → j ≡ j' → m ≡ m'
       → here ++ (more ++ from (n + length here + length more) j (counted m w) es) ≡ (here ++ more) ++ from (n + length (here ++ more)) j' (counted m' w) es
-  behind here more n j j' m m' w es e u =
-      let size : n + length here + length more ≡ n + length (here ++ more) = (let x = length-append here more in omega arith) in
-      sym (append_assoc here more _) ∙ (λ z. (here ++ more) ++ from (size z) (e z) (counted (u z) w) es)
+  behind here more n j j' m m' w es e u = grind (arith, length-append, append_assoc)
 
   within-is : (i : ℕ) (name : Name) (p : Point) (w : Where) →
       (where_after i (event Kind.Enter name p) w).container ≡ inner i w.texts w.container name
@@ -84,11 +72,7 @@ module _ (options : ParseOptions) (bytes : List ℕ) (content : List Code) where
   pub tree-runs : (t : Forest) (n i : ℕ) (previous : Option ℕ) (w : Where) (es : List Event) → HasRuns bytes t
       → from n i w (appended_from i previous t ++ es)
       ≡ tree_runs options bytes content n i w.texts w.container t ++ from (n + length (tree_runs options bytes content n i w.texts w.container t)) (i + event_count t) (counted (w.texts + text_count t) w) es
-  tree-runs empty n i previous w es h =
-      let a : n ≡ n + 0 = omega arith in
-      let b : i ≡ i + 0 = omega arith in
-      let c : w.texts ≡ w.texts + 0 = omega arith in
-      λ z. from (a z) (b z) (counted (c z) w) es
+  tree-runs empty n i previous w es h = grind arith
   tree-runs (leaf_then name None cs rest) n i previous w es h =
       let here : List Sequence = leaf_run options bytes content n i w.container name (start_of cs) (stop_of document_start cs) in
       leaf-runs n i w name (start_of cs) (stop_of document_start cs) None (appended_from (i + 2) previous rest ++ es) h.0.0
@@ -139,20 +123,7 @@ module _ (s : Setting) (options : ParseOptions) (bytes : List ℕ) (content : Li
       shape_of (run_of s cs) ≡ whole_shape (sequence_at options bytes content n i k (start_of cs) (stop_of document_start cs))
   unfolding run_of
   leaf-shape n i k [] h = absurd h
-  leaf-shape n i k (c ∷ cs) h =
-      let to : Point = stop_of c.stop cs in
-      let size : to.index - c.start.index ≡ suc (length cs) = (let e = h.1 in omega arith) in
-      let before : ParseOptions → List ℕ → List Code → Option ℕ = λ o bs ds. before_run o bs ds c.start.index in
-      let after : ParseOptions → List ℕ → List Code → Option ℕ = λ o bs ds. after_run o bs ds to.index in
-      let left : ParseOptions → List ℕ → List Code → ℕ → Bool = λ o bs ds v. is_flanking o v (before o bs ds) (after o bs ds) in
-      let right : ParseOptions → List ℕ → List Code → ℕ → Bool = λ o bs ds v. is_flanking o v (after o bs ds) (before o bs ds) in
-      let shape : ParseOptions → List ℕ → List Code → ℕ → ℕ → Shape = λ o bs ds v m. record {
-        marker = v;
-        size = m;
-        may_open = may_act o v (before o bs ds) (left o bs ds v) (right o bs ds v);
-        may_close = may_act o v (after o bs ds) (right o bs ds v) (left o bs ds v);
-      } in
-      λ z. shape (given z) (same z) (held z) (sym h.0 z) (sym size z)
+  leaf-shape n i k (c ∷ cs) h = grind arith
 
   runs-leaf : (name : Name) (link : Option Content) (cs : List Code) (rest : Forest) →
       runs_of s (leaf_then name link cs rest) ≡ cond (is_run name) (run_of s cs ∷ runs_of s rest) (runs_of s rest)
@@ -253,9 +224,7 @@ module _ (s : Setting) (options : ParseOptions) (bytes : List ℕ) (content : Li
 
   between : (r : ℕ) (front here back : List Sequence) → runs_in r front ≡ [] → runs_in r back ≡ [] →
       runs_in r (front ++ (here ++ back)) ≡ runs_in r here
-  between r front here back f b =
-      filters r front (here ++ back) ∙ ap (λ xs. xs ++ runs_in r (here ++ back)) f
-      ∙ filters r here back ∙ ap (λ xs. runs_in r here ++ xs) b ∙ append-nil (runs_in r here)
+  between r front here back f b = grind (arith, filters, append-nil)
 
   all-one : (P : ℕ × Forest → Type 0) (x : ℕ × Forest) (b : Bool) → (b ≡ true → P x) → All P (cond b (x ∷ []) [])
   all-one P x true h = All-cons P x [] (h refl) (All-nil P)

@@ -1,9 +1,9 @@
 -- The runs of a list of events, event by event.
-use Rattle.std.proofs.Common.{cond, ◌≡◌, ℕ, zero, suc, ◌+◌, ◌<◌, ◌≤◌, ◌&&◌, Bool, true, false, List, [], ◌∷◌, ◌++◌, length, drop, get_or, refl, sym, ap, subst, ◌∙◌, arith, add-one, append_assoc, append-nil, length-append, inl, inr}
+use Rattle.std.proofs.Common.{cond, ◌≡◌, ℕ, zero, suc, ◌+◌, ◌<◌, ◌≤◌, true, List, ◌∷◌, ◌++◌, length, drop, get_or, refl, sym, ap, subst, ◌∙◌, arith, add-one, append_assoc, append-nil, length-append, inl, inr, []}
 use Rattle.std.proofs.lemmas.Bool.{cases_Bool, cases_lt}
 use Rattle.std.proofs.lemmas.List.{drop_more, get_or_append_left, get_or_push}
 use Rattle.std.proofs.lemmas.List.{length-drop}
-use Rattle.std.proofs.lemmas.List.Elements.{All-append, All-cons, All-head, All-nil, All-tail}
+use Rattle.std.proofs.lemmas.List.Elements.{All-append, All-head, All-nil, All-tail}
 use Rattle.std.proofs.lemmas.List.Sums.{sum_by-cons}
 use Rattle.std.specs.List.{count_by}
 use Rattle.std.specs.Prelude.{All}
@@ -11,8 +11,8 @@ use Rattle.markdown_content.specs.declared.configuration.ParseOptions.{ParseOpti
 use Rattle.markdown_content.specs.ListFunctions.{rest_of}
 use Rattle.markdown_attention.specs.OpenRuns.{IsMarker}
 use Rattle.markdown_event.specs.declared.event.Event.{Event}
-use Rattle.markdown_attention.specs.NumberedPairs.{row_of, run_at, no_run}
-use Rattle.markdown_attention.specs.RunsRead.{Container, row_around, is_text, is_enter, left_to, opens_run, opens_text, sequence_at, into_text, out_of_text, where_after, outermost, first_run, runs_from, IsRunPlace, EndsRun, FirstHasPlaces, HaveRunPlaces}
+use Rattle.markdown_attention.specs.NumberedPairs.{row_of, run_at}
+use Rattle.markdown_attention.specs.RunsRead.{Container, row_around, left_to, opens_run, opens_text, where_after, outermost, first_run, runs_from, IsRunPlace, EndsRun, FirstHasPlaces, HaveRunPlaces}
 use Rattle.markdown_attention.specs.PairScan.{Numbered}
 use Rattle.markdown_attention.specs.declared.attention.reading.Where.{Where}
 use Rattle.markdown_attention.specs.declared.attention.runs.Sequence.{Sequence}
@@ -49,13 +49,7 @@ texts-more : (e : Event) (es : List Event) → count_by opens_text (e ∷ es) �
 texts-more e es = sum_by-cons as_opened e es
 
 texts-after : (i : ℕ) (e : Event) (w : Where) → (where_after i e w).texts ≡ w.texts + as_opened e
-texts-after i e w = by_test (is_text e.name) (is_enter e.kind)
-  where
-    by_test : (t b : Bool) → (cond t (cond b (into_text i w) (out_of_text w)) w).texts ≡ w.texts + cond (b && t) 1 0
-    by_test true true = refl
-    by_test true false = omega arith
-    by_test false true = omega arith
-    by_test false false = omega arith
+texts-after i e w = grind arith
 
 one-opened : (e : Event) → as_opened e ≤ 1
 one-opened e = elim (cases_Bool (opens_text e)) [ inl is ↦ rw is (omega arith) | inr off ↦ rw off (omega arith) ]
@@ -75,24 +69,13 @@ reading-start options bytes content events h =
 
 numbered-one : (list : List Sequence) (r : Sequence) → Numbered list → r.number ≡ length list →
     Numbered (list ++ r ∷ [])
-numbered-one list r h e i l =
-    elim (cases_lt i (length list)) [
-      | inl below ↦ ap (λ (x : Sequence). x.number) (get_or_append_left list (r ∷ []) no_run i below) ∙ h i below
-      | inr above ↦
-          let n = length-append list (r ∷ []) in
-          let at : i ≡ length list = omega arith in
-          ap (λ j. (run_at (list ++ r ∷ []) j).number) at ∙ ap (λ (x : Sequence). x.number) (get_or_push list r no_run (length list) refl) ∙ e ∙ sym at
-    ]
+numbered-one list r h e i l = grind (arith, cases_lt, get_or_append_left, length-append, get_or_push)
 
 numbered-more : (options : ParseOptions) (bytes : List ℕ) (content : List Code) (i : ℕ) (c : Container) (list : List Sequence) (es : List Event) → Numbered list
     → Numbered (list ++ first_run options bytes content (length list) i c es)
 numbered-more options bytes content i c list [] h = subst Numbered (sym (append-nil list)) h
 numbered-more options bytes content i c list (e ∷ []) h = subst Numbered (sym (append-nil list)) h
-numbered-more options bytes content i c list (e ∷ x ∷ es) h =
-    elim (cases_Bool (opens_run e)) [
-      | inl on ↦ rw on (numbered-one list (sequence_at options bytes content (length list) i c e.point x.point) h refl)
-      | inr off ↦ rw off (subst Numbered (sym (append-nil list)) h)
-    ]
+numbered-more options bytes content i c list (e ∷ x ∷ es) h = grind (arith, cases_Bool, numbered-one, append-nil)
 
 pub reading-more : (options : ParseOptions) (bytes : List ℕ) (content : List Code) (events : List Event) (i : ℕ) (list list' : List Sequence) (w w' : Where) (e : Event)
     → i < length events → e ≡ get_or events i e → list' ≡ list ++ first_run options bytes content (length list) i w.container (drop i events) → w' ≡ where_after i e w
@@ -136,10 +119,7 @@ reading-end options bytes content events i list w l r =
 
 pub texts-end : (options : ParseOptions) (bytes : List ℕ) (content : List Code) (events : List Event) (i : ℕ) (list : List Sequence) (w : Where) → length events ≤ i
     → RunsSoFar options bytes content events i list w → w.texts ≡ count_by opens_text events
-texts-end options bytes content events i list w l r =
-    let none : count_by opens_text (drop i events) ≡ 0 = ap (λ es. count_by opens_text es) (nothing-left events i l) in
-    let counted = r.counted in
-    omega (arith, none, counted)
+texts-end options bytes content events i list w l r = grind (arith, nothing-left)
 
 -- What is so of each run that is read.
 
@@ -164,27 +144,13 @@ rest-before high (k ∷ ks) h = All-tail (λ k. row_around k ≤ high) k ks h
 
 before-after : (high i : ℕ) (e : Event) (w : Where) → w.texts + as_opened e ≤ high → AreBefore high w →
     AreBefore high (where_after i e w)
-before-after high i e w = by_test (is_text e.name) (is_enter e.kind)
-  where
-    by_test : (t b : Bool) → w.texts + cond (b && t) 1 0 ≤ high → AreBefore high w →
-        AreBefore high (cond t (cond b (into_text i w) (out_of_text w)) w)
-    by_test true true l h =
-        record { container = l; outer = All-cons (λ k. row_around k ≤ high) w.container w.outer h.container h.outer }
-    by_test true false l h =
-        record { container = left-before high w.outer h.outer; outer = rest-before high w.outer h.outer }
-    by_test false b l h = h
+before-after high i e w = grind (arith, left-before, rest-before)
 
 first-read : (options : ParseOptions) (bytes : List ℕ) (content : List Code) (high n i : ℕ) (k : Container) (es : List Event) → FirstHasPlaces bytes es → row_around k ≤ high
     → All (IsRunAsRead high) (first_run options bytes content n i k es)
 first-read options bytes content high n i k [] h l = All-nil (IsRunAsRead high)
 first-read options bytes content high n i k (e ∷ []) h l = All-nil (IsRunAsRead high)
-first-read options bytes content high n i k (e ∷ x ∷ es) h l = by_test (opens_run e) h
-  where
-    by_test : (b : Bool) → (b ≡ true → IsRunPlace bytes e.point x.point) →
-        All (IsRunAsRead high) (cond b (sequence_at options bytes content n i k e.point x.point ∷ []) [])
-    by_test true p =
-        All-cons (IsRunAsRead high) (sequence_at options bytes content n i k e.point x.point) [] (record { whole = refl; marker = (p refl).marker; row = l }) (All-nil (IsRunAsRead high))
-    by_test false p = All-nil (IsRunAsRead high)
+first-read options bytes content high n i k (e ∷ x ∷ es) h l = grind arith
 
 pub are-read : (options : ParseOptions) (bytes : List ℕ) (content : List Code) (high : ℕ) (es : List Event) (n i : ℕ) (w : Where) → HaveRunPlaces bytes es → w.texts + count_by opens_text es ≤ high → AreBefore high w
     → All (IsRunAsRead high) (runs_from options bytes content n i w es)
@@ -199,9 +165,4 @@ are-read options bytes content high (e ∷ es) n i w h l b =
 -- of all runs
 pub all-read : (options : ParseOptions) (bytes : List ℕ) (content : List Code) (es : List Event) (list : List Sequence) → HaveRunPlaces bytes es → list ≡ runs_from options bytes content 0 0 outermost es
     → (i : ℕ) → i < length list → IsRunAsRead (count_by opens_text es) (run_at list i)
-all-read options bytes content es list h e i l =
-    let high : ℕ = count_by opens_text es in
-    let read : All (IsRunAsRead high) list =
-    subst (All (IsRunAsRead high)) (sym e)
-    (are-read options bytes content high es 0 0 outermost h (omega arith) (record { container = omega arith; outer = All-nil (λ k. row_around k ≤ high) })) in
-    read i no_run l
+all-read options bytes content es list h e i l = grind (arith, are-read)

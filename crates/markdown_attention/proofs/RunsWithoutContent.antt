@@ -1,14 +1,12 @@
 -- The runs of events are the same whatever the codes of the content, unless the rules take what stands beside a run from the content.
-use Rattle.std.proofs.Common.{◌≡◌, ◌∙◌, sym, ap, refl, inl, inr, ℕ, suc, ◌+◌, ◌-◌, true, false, ◌&&◌, not, if◌then◌else◌, List, [], ◌∷◌, ◌++◌, length, slice_index_or, None}
+use Rattle.std.proofs.Common.{◌≡◌, ◌∙◌, ap, refl, ℕ, suc, ◌+◌, ◌-◌, true, false, if◌then◌else◌, List, ◌∷◌, ◌++◌, length, slice_index_or, arith, []}
 use Rattle.std.proofs.lemmas.Bool.{cases_Bool}
-use Rattle.markdown_content.specs.Beside.{has_code_before, has_code_behind}
 use Rattle.markdown_content.specs.Codes.{Code}
 use Rattle.markdown_content.specs.CommonMark.{rules_of}
 use Rattle.markdown_content.specs.declared.configuration.ParseOptions.{ParseOptions}
 use Rattle.markdown_event.specs.declared.event.Event.{Event}
 use Rattle.markdown_event.specs.declared.event.Point.{Point}
 use Rattle.markdown_model.specs.Runs.{before_run, after_run, is_flanking, may_act}
-use Rattle.markdown_util.specs.Neighbours.{before_index, after_index}
 use Rattle.markdown_attention.specs.RunsRead.{Container, event_around, text_around, opens_run, sequence_at, where_after, outermost, first_run, runs_from}
 use Rattle.markdown_attention.specs.declared.attention.reading.Where.{Where}
 use Rattle.markdown_attention.specs.declared.attention.runs.Sequence.{Sequence}
@@ -17,14 +15,10 @@ use Rattle.markdown_attention.specs.declared.attention.runs.Sequence.{Sequence}
 
 module _ (o : ParseOptions) (bytes : List ℕ) (c d : List Code) (off : (rules_of o).neighbours_in_content ≡ false) where
   same-before : (i : ℕ) → before_run o bytes c i ≡ before_run o bytes d i
-  same-before i =
-      ap (λ on. if on && not (has_code_before c i) then None else before_index bytes i) off
-      ∙ sym (ap (λ on. if on && not (has_code_before d i) then None else before_index bytes i) off)
+  same-before i = grind arith
 
   same-after : (i : ℕ) → after_run o bytes c i ≡ after_run o bytes d i
-  same-after i =
-      ap (λ on. if on && not (has_code_behind c i) then None else after_index bytes i) off
-      ∙ sym (ap (λ on. if on && not (has_code_behind d i) then None else after_index bytes i) off)
+  same-after i = grind arith
 
   same-sequence : (n i : ℕ) (k : Container) (from to : Point) → sequence_at o bytes c n i k from to ≡ sequence_at o bytes d n i k from to
   same-sequence n i k from to = λ j.
@@ -60,8 +54,4 @@ module _ (o : ParseOptions) (bytes : List ℕ) (c d : List Code) (off : (rules_o
 -- For the codes of two contents that are the same wherever the rules ask for them.
 pub same-runs : (o : ParseOptions) (bytes : List ℕ) (c d : List Code) (es : List Event) → ((rules_of o).neighbours_in_content ≡ true → c ≡ d) →
     runs_from o bytes c 0 0 outermost es ≡ runs_from o bytes d 0 0 outermost es
-same-runs o bytes c d es same =
-    elim (cases_Bool ((rules_of o).neighbours_in_content)) [
-      | inl on ↦ ap (λ x. runs_from o bytes x 0 0 outermost es) (same on)
-      | inr off ↦ same-from o bytes c d off 0 0 outermost es
-    ]
+same-runs o bytes c d es same = grind (arith, cases_Bool, same-from)

@@ -1,5 +1,5 @@
 -- Sizes put into one list of nodes, and read from it.
-use Rattle.std.proofs.Common.{◌≡◌, ℕ, zero, suc, ◌+◌, ◌<◌, ◌≤◌, ◌==◌, Bool, true, false, if◌then◌else◌, List, [], ◌∷◌, length, map, replicate, get_or, set, refl, sym, ap, ◌∙◌, arith}
+use Rattle.std.proofs.Common.{◌≡◌, ℕ, zero, suc, ◌+◌, ◌<◌, ◌≤◌, ◌==◌, Bool, true, false, if◌then◌else◌, List, ◌∷◌, length, map, replicate, get_or, set, refl, ap, ◌∙◌, arith, []}
 use Rattle.std.proofs.lemmas.Bool.{ne_eqb, eq-eqb}
 use Rattle.std.proofs.lemmas.List.{get_or-map, map-set, length-map}
 use Rattle.std.proofs.lemmas.List.Elements.{All-head, All-tail}
@@ -35,18 +35,12 @@ all-older x xs (n ∷ ns) h =
 
 pub put-first : (x : SizeNode) (xs : List SizeNode) (ns : List ℕ) (run d : ℕ) → run < length ns → All (λ n. n ≤ length xs) ns → x.next ≡ get_or ns run d
     → map (sizes_from (x ∷ xs)) (set ns run (suc (length xs))) ≡ set (map (sizes_from xs) ns) run (x.size ∷ get_or (map (sizes_from xs) ns) run [])
-put-first x xs ns run d l h e =
-    let rest : sizes_from xs x.next ≡ get_or (map (sizes_from xs) ns) run [] = ap (sizes_from xs) e ∙ sym (get_or-map (sizes_from xs) ns run d [] l) in
-    let first : sizes_from (x ∷ xs) (suc (length xs)) ≡ x.size ∷ get_or (map (sizes_from xs) ns) run [] = from-newest x xs (suc (length xs)) refl ∙ ap (λ ys. x.size ∷ ys) rest in
-    map-set (sizes_from (x ∷ xs)) ns run (suc (length xs)) ∙ (λ i. set (all-older x xs ns h i) run (first i))
+put-first x xs ns run d l h e = grind (arith, get_or-map, from-newest, map-set, all-older)
 
 -- the sizes of a run, whose first node is d
 pub sizes-of-run : (xs : List SizeNode) (ns : List ℕ) (lists : List (List ℕ)) (run d : ℕ) → map (sizes_from xs) ns ≡ lists → run < length lists → d ≡ get_or ns run d
     → get_or lists run [] ≡ sizes_from xs d
-sizes-of-run xs ns lists run d v l e =
-    let seen : length (map (sizes_from xs) ns) ≡ length lists = ap length v in
-    let within : run < length ns = omega (arith, l, seen, length-map ns (sizes_from xs)) in
-    sym (ap (λ (ls : List (List ℕ)). get_or ls run []) v) ∙ get_or-map (sizes_from xs) ns run d [] within ∙ ap (sizes_from xs) (sym e)
+sizes-of-run xs ns lists run d v l e = grind (arith, length-map, get_or-map)
 
 pub record SizesFollow (xs : List SizeNode) (n : ℕ) (x : SizeNode) : Type 0 where
   pub sizes : sizes_from xs n ≡ x.size ∷ sizes_from xs x.next
@@ -56,12 +50,5 @@ pub record SizesFollow (xs : List SizeNode) (n : ℕ) (x : SizeNode) : Type 0 wh
 pub read-node : (xs : List SizeNode) (n k : ℕ) (d : SizeNode) → AreLinked xs → 0 < n → k + n ≡ length xs →
     SizesFollow xs n (get_or xs k d)
 read-node [] n k d linked p h = absurd (omega (arith, p, h))
-read-node (x ∷ xs) n zero d linked p h =
-    let e : n ≡ suc (length xs) = omega (arith, h) in
-    let older = linked.0 in
-    record { sizes = from-newest x xs n e ∙ ap (λ ys. x.size ∷ ys) (sym (from-older x xs x.next older)); before = omega (arith, e, older) }
-read-node (x ∷ xs) n (suc k) d linked p h =
-    let y : SizeNode = get_or xs k d in
-    let r = read-node xs n k d linked.1 p (omega (arith, h)) in
-    let b = r.before in
-    record { sizes = from-older x xs n (omega (arith, h)) ∙ r.sizes ∙ ap (λ ys. y.size ∷ ys) (sym (from-older x xs y.next (omega (arith, h, b)))); before = b }
+read-node (x ∷ xs) n zero d linked p h = grind (arith, from-newest, from-older)
+read-node (x ∷ xs) n (suc k) d linked p h = grind (arith, read-node xs n k d linked.1 p (omega (arith, h)), from-older)

@@ -1,5 +1,5 @@
 -- The events of a run that one pair takes whole.
-use Rattle.std.proofs.Common.{◌≡◌, ℕ, List, [], ◌∷◌, get_or, refl, sym, ap, ◌∙◌}
+use Rattle.std.proofs.Common.{◌≡◌, ℕ, List, ◌∷◌, get_or, refl, sym, ap, ◌∙◌, arith, []}
 use Rattle.markdown_event.specs.declared.event.Event.{Event}
 use Rattle.markdown_event.specs.declared.event.Point.{Point}
 use Rattle.markdown_attention.specs.declared.attention.edits.Sole.TheVariants as S
@@ -36,7 +36,4 @@ opening-alone m p fronts backs kept k h =
 
 pub room-from : (p : Point) (es : List Event) (pairs : List Pair) (fronts : List ℕ) (backs : List (List ℕ)) (r : Sequence) → p ≡ point_in es r.event →
     fronts ≡ closed_sizes r.number pairs → HasRoom es pairs backs r → HasRoomFrom p fronts (get_or backs r.number []) r
-room-from p es pairs fronts backs r e f h =
-    let B : List ℕ = get_or backs r.number [] in
-    let room = room-read p (point_in es r.event) fronts (closed_sizes r.number pairs) B B r.remaining e f refl (h.column, h.index) in
-    record { column = room.0; index = room.1 }
+room-from p es pairs fronts backs r e f h = grind (arith, room-read)

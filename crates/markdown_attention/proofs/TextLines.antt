@@ -1,5 +1,5 @@
 -- Lines for the rows that hold a run.
-use Rattle.std.proofs.Common.{◌≡◌, ℕ, ◌+◌, ◌-◌, ◌<◌, cond, eqb, List, get_or, refl, inl, inr, arith}
+use Rattle.std.proofs.Common.{◌≡◌, ℕ, ◌+◌, ◌-◌, ◌<◌, cond, eqb, List, get_or, refl, arith}
 use Rattle.std.proofs.lemmas.Bool.{cases_lt, eq-eqb, ne_eqb}
 use Rattle.markdown_attention.specs.OpenRuns.{AreLines}
 use Rattle.markdown_attention.proofs.OpenRunLists.{Layout}
@@ -15,23 +15,7 @@ line-none : (table : List ℕ) (count a : ℕ) → get_or table a 0 ≡ 0 → li
 line-none table count a none = rw (eq-eqb (get_or table a 0) 0 none) refl
 
 pub line-apart : (table : List ℕ) (count : ℕ) → AreLines table count → (a b : ℕ) → line_in table count a ≡ line_in table count b → a ≡ b
-line-apart table count h a b e =
-    let u = h.within a in
-    let v = h.within b in
-    elim (cases_lt 0 (get_or table a 0)) [
-      | inl some ↦
-          let s = line-some table count a some in
-          elim (cases_lt 0 (get_or table b 0)) [
-            | inl some' ↦ (let t = line-some table count b some' in h.apart a b some (omega arith))
-            | inr none' ↦ (let t = line-none table count b (omega arith) in omega arith)
-          ]
-      | inr none ↦
-          let s = line-none table count a (omega arith) in
-          elim (cases_lt 0 (get_or table b 0)) [
-            | inl some' ↦ (let t = line-some table count b some' in omega arith)
-            | inr none' ↦ (let t = line-none table count b (omega arith) in omega arith)
-          ]
-    ]
+line-apart table count h a b e = grind (arith, cases_lt, line-some, line-none)
 
 abbrev pub layout_of : (table : List ℕ) (count : ℕ) → AreLines table count → Layout
 layout_of table count h = record { line = line_in table count; apart = line-apart table count h }

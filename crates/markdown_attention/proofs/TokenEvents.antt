@@ -1,5 +1,5 @@
 -- The events of a run's tokens are those of its marker, place and sizes.
-use Rattle.std.proofs.Common.{◌≡◌, ℕ, zero, suc, ◌+◌, ◌-◌, ◌<◌, ◌≤◌, List, [], ◌∷◌, ◌++◌, length, take, drop, reverse, refl, sym, ap, subst, ◌∙◌, arith, sum_by}
+use Rattle.std.proofs.Common.{◌≡◌, ℕ, zero, suc, ◌+◌, ◌-◌, ◌<◌, ◌≤◌, List, ◌∷◌, ◌++◌, length, take, drop, reverse, refl, sym, ap, subst, ◌∙◌, arith, sum_by, []}
 use Rattle.markdown_attention.proofs.BracketAppends.{shift-shift}
 use Rattle.std.proofs.lemmas.List.{length-take-le, length-drop}
 use Rattle.markdown_content.specs.Codes.{Code, stop_of, document_start}
@@ -12,10 +12,7 @@ use Rattle.markdown_attention.specs.RunEvents.{shifted, total, closing_at, openi
 use Rattle.markdown_attention.specs.TokenWord.{names_of, closed_events, opened_events, closed_all, opened_all, left_over, cut_events, sized_events, HasMarker}
 
 pub shift-none : (p : Point) → shifted p 0 ≡ p
-shift-none p =
-    let c : p.column + 0 ≡ p.column = omega arith in
-    let d : p.index + 0 ≡ p.index = omega arith in
-    λ i. record p { column = c i; index = d i }
+shift-none p = grind arith
 
 pub shift-same : (p : Point) (a b : ℕ) → a ≡ b → shifted p a ≡ shifted p b
 shift-same p a b e = ap (shifted p) e
@@ -56,12 +53,7 @@ record Bracket (m : ℕ) (p : Point) (k : ℕ) (cs : List Code) : Type 0 where
 bracket : (m : ℕ) (p : Point) (k : ℕ) (cs : List Code) → IsStripe m p cs → length cs ≡ k → 0 < k → Bracket m p k cs
 unfolding names_of
 bracket m p k [] h l o = absurd (omega (arith, l, o))
-bracket m p k (c ∷ cs) h l o =
-    record {
-      names = λ i. pair_names (h.0 i) (l i);
-      from = h.1.0;
-      to = stripe-stop m (shifted p 1) c.stop cs h.1.1.1 h.1.1.0 ∙ shift-shift p 1 (length cs) ∙ shift-same p (1 + length cs) k (omega (arith, l));
-    }
+bracket m p k (c ∷ cs) h l o = grind (arith, stripe-stop, shift-shift, shift-same)
 
 closing-is : (m : ℕ) (p : Point) (k : ℕ) (cs : List Code) → Bracket m p k cs → closed_events cs ≡ closing_at m p k
 closing-is m p k cs b =

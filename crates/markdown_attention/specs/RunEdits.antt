@@ -5,7 +5,7 @@ use Rattle.markdown_event.specs.declared.event.Event.{Event}
 use Rattle.markdown_event.specs.declared.event.Point.{Point}
 use Rattle.markdown_engine_events.specs.declared.util.edit_map.Edit.{Edit}
 use Rattle.markdown_attention.specs.NumberedPairs.{row_of, run_at, left, pairs_in}
-use Rattle.markdown_attention.specs.RunsRead.{opens_run}
+use Rattle.markdown_attention.specs.RunsRead.{opens_run, closes_run}
 use Rattle.markdown_attention.specs.declared.attention.pairing.Pair.{Pair}
 use Rattle.markdown_attention.specs.declared.attention.runs.Sequence.{Sequence}
 use Rattle.markdown_attention.specs.RunEvents.{marker_events, shifted}
@@ -42,11 +42,12 @@ point_in [] i = document_start
 point_in (e ∷ es) zero = e.point
 point_in (e ∷ es) (suc i) = point_in es i
 
--- Of which events the edits can be made: those of a run carry no link, and the second stands as many columns after the first as bytes.
+-- Of which events the edits can be made: behind the Enter of a run stands its Exit. Neither carries a link, and the Exit stands as many
+-- columns after the Enter as bytes.
 
 abbrev pub EndsRunAt : Event → List Event → Type 0
 EndsRunAt e [] = ⊥
-EndsRunAt e (x ∷ es) = (x.link ≡ None) × (x.point ≡ shifted e.point (x.point.index - e.point.index))
+EndsRunAt e (x ∷ es) = (x.link ≡ None) × (x.point ≡ shifted e.point (x.point.index - e.point.index)) × (closes_run x ≡ true)
 
 abbrev pub FirstHasEnds : Event → List Event → Type 0
 FirstHasEnds e es = opens_run e ≡ true → (e.link ≡ None) × EndsRunAt e es

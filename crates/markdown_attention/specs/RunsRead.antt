@@ -1,5 +1,5 @@
 -- Reading the runs off a list of events.
-use Rattle.std.specs.Prelude.{◌≡◌, ℕ, suc, ◌+◌, ◌-◌, ◌<◌, ◌≤◌, Bool, true, false, ◌&&◌, if◌then◌else◌, List, [], ◌∷◌, ◌++◌, length, slice_index_or, Option, Some, None}
+use Rattle.std.specs.Prelude.{◌≡◌, ℕ, suc, ◌+◌, ◌-◌, ◌<◌, ◌≤◌, Bool, true, false, ◌&&◌, not, if◌then◌else◌, List, [], ◌∷◌, ◌++◌, length, slice_index_or, Option, Some, None}
 use Rattle.std.specs.Str.{IsCharBoundary}
 use Rattle.markdown_content.specs.Codes.{Code}
 use Rattle.markdown_content.specs.ListFunctions.{rest_of}
@@ -30,6 +30,9 @@ is_enter Kind.Exit = false
 
 abbrev pub opens_run : Event → Bool
 opens_run e = is_enter e.kind && is_run e.name
+
+abbrev pub closes_run : Event → Bool
+closes_run e = not (is_enter e.kind) && is_run e.name
 
 abbrev pub opens_text : Event → Bool
 opens_text e = is_enter e.kind && is_text e.name
@@ -108,15 +111,15 @@ runs_from options bytes content n i w (e ∷ es) =
     let first = first_run options bytes content n i w.container (e ∷ es) in
     first ++ runs_from options bytes content (n + length first) (suc i) (where_after i e w) es
 
--- Of which events this is said: behind the Enter of a run stands another event, and the two are between characters of the document, the
--- first before a marker.
+-- Of which events this is said: behind the Enter of a run stands another event, further on, and the two are between characters of the
+-- document, the first before a marker.
 
 pub record IsRunPlace (bytes : List ℕ) (from to : Point) : Type 0 where
   pub from_between : IsCharBoundary bytes from.index
   pub to_between : IsCharBoundary bytes to.index
   pub within : from.index < length bytes
   pub marker : IsMarker (slice_index_or bytes from.index 0)
-  pub forward : from.index ≤ to.index
+  pub forward : from.index < to.index
 
 abbrev pub EndsRun : List ℕ → Event → List Event → Type 0
 EndsRun bytes e [] = ⊥

@@ -41,19 +41,11 @@ at-more a i n = grind (arith, nat_tests)
 
 pub added-zero : (log : List Edit) → added_up_to log 0 ≡ length (added_at 0 log)
 added-zero [] = refl
-added-zero (e ∷ log) =
-    let first = at-zero e.at (length e.events) in
-    let rest = added-zero log in
-    let whole = length-added 0 e log in
-    omega arith
+added-zero (e ∷ log) = omega (arith, at-zero e.at (length e.events), added-zero log, length-added 0 e log)
 
 pub added-more : (log : List Edit) (i : ℕ) → added_up_to log (suc i) ≡ added_up_to log i + length (added_at (suc i) log)
 added-more [] i = refl
-added-more (e ∷ log) i =
-    let first = at-more e.at i (length e.events) in
-    let rest = added-more log i in
-    let whole = length-added (suc i) e log in
-    omega arith
+added-more (e ∷ log) i = omega (arith, at-more e.at i (length e.events), added-more log i, length-added (suc i) e log)
 
 abbrev gone : Bool → ℕ
 gone b = cond b 1 0
@@ -65,11 +57,7 @@ stays-gone false = refl
 start-counts : (log : List Edit) (i : ℕ) →
     start log i + length (added_at i log) + removed_before log i ≡ i + added_up_to log i
 start-counts log zero = let a = added-zero log in omega arith
-start-counts log (suc i) =
-    let before = start-counts log i in
-    let more = added-more log i in
-    let one = stays-gone (is_removed log i) in
-    omega arith
+start-counts log (suc i) = omega (arith, start-counts log i, added-more log i, stays-gone (is_removed log i))
 
 -- an event stands behind what comes at its place
 pub moved-start : (log : List Edit) (i : ℕ) → moved_number log i ≡ start log i + length (added_at i log)
@@ -97,11 +85,7 @@ start-kept log i h = grind (arith, moved-start)
 -- events that stay keep their order
 pub moved-below : (log : List Edit) (p q : ℕ) → p < q → is_removed log p ≡ false →
     moved_number log p < moved_number log q
-moved-below log p q l h =
-    let a = start-kept log p h in
-    let b = start-le log (suc p) q (omega arith) in
-    let m = moved-start log q in
-    omega arith
+moved-below log p q l h = omega (arith, start-kept log p h, start-le log (suc p) q (omega arith), moved-start log q)
 
 pub moved-same : (log : List Edit) (p q : ℕ) → is_removed log p ≡ false → is_removed log q ≡ false →
     moved_number log p ≡ moved_number log q → p ≡ q
@@ -148,9 +132,7 @@ pub edited-at : (log : List Edit) (i q j k : ℕ) (es : List Event) → q ≡ i 
     is_removed log q ≡ false → j < length es →
     slice_get (edited_from log i es) k ≡ option_map (moved log) (slice_get es j)
 edited-at log i q j k [] at h r l = absurd (omega arith)
-edited-at log i q zero k (e ∷ es) at h r l =
-    let same : q ≡ i = omega arith in
-    edited-here log i e es k (h ∙ ap (moved_number log) same) (ap (is_removed log) (sym same) ∙ r)
+edited-at log i q zero k (e ∷ es) at h r l = grind (arith, edited-here)
 edited-at log i q (suc j) k (e ∷ es) at h r l =
     let more : q ≡ suc i + j = omega arith in
     let low : start log (suc i) ≤ start log q = start-le log (suc i) q (omega arith) in
@@ -295,8 +277,7 @@ linked-previous k (Some l) q h = refl
 
 moved-previous : (log : List Edit) (e : Event) (q : ℕ) → previous_of (moved log e) ≡ Some q →
     (p : ℕ) × ((previous_of e ≡ Some p) × (q ≡ moved_number log p))
-moved-previous log e q h =
-    map-back (moved_number log) (previous_of e) q (sym (linked-previous (option_map (moved_number log) (previous_of e)) e.link q h) ∙ h)
+moved-previous log e q h = grind (arith, map-back, linked-previous)
 
 pub moved-linked : (log : List Edit) (e : Event) → has_link (moved log e).link ≡ has_link e.link
 moved-linked log e = has-previous (option_map (moved_number log) (previous_of e)) e.link
@@ -329,8 +310,7 @@ module _ (log : List Edit) (es : List Event) (u : AddsUnlinked log) (can : CanEd
       zero-plus n = omega arith
 
   kept-linked : (p : ℕ) → linked_at es p ≡ true → is_removed log p ≡ false
-  kept-linked p h =
-      elim (cases_Bool (is_removed log p)) [ inl r ↦ absurd (false≢true (sym (can.unlinked p r) ∙ h)) | inr s ↦ s ]
+  kept-linked p h = grind (arith, cases_Bool, false≢true)
 
   pub linked-moved : (p : ℕ) → linked_at es p ≡ true → linked_at (edited log es) (moved_number log p) ≡ true
   linked-moved p h =
@@ -353,9 +333,7 @@ enters-stay log false e h = (may-previous e.kind (option_map (moved_number log) 
 enters-edited : (log : List Edit) (i : ℕ) (es : List Event) → AddsUnlinked log → OnlyEnters es →
     OnlyEnters (edited_from log i es)
 enters-edited log i [] u h = enters-each (added_at i log) (added-unlinked log i u)
-enters-edited log i (e ∷ es) u h =
-    OnlyEnters-append (added_at i log) (stay log (is_removed log i) e ++ edited_from log (suc i) es) (enters-each (added_at i log) (added-unlinked log i u))
-    (OnlyEnters-append (stay log (is_removed log i) e) (edited_from log (suc i) es) (enters-stay log (is_removed log i) e h.0) (enters-edited log (suc i) es u h.1))
+enters-edited log i (e ∷ es) u h = grind (arith, OnlyEnters-append, enters-each, added-unlinked, enters-stay, enters-edited log (suc i) es u h.1)
 
 -- edits keep the chains
 pub IsLinked-edited : (log : List Edit) (es : List Event) → AddsUnlinked log → CanEdit log es → IsLinked es →
@@ -392,8 +370,7 @@ below-max j a b = grind (arith, nat_tests)
 
 removed-range : (log : List Edit) (j i : ℕ) → removed_by log j i ≡ nat_lt j (range_end log (suc i))
 removed-range log j zero = grind (arith, nat_tests)
-removed-range log j (suc i) =
-    ap (λ b. nat_lt j (suc i + removed_at (suc i) log) || b) (removed-range log j i) ∙ sym (below-max j (range_end log (suc i)) (suc i + removed_at (suc i) log))
+removed-range log j (suc i) = simp (removed-range log j i, below-max)
 
 -- an event goes if it stands before that end
 pub removed-test : (log : List Edit) (i : ℕ) → is_removed log i ≡ nat_lt i (range_end log (suc i))
@@ -403,8 +380,7 @@ removed-test log i = removed-range log i i
 pub back_push : (i : ℕ) (log : List Edit) (e : Edit) →
     back_at i (log ++ e ∷ []) ≡ back_at i log ++ cond (e.at == i && not e.before) e.events []
 back_push i [] e = append-nil (cond (e.at == i && not e.before) e.events [])
-back_push i (x ∷ log) e =
-    ap (λ y. cond (x.at == i && not x.before) x.events [] ++ y) (back_push i log e) ∙ sym (append_assoc (cond (x.at == i && not x.before) x.events []) (back_at i log) (cond (e.at == i && not e.before) e.events []))
+back_push i (x ∷ log) e = simp (back_push i log e, append_assoc)
 
 pub removed_push : (i : ℕ) (log : List Edit) (e : Edit) →
     removed_at i (log ++ e ∷ []) ≡ removed_at i log + cond (e.at == i) e.remove 0
@@ -433,22 +409,15 @@ Notes log es i notes =
 -- the link looked up in them
 pub renumbered-moved : (log : List Edit) (es : List Event) (i : ℕ) (notes : List (ℕ × ℕ)) (e : Event) → i < length es →
     e ≡ get_or es i e → IsLinked es → Notes log es i notes → renumbered notes e ≡ moved log e
-renumbered-moved log es i notes e l r w n =
-    ap (λ o. with_previous o e) (map-same (number_of notes) (moved_number log) (previous_of e) (λ p k. n p i (previous-below es i p e l r w k) (w.linked i p (previous-read es i e l r ∙ k)) (previous-read es i e l r ∙ k)))
+renumbered-moved log es i notes e l r w n = grind (arith, map-same, previous-below, previous-read)
 
 note-found : (e : Event) (i n j : ℕ) (notes : List (ℕ × ℕ)) → i ≡ j → has_link e.link ≡ true →
     number_of (noted e i n notes) j ≡ n
-note-found e i n j notes h g =
-    ap (λ b. number_of (cond b ((i, n) ∷ notes) notes) j) g ∙ ap (λ b. cond b n (number_of notes j)) (eq-eqb i j h)
+note-found e i n j notes h g = grind (arith, eq-eqb)
 
 note-other : (e : Event) (i n j : ℕ) (notes : List (ℕ × ℕ)) → (i == j) ≡ false →
     number_of (noted e i n notes) j ≡ number_of notes j
-note-other e i n j notes h = over (has_link e.link) i n j notes h
-  where
-    over : (b : Bool) (i n j : ℕ) (notes : List (ℕ × ℕ)) → (i == j) ≡ false →
-        number_of (cond b ((i, n) ∷ notes) notes) j ≡ number_of notes j
-    over true i n j notes h = ap (λ c. cond c n (number_of notes j)) h
-    over false i n j notes h = refl
+note-other e i n j notes h = grind arith
 
 pub notes-kept : (log : List Edit) (es : List Event) (i n : ℕ) (e : Event) (notes : List (ℕ × ℕ)) → i < length es →
     e ≡ get_or es i e → n ≡ moved_number log i → Notes log es i notes → Notes log es (i + 1) (noted e i n notes)
@@ -479,12 +448,7 @@ pub range-next : (log : List Edit) (i d : ℕ) → KnowsRangeEnds log i (i + 1) 
 range-next log i d h = omega arith
 
 below-range : (log : List Edit) (i d : ℕ) → i < 2 ^ 64 - 1 → KnowsRangeEnds log i (i + 1) d → is_removed log i ≡ nat_lt i d
-below-range log i d l h =
-    let e : i + 1 ≡ suc i = omega arith in
-    removed-test log i ∙ tested i (range_end log (suc i)) d l (h ∙ ap (λ n. max (min (range_end log n) (2 ^ 64 - 1)) i) e)
-  where
-    tested : (i r d : ℕ) → i < 2 ^ 64 - 1 → max d i ≡ max (min r (2 ^ 64 - 1)) i → nat_lt i r ≡ nat_lt i d
-    tested i r d l h = grind (arith, nat_tests)
+below-range log i d l h = grind (arith, removed-test, nat_tests)
 
 pub stays-from : (log : List Edit) (i d : ℕ) → i < 2 ^ 64 - 1 → KnowsRangeEnds log i (i + 1) d → d ≤ i →
     is_removed log i ≡ false

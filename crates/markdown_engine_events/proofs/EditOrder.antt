@@ -31,17 +31,13 @@ by_bool false p q = q refl
 
 front-there : (i : ℕ) (log : List Edit) → front_at i log ≡ front_at i (filter (stands_at i) log)
 front-there i [] = refl
-front-there i (e ∷ log) =
-    by_bool (e.at == i)
-    (λ h. rw h (rw h (ap (λ x. x ++ cond e.before e.events []) (front-there i log))))
-    (λ h. rw h (append-nil (front_at i log) ∙ front-there i log))
+front-there i (e ∷ log) = grind (arith, by_bool, front-there i log, append-nil)
 
 -- A stable sort by place keeps the edits at each place.
 
 found : {X : Type 0} (p : X → Bool) (xs : List X) → ((x : X) × (p x ≡ true)) ⊎ (filter p xs ≡ [])
 found p [] = inr refl
-found p (x ∷ xs) =
-    by_bool (p x) (λ h. inl (x, h)) (λ h. elim (found p xs) [ inl y ↦ inl y | inr e ↦ inr (rw h e) ])
+found p (x ∷ xs) = grind (arith, by_bool, found p xs)
 
 ties-number : (a b i : ℕ) → (a == i) ≡ true → (not (is_lt (nat_cmp a b)) && not (is_lt (nat_cmp b a))) ≡ (b == i)
 ties-number a b i h = grind (arith, nat_tests)
@@ -62,20 +58,15 @@ module _ {X : Type 0} (n : X → ℕ) (xs ys : List X) (stable : IsStableByKey n
 filter-kept : (cs : List Event) (p : Edit → Bool) (es : List Entry) →
     filter p (kept cs es) ≡ kept cs (filter (λ e. p (edit_of cs e)) es)
 filter-kept cs p [] = refl
-filter-kept cs p (e ∷ es) =
-    by_bool (p (edit_of cs e)) (λ h. rw h (ap (λ x. edit_of cs e ∷ x) (filter-kept cs p es))) (λ h. rw h (filter-kept cs p es))
+filter-kept cs p (e ∷ es) = grind (arith, by_bool, filter-kept cs p es)
 
 back-there : (i : ℕ) (log : List Edit) → back_at i log ≡ back_at i (filter (stands_at i) log)
 back-there i [] = refl
-back-there i (e ∷ log) =
-    by_bool (e.at == i)
-    (λ h. rw h (rw h (ap (λ x. cond (not e.before) e.events [] ++ x) (back-there i log))))
-    (λ h. rw h (back-there i log))
+back-there i (e ∷ log) = grind (arith, by_bool, back-there i log)
 
 removed-there : (i : ℕ) (log : List Edit) → removed_at i log ≡ removed_at i (filter (stands_at i) log)
 removed-there i [] = refl
-removed-there i (e ∷ log) =
-    by_bool (e.at == i) (λ h. rw h (rw h (ap (λ x. e.remove + x) (removed-there i log)))) (λ h. rw h (omega (arith, removed-there i log)))
+removed-there i (e ∷ log) = grind (arith, by_bool, removed-there i log)
 
 rises-map : {X Y : Type 0} (f : X → Y) (n : Y → ℕ) (xs : List X) → IsNonDecreasingBy (λ x. n (f x)) xs →
     IsNonDecreasingBy n (map f xs)
@@ -197,8 +188,7 @@ pub backs-more : (cs : List Event) (i : ℕ) (es : List Entry) (k : ℕ) (xs ys 
     ys ≡ xs ++ back_at i (kept cs (take k es)) →
     zs ≡ ys ++ cond ((entry es k).at == i && not (entry es k).before) (edit_of cs (entry es k)).events [] →
     zs ≡ xs ++ back_at i (kept cs (take (k + 1) es))
-backs-more cs i es k xs ys zs l g m =
-    m ∙ ap (λ x. x ++ cond ((entry es k).at == i && not (entry es k).before) (edit_of cs (entry es k)).events []) g ∙ append_assoc xs (back_at i (kept cs (take k es))) (cond ((entry es k).at == i && not (entry es k).before) (edit_of cs (entry es k)).events []) ∙ ap (λ x. xs ++ x) (sym (ap (back_at i) (kept-more cs es k l) ∙ back_push i (kept cs (take k es)) (edit_of cs (entry es k))))
+backs-more cs i es k xs ys zs l g m = grind (arith, append_assoc, kept-more, back_push)
 
 -- Edits in order, one by one.
 
@@ -221,16 +211,11 @@ all-rise es k l up = subst (IsNonDecreasingBy (λ (e : Entry). e.at)) (take_all 
 -- what an edit puts behind others at a place
 pub comes-behind : (r : Edit) (i : ℕ) (xs : List Event) → r.at ≡ i → r.before ≡ false → xs ≡ r.events →
     xs ≡ cond (r.at == i && not r.before) r.events []
-comes-behind r i xs at b h =
-    h ∙ sym (ap (λ x. cond (x && not r.before) r.events []) (eq-eqb r.at i at) ∙ ap (λ x. cond (not x) r.events []) b)
+comes-behind r i xs at b h = grind (arith, eq-eqb)
 
 pub none-behind : (r : Edit) (i : ℕ) (ys : List Event) → r.before ≡ true →
     ys ≡ ys ++ cond (r.at == i && not r.before) r.events []
-none-behind r i ys b = none-part (r.at == i) r.before r.events ys b
-  where
-    none-part : (p q : Bool) (xs ys : List Event) → q ≡ true → ys ≡ ys ++ cond (p && not q) xs []
-    none-part true q xs ys h = rw h (sym (append-nil ys))
-    none-part false q xs ys h = sym (append-nil ys)
+none-behind r i ys b = grind (arith, append-nil)
 
 pub none-elsewhere : (r : Edit) (i : ℕ) (ys : List Event) → r.at ≢ i →
     ys ≡ ys ++ cond (r.at == i && not r.before) r.events []
@@ -263,8 +248,7 @@ adds-unlinked cs es u =
 
 kept-tail : (cs : List Event) (es : List Entry) (p : ℕ) →
     kept cs (take (length es - p) (drop p es)) ≡ drop p (kept cs es)
-kept-tail cs es p =
-    ap (kept cs) (take_all (length es - p) (drop p es) (omega (arith, length-drop p es))) ∙ sym (drop-map (edit_of cs) p es)
+kept-tail cs es p = grind (arith, take_all, length-drop, drop-map)
 
 kept-at : (cs : List Event) (i : ℕ) (es : List Entry) → All (λ e. e.at ≡ i) es → All (λ e. e.at ≡ i) (kept cs es)
 kept-at cs i es h = All-map (λ (e : Edit). e.at ≡ i) (edit_of cs) es h
@@ -342,8 +326,7 @@ module _ (cs xs : List Event) (es : List Entry) (k : AreKept cs es) (x : Entry) 
   last-events = grind (arith, size-both, drop-append_seam, take_all)
 
   pub kept-pushed : kept (cs ++ xs) (es ++ x ∷ []) ≡ kept cs es ++ (record { at = x.at; remove = x.remove; events = xs; before = x.before }) ∷ []
-  kept-pushed =
-      map-append (edit_of (cs ++ xs)) es (x ∷ []) ∙ ap (λ ys. ys ++ edit_of (cs ++ xs) x ∷ []) before-same ∙ ap (λ (ys : List Event). kept cs es ++ (record { at = x.at; remove = x.remove; events = ys; before = x.before }) ∷ []) last-events
+  kept-pushed = simp (map-append, before-same, last-events)
 
   pub are-pushed : All IsUnlinked xs → AreKept (cs ++ xs) (es ++ x ∷ [])
   are-pushed u =
@@ -362,18 +345,16 @@ pub pushed-seen : (cs ds xs : List Event) (es fs : List Entry) (x : Entry) → d
     (kept ds fs ≡ kept cs es ++ (record { at = x.at; remove = x.remove; events = xs; before = x.before }) ∷ []) × AreKept ds fs
 pushed-seen cs ds xs es fs x more longer from to k u =
     let end = to ∙ ap length more in (
-      ap (λ ys. kept ys fs) more ∙ ap (kept (cs ++ xs)) longer ∙ kept-pushed cs xs es k x from end,
+      grind (arith, kept-pushed),
       subst (λ (ys : List Event). AreKept ys fs) (sym more) (subst (λ (ys : List Entry). AreKept (cs ++ xs) ys) (sym longer) (are-pushed cs xs es k x from end u)),
     )
 
 -- events are taken back off
 pub taken-back : (cs ds es xs : List Event) (n : ℕ) → ds ≡ take n es → es ≡ cs ++ xs → n ≡ length cs → ds ≡ cs
-taken-back cs ds es xs n h more size =
-    h ∙ ap (λ (k : ℕ). take k es) size ∙ ap (λ (ys : List Event). take (length cs) ys) more ∙ take-append_seam cs xs
+taken-back cs ds es xs n h more size = grind (arith, take-append_seam)
 
 pub kept-seen : (cs ds : List Event) (es fs : List Entry) → ds ≡ cs → fs ≡ es → AreKept cs es → AreKept ds fs
-kept-seen cs ds es fs h g k =
-    subst (λ (xs : List Event). AreKept xs fs) (sym h) (subst (λ (xs : List Entry). AreKept cs xs) (sym g) k)
+kept-seen cs ds es fs h g k = grind arith
 
 pub view-seen : (cs ds : List Event) (es fs : List Entry) (log : List Edit) → ds ≡ cs → fs ≡ es → kept cs es ≡ log →
     kept ds fs ≡ log
@@ -382,13 +363,11 @@ view-seen cs ds es fs log h g k = ap (λ (xs : List Event). kept xs fs) h ∙ ap
 -- what is read of a map
 
 pub brought-seen : (cs ds : List Event) (es fs : List Entry) → ds ≡ cs → fs ≡ es → AreBrought cs es → AreBrought ds fs
-brought-seen cs ds es fs h g b =
-    subst (λ (xs : List Event). AreBrought xs fs) (sym h) (subst (λ (xs : List Entry). AreBrought cs xs) (sym g) b)
+brought-seen cs ds es fs h g b = grind arith
 
 pub rest-seen : (cs ds : List Event) (es fs gs : List Entry) (log : List Edit) → ds ≡ cs → fs ≡ es → kept cs es ≡ log →
     IsRest 0 (kept ds fs) (kept ds gs) → IsRest 0 log (kept ds gs)
-rest-seen cs ds es fs gs log h g k r =
-    subst (λ (xs : List Edit). IsRest 0 xs (kept ds gs)) (ap (λ x. kept x fs) h ∙ ap (kept cs) g ∙ k) r
+rest-seen cs ds es fs gs log h g k r = grind arith
 
 -- edits at a place bring events as all do
 pub brought-here : (cs : List Event) (es : List Entry) (p k : ℕ) → AreBrought cs es →
@@ -441,8 +420,7 @@ module _ (log : List Edit) (i p : ℕ) (es : List Edit) (left : IsRest i log (dr
 
   pub range-place : (a b : ℕ) → i < 2 ^ 64 - 1 → KnowsRangeEnds log i i a →
       b ≡ max a (min (i + min (removed_at i (drop p es)) (2 ^ 64 - 1)) (2 ^ 64 - 1)) → KnowsRangeEnds log i (i + 1) b
-  range-place a b l h g =
-      range-more log i a _ _ b l h (ap (λ n. min n (2 ^ 64 - 1)) (left.removed i (omega arith))) refl g
+  range-place a b l h g = grind (arith, range-more)
 
 -- Up to the next edit.
 
@@ -466,12 +444,10 @@ next-rest cs es p t l le up = grind (arith, first-left)
 
 -- the edits left lie from a later place on
 pub rest-later : (n m : ℕ) (log a : List Edit) → n ≤ m → IsRest n log a → All (λ e. m ≤ e.at) a → IsRest m log a
-rest-later n m log a l r h =
-    record { ahead = h; rises = r.rises; plain = r.plain; added = λ i k. r.added i (omega arith); removed = λ i k. r.removed i (omega arith) }
+rest-later n m log a l r h = grind arith
 
 pub rest-self : (n m : ℕ) (log a : List Edit) → m ≤ n → IsRest n log a → IsRest m a a
-rest-self n m log a l r =
-    record { ahead = λ k d h. let low = r.ahead k d h in omega arith; rises = r.rises; plain = r.plain; added = λ i h. refl; removed = λ i h. refl }
+rest-self n m log a l r = grind (arith, low)
 
 -- A place at which no edit of those left stands.
 

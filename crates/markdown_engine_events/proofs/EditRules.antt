@@ -26,9 +26,7 @@ pub stays-where : (log : List Edit) (j : ℕ) → ((p : ℕ) → p ≤ j → p +
 stays-where log j h = none-removes log j j h
 
 removes-at : (log : List Edit) (j i p : ℕ) → p ≤ i → j < p + removed_at p log → removed_by log j i ≡ true
-removes-at log j zero p l h =
-    let e : p ≡ 0 = omega arith in
-    lt-ltb j (removed_at 0 log) (omega (arith, ap (λ n. removed_at n log) e))
+removes-at log j zero p l h = grind (arith, lt-ltb)
 removes-at log j (suc i) p l h =
     elim (eqb_tells p (suc i)) [
       | inl t ↦ or_left (nat_lt j (suc i + removed_at (suc i) log)) (removed_by log j i) (lt-ltb j (suc i + removed_at (suc i) log) (omega (arith, t.1, ap (λ n. removed_at n log) t.1)))
@@ -64,8 +62,7 @@ nil-moved e = ap (λ (l : Option Link). record e { link = l }) (same-link (moved
 
 pub nil-from : (i : ℕ) (es : List Event) → edited_from [] i es ≡ es
 nil-from i [] = refl
-nil-from i (e ∷ es) =
-    ap (λ b. cond b [] (moved [] e ∷ []) ++ edited_from [] (suc i) es) (nil-removed i) ∙ ap (λ x. x ∷ edited_from [] (suc i) es) (nil-moved e) ∙ ap (λ xs. e ∷ xs) (nil-from (suc i) es)
+nil-from i (e ∷ es) = simp (nil-removed, nil-moved, nil-from (suc i) es)
 
 -- no edit changes nothing
 pub edited-nil : (es : List Event) → edited [] es ≡ es
@@ -79,21 +76,12 @@ length-stay false x = refl
 
 length-from : (log : List Edit) (i : ℕ) (es : List Event) →
     length (edited_from log i es) + start log i ≡ moved_number log (i + length es)
-length-from log i [] =
-    let e : i + 0 ≡ i = omega arith in
-    omega (arith, moved-start log i, ap (moved_number log) e)
-length-from log i (e ∷ es) =
-    let same : suc i + length es ≡ i + suc (length es) = omega arith in
-    let rest = length-from log (suc i) es in
-    let one = length-append (added_at i log) (cond (is_removed log i) [] (moved log e ∷ []) ++ edited_from log (suc i) es) in
-    let two = length-append (cond (is_removed log i) [] (moved log e ∷ [])) (edited_from log (suc i) es) in
-    let stay = length-stay (is_removed log i) (moved log e) in
-    omega (arith, ap (moved_number log) same)
+length-from log i [] = grind (arith, moved-start)
+length-from log i (e ∷ es) = grind (arith, length-from log (suc i) es, length-append, length-stay)
 
 -- as many as the number that an event past the end would have
 pub length-edited : (log : List Edit) (es : List Event) → length (edited log es) ≡ moved_number log (length es)
-length-edited log es =
-    let e : 0 + length es ≡ length es = omega arith in omega (arith, length-from log 0 es, ap (moved_number log) e)
+length-edited log es = grind (arith, length-from)
 
 -- what is made so far is as long as what comes before the place
 pub placed-from : (log : List Edit) (es done : List Event) (i : ℕ) → i ≤ length es →
@@ -109,13 +97,11 @@ placed-from log es done i l h =
 
 pub front-append : (i : ℕ) (a b : List Edit) → front_at i (a ++ b) ≡ front_at i b ++ front_at i a
 front-append i [] b = sym (append-nil (front_at i b))
-front-append i (e ∷ a) b =
-    ap (λ x. x ++ cond (e.at == i && e.before) e.events []) (front-append i a b) ∙ append_assoc (front_at i b) (front_at i a) (cond (e.at == i && e.before) e.events [])
+front-append i (e ∷ a) b = simp (front-append i a b, append_assoc)
 
 pub back-append : (i : ℕ) (a b : List Edit) → back_at i (a ++ b) ≡ back_at i a ++ back_at i b
 back-append i [] b = refl
-back-append i (e ∷ a) b =
-    ap (λ x. cond (e.at == i && not e.before) e.events [] ++ x) (back-append i a b) ∙ sym (append_assoc (cond (e.at == i && not e.before) e.events []) (back_at i a) (back_at i b))
+back-append i (e ∷ a) b = simp (back-append i a b, append_assoc)
 
 pub removed-append : (i : ℕ) (a b : List Edit) → removed_at i (a ++ b) ≡ removed_at i a + removed_at i b
 removed-append i [] b = omega arith
@@ -160,12 +146,10 @@ module _ (a b : List Edit) (n : ℕ) (low : All (λ e. e.at < n) a) (high : All 
   not-low j l = λ k d h e. let m = low k d h in omega arith
 
   pub added-first : (j : ℕ) → j < n → added_at j (a ++ b) ≡ added_at j a
-  added-first j l =
-      ap (λ x. x ++ back_at j (a ++ b)) (front-append j a b ∙ ap (λ x. x ++ front_at j a) (front-none j b (not-high j l))) ∙ ap (λ x. front_at j a ++ x) (back-append j a b ∙ ap (λ x. back_at j a ++ x) (back-none j b (not-high j l)) ∙ append-nil (back_at j a))
+  added-first j l = simp (front-append, front-none, not-high, back-append, back-none, append-nil)
 
   pub added-second : (j : ℕ) → n ≤ j → added_at j (a ++ b) ≡ added_at j b
-  added-second j l =
-      ap (λ x. x ++ back_at j (a ++ b)) (front-append j a b ∙ ap (λ x. front_at j b ++ x) (front-none j a (not-low j l)) ∙ append-nil (front_at j b)) ∙ ap (λ x. front_at j b ++ x) (back-append j a b ∙ ap (λ x. x ++ back_at j b) (back-none j a (not-low j l)))
+  added-second j l = simp (front-append, front-none, not-low, append-nil, back-append, back-none)
 
   pub removed-first : (j : ℕ) → j < n → removed_at j (a ++ b) ≡ removed_at j a
   removed-first j l = omega (arith, removed-append j a b, removed-none j b (not-high j l))
@@ -212,12 +196,7 @@ each-at p (suc n) j h l =
 
 places-from : (n : ℕ) (log : List Edit) → places_test n log ≡ true → All (λ e. e.at ≤ n) log
 places-from n [] h = λ k d l. absurd (omega arith)
-places-from n (e ∷ log) h = λ k d l. places-step n e log (leb-true e.at n (and-left (nat_le e.at n) (places_test n log) h)) (places-from n log (and-right (nat_le e.at n) (places_test n log) h)) k d l
-  where
-    places-step : (n : ℕ) (e : Edit) (log : List Edit) → e.at ≤ n → All (λ x. x.at ≤ n) log → (k : ℕ) (d : Edit) →
-        k < length (e ∷ log) → (get_or (e ∷ log) k d).at ≤ n
-    places-step n e log h g zero d l = h
-    places-step n e log h g (suc k) d l = g k d (omega arith)
+places-from n (e ∷ log) h = grind (arith, leb-true, and-left, places-from n log (and-right (nat_le e.at n) (places_test n log) h), and-right)
 
 not-both : (a b : Bool) → not (a && b) ≡ true → a ≡ true → b ≡ false
 not-both true true h g = absurd (false≢true h)
@@ -238,5 +217,4 @@ CanEdit-from_test log es h =
 
 pub edited-empty : (log : List Edit) (es : List Event) → (length log == 0) ≡ true → es ≡ edited log es
 edited-empty [] es h = sym (edited-nil es)
-edited-empty (e ∷ log) es h =
-    absurd (elim (eqb_tells (suc (length log)) 0) [ inl t ↦ omega arith | inr f ↦ false≢true (sym f.0 ∙ h) ])
+edited-empty (e ∷ log) es h = grind (arith, eqb_tells, false≢true)

@@ -27,15 +27,7 @@ use Rattle.markdown_engine_events.proofs.EditStretches.{first-moved, until-plain
 
 pub apart-from : (n count : ℕ) (log : List Edit) → StandApart n count log → All (λ x. n ≤ x.at) log
 apart-from n count [] h = λ k d l. absurd (omega arith)
-apart-from n count (e ∷ log) h = λ k d l. from-step n count e log h (apart-from (e.at + max 1 e.remove) count log h.1.1) k d l
-  where
-    from-step : (n count : ℕ) (e : Edit) (log : List Edit) → StandApart n count (e ∷ log) →
-        All (λ x. e.at + max 1 e.remove ≤ x.at) log → (k : ℕ) (d : Edit) → k < length (e ∷ log) → n ≤ (get_or (e ∷ log) k d).at
-    from-step n count e log h g zero d l = h.0
-    from-step n count e log h g (suc k) d l =
-        let low = h.0 in
-        let high = g k d (omega arith) in
-        omega arith
+apart-from n count (e ∷ log) h = grind (arith, apart-from (e.at + max 1 e.remove) count log h.1.1)
 
 pub apart-less : (n m count : ℕ) (log : List Edit) → m ≤ n → StandApart n count log → StandApart m count log
 apart-less n m count [] l h = h
@@ -51,11 +43,7 @@ apart-drop n count (suc k) (e ∷ log) h = apart-drop (e.at + max 1 e.remove) co
 
 module _ (e : Edit) (rest : List Edit) (later : All (λ x. suc e.at ≤ x.at) rest) (beyond : All (λ x. e.at + e.remove ≤ x.at) rest) where
   alone : All (λ x. x.at < suc e.at) (e ∷ [])
-  alone = λ k d l. alone-step k d l
-    where
-      alone-step : (k : ℕ) (d : Edit) → k < 1 → (get_or (e ∷ []) k d).at < suc e.at
-      alone-step zero d l = omega arith
-      alone-step (suc k) d l = absurd (omega arith)
+  alone = grind arith
 
   comes-here : added_at e.at (e ∷ rest) ≡ e.events
   comes-here = added-first (e ∷ []) rest (suc e.at) alone later e.at (omega arith) ∙ one-comes e e.at e.before refl refl
@@ -75,8 +63,7 @@ module _ (e : Edit) (rest : List Edit) (later : All (λ x. suc e.at ≤ x.at) re
       let first : removed_at 0 (e ∷ rest) ≡ 0 + removed_at 0 (e ∷ rest) = omega arith in
       let second : 0 + removed_at 0 rest ≡ removed_at 0 rest = omega arith in
       ap (nat_lt j) first ∙ goes-term j 0 l h ∙ ap (nat_lt j) second
-  goes-upto j (suc i) l h =
-      ap (λ b. b || removed_by (e ∷ rest) j i) (goes-term j (suc i) l h) ∙ ap (λ b. nat_lt j (suc i + removed_at (suc i) rest) || b) (goes-upto j i l h)
+  goes-upto j (suc i) l h = simp (goes-term, goes-upto j i l h)
 
   goes-later : (j : ℕ) → e.at < j → e.at + e.remove ≤ j → is_removed (e ∷ rest) j ≡ is_removed rest j
   goes-later j l h = goes-upto j j l h
@@ -101,11 +88,7 @@ module _ (e : Edit) (rest : List Edit) (later : All (λ x. suc e.at ≤ x.at) re
   at-keeps (y ∷ ys) z u =
       let plain = u 0 y (omega arith) in
       let none = added-none e.at rest (λ k d g q. let m = later k d g in omega arith) in
-      let stays : is_removed (e ∷ rest) e.at ≡ false =
-      stays-where (e ∷ rest) e.at (λ p l. elim (eqb_tells p e.at) [
-        | inl t ↦ let same = t.1 in let here = removes-here in omega (arith, ap (λ n. removed_at n (e ∷ rest)) t.1)
-        | inr f ↦ let other = f.1 in let before = none-before p (omega arith) in omega arith
-      ]) in
+      let stays : is_removed (e ∷ rest) e.at ≡ false = grind (arith, stays-where, eqb_tells, removes-here, none-before) in
       let stays_there : is_removed rest e.at ≡ false = stays-where rest e.at (λ p l. let m = removed-none p rest (λ k d g q. let m = later k d g in omega arith) in omega arith) in
       let behind = same-later (suc e.at) ys (omega arith) (omega arith) (λ k d g. u (suc k) d (omega arith)) in
       ap (λ xs. xs ++ (cond (is_removed (e ∷ rest) e.at) [] (moved (e ∷ rest) y ∷ []) ++ edited_from (e ∷ rest) (suc e.at) ys)) comes-here ∙ ap (λ b. e.events ++ (cond b [] (moved (e ∷ rest) y ∷ []) ++ edited_from (e ∷ rest) (suc e.at) ys)) stays ∙ ap (λ z. e.events ++ (z ∷ edited_from (e ∷ rest) (suc e.at) ys)) (first-moved (e ∷ rest) y plain ∙ sym (first-moved rest y plain)) ∙ ap (λ xs. e.events ++ (moved rest y ∷ xs)) behind ∙ sym (ap (λ b. e.events ++ (cond b [] (moved rest y ∷ []) ++ edited_from rest (suc e.at) ys)) stays_there) ∙ ap (λ xs. e.events ++ (xs ++ (cond (is_removed rest e.at) [] (moved rest y ∷ []) ++ edited_from rest (suc e.at) ys))) (sym none)
@@ -181,11 +164,7 @@ module _ (cs : List Event) (E : List Entry) (k count : ℕ) (within : k < length
   ahead-behind = apart-from (one.at + max 1 one.remove) count behind apart-behind
 
   pub ahead-here : All (λ x. one.at ≤ x.at) (drop k (kept cs E))
-  ahead-here = subst (λ log. All (λ x. one.at ≤ x.at) log) (sym first-of) (λ i d l. ahead-step i d l)
-    where
-      ahead-step : (i : ℕ) (d : Edit) → i < length (one ∷ behind) → one.at ≤ (get_or (one ∷ behind) i d).at
-      ahead-step zero d l = omega arith
-      ahead-step (suc i) d l = let b = ahead-behind i d (omega arith) in omega arith
+  ahead-here = grind (arith, first-of, ahead-behind)
 
   -- what becomes of the list from the edit's place on
   pub from-here : (es : List Event) → length es ≡ count → All NamesNone es →
@@ -208,8 +187,7 @@ module _ (cs : List Event) (E : List Entry) (k count : ℕ) (within : k < length
       let rest = drop from items in
       let long : length moved_items ≡ length items = omega (arith, ap length move, length-paste items between rest (read - from) (omega arith) (omega (arith, length-drop from items))) in
       let moved_part = take (read - from) rest in
-      let behind_moved : drop between moved_items ≡ moved_part ++ drop end items =
-      ap (drop between) move ∙ pasted-back items between rest (read - from) (omega arith) ∙ ap (λ n. moved_part ++ drop n items) e1 in
+      let behind_moved : drop between moved_items ≡ moved_part ++ drop end items = grind (arith, pasted-back) in
       let read_part : moved_part ≡ take (read - from) (drop from es) = part-same items es from read l front in
       ap (drop to) write ∙ pasted-back moved_items to xs (length xs) (omega arith) ∙ ap (λ ys. ys ++ drop (to + length xs) moved_items) (take_all (length xs) xs (omega arith) ∙ brings) ∙ ap (λ n. one.events ++ drop n moved_items) e2 ∙ ap (λ ys. one.events ++ ys) (behind_moved ∙ ap (λ ys. ys ++ drop end items) read_part ∙ ap (λ ys. take (read - from) (drop from es) ++ ys) back ∙ sym (plain-on behind from read es l (omega arith) ahead plain)) ∙ sym (from-here es size plain)
 
@@ -284,8 +262,7 @@ module _ (cs : List Event) (E : List Entry) (i count : ℕ) (within : i < length
       let rest_size : length (drop (room + read) items) ≡ count - read = omega (arith, length-drop (room + read) items) in
       let long : length moved_items ≡ length items = omega (arith, ap length move, length-paste items end (drop (room + read) items) n (omega arith) (omega arith)) in
       let behind_it = edited_from (drop (i + 1) (kept cs E)) (e.at + e.remove) (drop (e.at + e.remove) es) in
-      let first : take (end + m) moved_items ≡ take end items ++ take m (drop read es) =
-      ap (λ k. take (end + k) moved_items) (sym far) ∙ ap (take (end + n)) move ∙ take-paste items end (drop (room + read) items) n (omega arith) (omega arith) ∙ ap (λ ys. take end items ++ take n ys) back ∙ ap (λ k. take end items ++ take k (drop read es)) far in
+      let first : take (end + m) moved_items ≡ take end items ++ take m (drop read es) = grind (arith, take-paste) in
       let second : take (end + m + length xs) filled ≡ take end items ++ (take m (drop read es) ++ e.events) =
       ap (take (end + m + length xs)) write ∙ take-paste moved_items (end + m) xs (length xs) (omega arith) (omega arith) ∙ ap (λ ys. take (end + m) moved_items ++ ys) (take_all (length xs) xs (omega arith) ∙ brings) ∙ ap (λ ys. ys ++ e.events) first ∙ append_assoc (take end items) (take m (drop read es)) e.events in
       let rest : edited_from (drop i (kept cs E)) read (drop read es) ≡ take m (drop read es) ++ (e.events ++ behind_it) =
@@ -334,11 +311,7 @@ module _ (cs : List Event) (E : List Entry) (i : ℕ) (some : 0 < i) (within : i
       drop_more (kept cs E) (i - 1) e (omega arith) ∙ ap (λ x. x ∷ drop (i - 1 + 1) (kept cs E)) (kept-read cs E (i - 1) there e) ∙ ap (λ n. edit_of cs (entry E (i - 1)) ∷ drop n (kept cs E)) last
 
   all-more : (P : Edit → Type 0) → P (edit_of cs (entry E (i - 1))) → All P (drop i (kept cs E)) → All P (drop (i - 1) (kept cs E))
-  all-more P p all = subst (λ log. All P log) (sym part-of) (λ k d l. more-step k d l)
-    where
-      more-step : (k : ℕ) (d : Edit) → k < length (edit_of cs (entry E (i - 1)) ∷ drop i (kept cs E)) → P (get_or (edit_of cs (entry E (i - 1)) ∷ drop i (kept cs E)) k d)
-      more-step zero d l = p
-      more-step (suc k) d l = all k d (omega arith)
+  all-more P p all = grind (arith, part-of)
 
   pub growing-more : AreGrowing (drop i (kept cs E)) → (edit_of cs (entry E (i - 1))).remove ≤ length (edit_of cs (entry E (i - 1))).events → AreGrowing (drop (i - 1) (kept cs E))
   growing-more all h = all-more (λ e. e.remove ≤ length e.events) h all
@@ -359,11 +332,7 @@ all-fresh xs h = λ k d l. unlinked-fresh (get_or xs k d) (h k (get_or xs k d) (
 
 fresh-cond : (b : Bool) (e : Event) → IsFresh e → All IsFresh (cond b [] (e ∷ []))
 fresh-cond true e f = λ k d l. absurd (omega arith)
-fresh-cond false e f = λ k d l. fresh-one k d l
-  where
-    fresh-one : (k : ℕ) (d : Event) → k < 1 → IsFresh (get_or (e ∷ []) k d)
-    fresh-one zero d l = f
-    fresh-one (suc k) d l = absurd (omega arith)
+fresh-cond false e f = grind arith
 
 fresh-from : (log : List Edit) (i : ℕ) (es : List Event) → AddsUnlinked log → All IsFresh es → All IsFresh (edited_from log i es)
 fresh-from log i [] u f = all-fresh (added_at i log) (added-unlinked log i u)
@@ -399,19 +368,14 @@ view-edited b log items vs all n off u v h =
 module _ (log rest : List Edit) (same : IsRest 0 log rest) where
   removed-same : (j i : ℕ) → removed_by rest j i ≡ removed_by log j i
   removed-same j zero = ap (nat_lt j) (same.removed 0 (omega arith))
-  removed-same j (suc i) =
-      ap (λ n. nat_lt j (suc i + n) || removed_by rest j i) (same.removed (suc i) (omega arith)) ∙ ap (λ b. nat_lt j (suc i + removed_at (suc i) log) || b) (removed-same j i)
+  removed-same j (suc i) = grind (arith, removed-same j i)
 
   goes-same : (j : ℕ) → is_removed rest j ≡ is_removed log j
   goes-same j = removed-same j j
 
   added-same : (i : ℕ) → added_up_to rest i ≡ added_up_to log i
   added-same zero = added-zero rest ∙ ap length (same.added 0 (omega arith)) ∙ sym (added-zero log)
-  added-same (suc i) =
-      let rest_more = added-more rest i in
-      let log_more = added-more log i in
-      let before = added-same i in
-      omega (arith, ap length (same.added (suc i) (omega arith)))
+  added-same (suc i) = omega (arith, ap length (same.added (suc i) (omega arith)), added-more rest i, added-more log i, added-same i)
 
   before-same : (i : ℕ) → removed_before rest i ≡ removed_before log i
   before-same zero = refl
@@ -426,8 +390,7 @@ module _ (log rest : List Edit) (same : IsRest 0 log rest) where
 
   from-same : (i : ℕ) (es : List Event) → edited_from rest i es ≡ edited_from log i es
   from-same i [] = same.added i (omega arith)
-  from-same i (e ∷ es) =
-      ap (λ xs. xs ++ (cond (is_removed rest i) [] (moved rest e ∷ []) ++ edited_from rest (suc i) es)) (same.added i (omega arith)) ∙ ap (λ b. added_at i log ++ (cond b [] (moved rest e ∷ []) ++ edited_from rest (suc i) es)) (goes-same i) ∙ ap (λ o. added_at i log ++ (cond (is_removed log i) [] (with_previous o e ∷ []) ++ edited_from rest (suc i) es)) (option-same (previous_of e)) ∙ ap (λ xs. added_at i log ++ (cond (is_removed log i) [] (moved log e ∷ []) ++ xs)) (from-same (suc i) es)
+  from-same i (e ∷ es) = grind (arith, goes-same, option-same, from-same (suc i) es)
 
   pub edited-same : (es : List Event) → edited rest es ≡ edited log es
   edited-same es = from-same 0 es

@@ -104,9 +104,7 @@ linked_at-past (x ∷ xs) (suc j) h = let k : length xs ≤ j = omega arith in l
 
 pub linked_at-after : (xs ys : List Event) (j : ℕ) → linked_at (xs ++ ys) (length xs + j) ≡ linked_at ys j
 linked_at-after [] ys j = ap (linked_at ys) (omega arith)
-linked_at-after (x ∷ xs) ys j =
-    let e : suc (length xs) + j ≡ suc (length xs + j) = omega arith in
-    ap (linked_at (x ∷ xs ++ ys)) e ∙ linked_at-after xs ys j
+linked_at-after (x ∷ xs) ys j = grind (arith, linked_at-after xs ys j)
 
 pub some-none : (p : ℕ) → None ≡ Some p → ⊥
 some-none p h = cc
@@ -175,8 +173,7 @@ previous-behind : (i k : ℕ) (es : List Event) → i ≤ k → previous_at (dro
 previous-behind zero k es h = ap (previous_at es) (omega arith)
 previous-behind (suc i) k [] h = refl
 previous-behind (suc i) zero (e ∷ es) h = absurd (omega arith)
-previous-behind (suc i) (suc k) (e ∷ es) h =
-    ap (previous_at (drop i es)) (omega arith) ∙ previous-behind i k es (omega arith)
+previous-behind (suc i) (suc k) (e ∷ es) h = grind (arith, previous-behind i k es (omega arith))
 
 abbrev link_next : Option Link → Option ℕ
 link_next None = None
@@ -191,9 +188,7 @@ follower-at : (n i p : ℕ) (es : List Event) (d : Event) → p ≡ n + i → li
     next_link None (get_or (chained_from n es) i d).link ≡ (get_or (chained_from n es) i d).link →
     follower p (suc p) (drop (suc i) es) ≡ None
 follower-at n i p [] d at h e = absurd (false≢true h)
-follower-at n zero p (x ∷ es) d at h e =
-    let here : p ≡ n = omega (arith, at) in
-    ap (λ q. follower q (suc q) es) here ∙ none-next (follower n (suc n) es) x.link h e
+follower-at n zero p (x ∷ es) d at h e = grind (arith, none-next)
 follower-at n (suc i) p (x ∷ es) d at h e = follower-at (suc n) i p es d (omega (arith, at)) h e
 
 -- an event with no event after ends its chain
@@ -209,9 +204,7 @@ chained-ends p es d w e j named =
 pub chained-fresh : (n : ℕ) (es : List Event) (e : Event) → previous_of e ≡ None →
     chained_from n (es ++ e ∷ []) ≡ chained_from n es ++ with_next None e ∷ []
 chained-fresh n [] e h = refl
-chained-fresh n (x ∷ es) e h =
-    let no : previous_of e ≢ Some n = λ k. some-none n (sym h ∙ k) in
-    ap (λ k. with_next k x ∷ chained_from (suc n) (es ++ e ∷ [])) (follower-push n (suc n) es e no) ∙ ap (λ r. with_next (follower n (suc n) es) x ∷ r) (chained-fresh (suc n) es e h)
+chained-fresh n (x ∷ es) e h = grind (arith, some-none, follower-push, chained-fresh (suc n) es e h)
 
 other-none : (p q : ℕ) (o : Option ℕ) → o ≡ Some p → p ≢ q → o ≢ Some q
 other-none p q o h n = λ k. n cc
@@ -220,9 +213,7 @@ other-none p q o h n = λ k. n cc
 pub chained-push-older : (n p : ℕ) (es : List Event) (e : Event) → previous_of e ≡ Some p → p < n →
     chained_from n (es ++ e ∷ []) ≡ chained_from n es ++ with_next None e ∷ []
 chained-push-older n p [] e h l = refl
-chained-push-older n p (x ∷ es) e h l =
-    let no : previous_of e ≢ Some n = other-none p n (previous_of e) h (omega arith) in
-    ap (λ k. with_next k x ∷ chained_from (suc n) (es ++ e ∷ [])) (follower-push n (suc n) es e no) ∙ ap (λ r. with_next (follower n (suc n) es) x ∷ r) (chained-push-older (suc n) p es e h (omega arith))
+chained-push-older n p (x ∷ es) e h l = grind (arith, other-none, follower-push, chained-push-older (suc n) p es e h (omega arith))
 
 pub chained-push : (n i p m : ℕ) (es : List Event) (e : Event) → p ≡ n + i → m ≡ n + length es → i < length es →
     previous_of e ≡ Some p → EndsChain p es →
@@ -270,23 +261,19 @@ previous-either k None = inr refl
 previous-either k (Some l) = inl refl
 
 previous-other : (p q : ℕ) (l : Option Link) → p ≢ q → link_previous (previous_link (Some p) l) ≢ Some q
-previous-other p q l n = λ h.
-    elim (previous-either (Some p) l) [ inl a ↦ n cc | inr b ↦ some-none q (sym b ∙ h) ]
+previous-other p q l n = λ h. grind (arith, previous-either, some-none)
 
 -- the followers of the other events stay
 pub follower-link : (q p n i : ℕ) (es : List Event) → p ≢ q → previous_at es i ≡ None →
     follower q n (changed_at (with_previous (Some p)) i es) ≡ follower q n es
 follower-link q p n i [] d h = refl
-follower-link q p n zero (e ∷ es) d h =
-    follower-skip q n (with_previous (Some p) e) es (previous-other p q e.link d) ∙ sym (follower-skip q n e es (λ k. some-none q (sym h ∙ k)))
-follower-link q p n (suc i) (e ∷ es) d h =
-    follower-step q n e (changed_at (with_previous (Some p)) i es) es (follower-link q p (suc n) i es d h)
+follower-link q p n zero (e ∷ es) d h = grind (arith, follower-skip, previous-other, some-none)
+follower-link q p n (suc i) (e ∷ es) d h = simp (follower-step, follower-link q p (suc n) i es d h)
 
 pub follower-linked : (p n i m : ℕ) (es : List Event) → m ≡ n + i → linked_at es i ≡ true → EndsChain p es →
     follower p n (changed_at (with_previous (Some p)) i es) ≡ Some m
 follower-linked p n i m [] at h u = absurd (false≢true h)
-follower-linked p n zero m (e ∷ es) at h u =
-    follower-here p n (with_previous (Some p) e) es (previous-same (Some p) e.link h) ∙ ap (λ k. Some k) (omega arith)
+follower-linked p n zero m (e ∷ es) at h u = grind (arith, follower-here, previous-same)
 follower-linked p n (suc i) m (e ∷ es) at h u =
     let more : m ≡ suc n + i = omega arith in
     follower-skip p n e (changed_at (with_previous (Some p)) i es) (u 0) ∙ follower-linked p (suc n) i m es more h (tail-ends p e es u)
@@ -294,10 +281,8 @@ follower-linked p n (suc i) m (e ∷ es) at h u =
 pub chained-link-older : (n p i : ℕ) (es : List Event) → p < n → previous_at es i ≡ None →
     chained_from n (changed_at (with_previous (Some p)) i es) ≡ changed_at (with_previous (Some p)) i (chained_from n es)
 chained-link-older n p i [] l h = refl
-chained-link-older n p zero (e ∷ es) l h =
-    ap (λ y. y ∷ chained_from (suc n) es) (with_next-with_previous (Some p) (follower n (suc n) es) e)
-chained-link-older n p (suc i) (e ∷ es) l h =
-    ap (λ k. with_next k e ∷ chained_from (suc n) (changed_at (with_previous (Some p)) i es)) (follower-link n p (suc n) i es (omega arith) h) ∙ ap (λ r. with_next (follower n (suc n) es) e ∷ r) (chained-link-older (suc n) p i es (omega arith) h)
+chained-link-older n p zero (e ∷ es) l h = simp with_next-with_previous
+chained-link-older n p (suc i) (e ∷ es) l h = grind (arith, follower-link, chained-link-older (suc n) p i es (omega arith) h)
 
 pub chained-link : (n p j i m : ℕ) (es : List Event) → p ≡ n + j → m ≡ n + i → j < i → previous_at es i ≡ None →
     linked_at es i ≡ true → EndsChain p es →

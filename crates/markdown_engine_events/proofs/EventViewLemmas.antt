@@ -20,8 +20,7 @@ filled-from ys vs v h w = record { filled = h ∙ ap chained (sym v); linked = s
 
 pub view-one : (xs vs ys : List Event) (e : Event) → bares xs ≡ vs → bare e ≡ e → ys ≡ xs ++ e ∷ [] →
     bares ys ≡ vs ++ e ∷ []
-view-one xs vs ys e v b h =
-    ap bares h ∙ bares-append xs (e ∷ []) ∙ ap (λ x. bares xs ++ x ∷ []) b ∙ ap (λ x. x ++ e ∷ []) v
+view-one xs vs ys e v b h = grind (arith, bares-append)
 
 -- an event added that names none
 
@@ -94,9 +93,7 @@ module _ (xs ys : List Event) (e : Event) (p : ℕ) (k : IsChainedList xs) (h : 
   named = previous_of-bare e ∙ n
 
   pub dropped-within : p < length ys
-  dropped-within =
-      let less : p < length (bares ys) = last-earlier (bares ys) (bare e) p (split-linked xs ys e k h) named in
-      omega (arith, length-bares ys)
+  dropped-within = omega (arith, length-bares ys, last-earlier (bares ys) (bare e) p (split-linked xs ys e k h) named)
 
   kept-front : ys ≡ changed_at (with_next (Some (length (bares ys)))) p (chained (bares ys))
   kept-front =
@@ -117,8 +114,7 @@ module _ (xs ys : List Event) (e : Event) (p : ℕ) (k : IsChainedList xs) (h : 
 
 pub view-linked : (xs vs ys zs : List Event) (p i : ℕ) → bares xs ≡ vs → ys ≡ changed_at (with_next (Some i)) p xs →
     zs ≡ changed_at (with_previous (Some p)) i ys → bares zs ≡ changed_at (with_previous (Some p)) i vs
-view-linked xs vs ys zs p i v h g =
-    ap bares g ∙ bares-previous (Some p) i ys ∙ ap (changed_at (with_previous (Some p)) i) (ap bares h ∙ bares-next (Some i) p xs ∙ v)
+view-linked xs vs ys zs p i v h g = grind (arith, bares-previous, bares-next)
 
 pub kept-linked : (xs vs ys zs : List Event) (p i : ℕ) → bares xs ≡ vs → IsChainedList xs → p < i → linked_at vs p ≡ true →
     linked_at vs i ≡ true → previous_at vs i ≡ None → EndsChain p vs → ys ≡ changed_at (with_next (Some i)) p xs →
@@ -134,16 +130,12 @@ linked-within xs vs i v h = let l = within-linked vs i h in omega (arith, view-l
 
 pub linked-within-changed : (xs vs ys : List Event) (f : Event → Event) (p i : ℕ) → bares xs ≡ vs →
     linked_at vs i ≡ true → ys ≡ changed_at f p xs → i < length ys
-linked-within-changed xs vs ys f p i v h g =
-    let size : length ys ≡ length xs = ap length g ∙ length-changed_at f p xs in
-    let l : i < length xs = linked-within xs vs i v h in
-    omega arith
+linked-within-changed xs vs ys f p i v h g = omega (arith, ap length g ∙ length-changed_at f p xs, linked-within xs vs i v h)
 
 -- an event read, without the event after
 pub bare-read : (xs vs : List Event) (i : ℕ) (d r : Event) → bares xs ≡ vs → d ≡ get_or xs i d → r ≡ bare d →
     r ≡ get_or vs i r
-bare-read xs vs i d r v h k =
-    k ∙ ap bare h ∙ get-bares xs i d ∙ ap (λ x. get_or (bares xs) i x) (sym k) ∙ ap (λ x. get_or x i r) v
+bare-read xs vs i d r v h k = grind (arith, get-bares)
 
 -- events that are linked to no other
 
@@ -167,12 +159,7 @@ bares-part (suc n) (suc k) (x ∷ xs) = bares-part n (suc k) xs
 
 pub enters-each : (xs : List Event) → OnlyEnters xs → All (λ e. MayLink e.kind e.link) xs
 enters-each [] h = λ k d l. absurd (omega arith)
-enters-each (x ∷ xs) h = λ k d l. enters-step x xs h.0 (enters-each xs h.1) k d l
-  where
-    enters-step : (x : Event) (xs : List Event) → MayLink x.kind x.link → All (λ e. MayLink e.kind e.link) xs →
-        (k : ℕ) (d : Event) → k < length (x ∷ xs) → MayLink (get_or (x ∷ xs) k d).kind (get_or (x ∷ xs) k d).link
-    enters-step x xs h g zero d l = h
-    enters-step x xs h g (suc k) d l = g k d (omega arith)
+enters-each (x ∷ xs) h = grind (arith, enters-each xs h.1)
 
 some-event : (xs : List Event) (i : ℕ) → i < length xs → Event
 some-event [] i l = absurd (omega arith)
@@ -198,14 +185,12 @@ module _ (xs vs ws : List Event) (n m k : ℕ) (v : bares xs ≡ vs) (w : ws ≡
       let lt : j - n < k = omega (arith, size, low, high) in
       let d : Event = some-event ys (j - n) (omega (arith, size, lt)) in
       let there : n + (j - n) ≡ j = omega (arith, low) in
-      let same : get_or ys (j - n) d ≡ get_or (chained vs) j d =
-      ap (λ zs. get_or zs (j - n) d) once ∙ get_or-take k (drop n ws) (j - n) d lt ∙ get_or-drop n ws (j - n) d ∙ ap (λ i. get_or ws i d) there ∙ ap (λ zs. get_or zs j d) (w ∙ filled-at xs vs v f) in
+      let same : get_or ys (j - n) d ≡ get_or (chained vs) j d = grind (arith, once, get_or-take, get_or-drop, filled-at) in
       let P : Event → Type 0 = λ e. next_link None e.link ≡ e.link in
       chained-ends j vs d (subst IsLinked v f.linked) (subst P same (u (j - n) d (omega (arith, size, lt))))
 
 pub view-extended : (xs vs ys zs : List Event) → bares xs ≡ vs → All IsFresh ys → zs ≡ xs ++ ys → bares zs ≡ vs ++ ys
-view-extended xs vs ys zs v u h =
-    ap bares h ∙ bares-append xs ys ∙ ap (λ x. bares xs ++ x) (bares-same ys (λ k d l. ap (λ (e : Event). e.link) (bare-fresh (get_or ys k d) (u k d l)))) ∙ ap (λ x. x ++ ys) v
+view-extended xs vs ys zs v u h = grind (arith, bares-append, bares-same, bare-fresh)
 
 extended : (xs ys : List Event) → IsChainedList xs → All IsFresh ys → IsChainedList (xs ++ ys)
 extended xs [] k u = subst IsChainedList (sym (append-nil xs)) k
@@ -262,10 +247,7 @@ pub noted-dropped : (b : Bool) (xs ys zs : List Event) (e : Event) (p : ℕ) →
     zs ≡ changed_at (with_next None) p ys → IsNoted b zs
 noted-dropped b xs ys zs e p n h s g =
     noted b zs (kept-dropped xs ys e p (filled-of b xs n) h s zs g)
-    (λ off.
-    let all : All IsAlone (ys ++ e ∷ []) = subst (All IsAlone) h (n.alone off) in
-    let last : IsAlone e = subst IsAlone (get_or_push ys e e (length ys) refl) (all (length ys) e (omega (arith, length_push ys e))) in
-    absurd (some-none p (sym last.0 ∙ s)))
+    (λ off. grind (arith, get_or_push, length_push, some-none))
 
 -- events that are linked to no other
 

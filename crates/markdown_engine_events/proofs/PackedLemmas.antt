@@ -48,8 +48,7 @@ length-seen n ps es v = sym (length_unpacked n ps) ∙ ap length v
 
 pub unpacked-append : (n : ℕ) (ps qs : List Packed) → unpacked_from n (ps ++ qs) ≡ unpacked_from n ps ++ unpacked_from (n + length ps) qs
 unpacked-append n [] qs = ap (λ m. unpacked_from m qs) (omega arith)
-unpacked-append n (p ∷ ps) qs =
-    ap (λ es. unpacked n p ∷ es) (unpacked-append (suc n) ps qs ∙ ap (λ m. unpacked_from (suc n) ps ++ unpacked_from m qs) (omega arith))
+unpacked-append n (p ∷ ps) qs = grind (arith, unpacked-append (suc n) ps qs)
 
 append-first : (ps qs : List Packed) → unpacked_from 0 (ps ++ qs) ≡ unpacked_from 0 ps ++ unpacked_from (length ps) qs
 append-first ps qs = unpacked-append 0 ps qs ∙ ap (λ k. unpacked_from 0 ps ++ unpacked_from k qs) (none-before (length ps))
@@ -77,8 +76,7 @@ unpacked-at n (x ∷ ps) (suc i) d e l = ap (λ m. unpacked m (get_or ps i d)) (
 unpacked-set : (f : Event → Event) (n : ℕ) (ps : List Packed) (i : ℕ) (p q : Packed) → p ≡ get_or ps i p →
     unpacked (n + i) q ≡ f (unpacked (n + i) p) → unpacked_from n (set ps i q) ≡ changed_at f i (unpacked_from n ps)
 unpacked-set f n [] i p q h k = refl
-unpacked-set f n (x ∷ ps) zero p q h k =
-    ap (λ e. e ∷ unpacked_from (suc n) ps) (ap (λ m. unpacked m q) (omega arith) ∙ k ∙ ap (λ m. f (unpacked m p)) (omega arith) ∙ ap (λ y. f (unpacked n y)) h)
+unpacked-set f n (x ∷ ps) zero p q h k = grind arith
 unpacked-set f n (x ∷ ps) (suc i) p q h k =
     ap (λ es. unpacked n x ∷ es)
     (unpacked-set f (suc n) ps i p q h (ap (λ m. unpacked m q) (omega arith) ∙ k ∙ ap (λ m. f (unpacked m p)) (omega arith)))
@@ -202,8 +200,7 @@ view-moved ps qs es at from n v h within room a =
     ∙ ap (λ xs. take at es ++ xs ++ drop (at + n) es) (take-take-le n n (drop from es) (omega arith))
 
 pub length-moved : (ps qs : List Packed) (at from n : ℕ) → qs ≡ paste ps at (drop from ps) n → from + n ≤ length ps → at + n ≤ length ps → length qs ≡ length ps
-length-moved ps qs at from n h within room =
-    ap length h ∙ length-paste ps at (drop from ps) n room (omega (arith, length-drop from ps))
+length-moved ps qs at from n h within room = grind (arith, length-paste, length-drop)
 
 pub length-written : (ps qs rs : List Packed) (at : ℕ) → rs ≡ paste ps at qs (length qs) → at + length qs ≤ length ps → length rs ≡ length ps
 length-written ps qs rs at h room = ap length h ∙ length-paste ps at qs (length qs) room (omega arith)

@@ -8,7 +8,8 @@ use Rattle.markdown_content.specs.Codes.{Code}
 use Rattle.markdown_content.specs.Place.{Place, ahead_at, code_at, moved, point_of}
 use Rattle.markdown_event.specs.declared.event.Point.{Point}
 use Rattle.markdown_content.proofs.PlaceRules.{IsAhead, ahead_none, ahead_some, at_moved, end_moved, point_ahead}
-use Rattle.markdown_model.specs.GfmAutolinkLiteral.{is_other, trails_in, is_domain_code, domain_from}
+use Rattle.markdown_model.specs.GfmAutolinkLiteral.{is_other, is_domain_code, domain_from}
+use Rattle.markdown_leaf_gfm.specs.Trails.{trails_in}
 use Rattle.markdown_util.specs.Neighbours.{class_of, after_index}
 use Rattle.markdown_plan.specs.ByteTests.{among_values}
 use Rattle.markdown_plan.specs.Characters.{IsText, later_value}

@@ -16,7 +16,8 @@ use Rattle.markdown_engine.specs.declared.tokenizer.Tokenizer.{Tokenizer}
 use Rattle.markdown_engine.proofs.LawSteps.{if-step, code-step}
 use Rattle.markdown_engine.proofs.OperationFields.{ahead-none, ahead-some, left-consumed, left-scratched, some-codes}
 use Rattle.markdown_model.specs.CodeTests.{is_value, is_among, is_later_byte}
-use Rattle.markdown_model.specs.GfmAutolinkLiteral.{is_other, is_space, trails, trails_in, is_domain_code, ends_path}
+use Rattle.markdown_model.specs.GfmAutolinkLiteral.{is_other, is_space, trails, is_domain_code, ends_path}
+use Rattle.markdown_leaf_gfm.specs.Trails.{trails_in}
 use Rattle.markdown_util.specs.Neighbours.{class_of, after_index}
 use Rattle.markdown_util.specs.declared.util.char.Kind.{Kind}
 use Rattle.markdown_plan.specs.ByteTests.{among_values}
@@ -28,6 +29,7 @@ use Rattle.markdown_leaf_gfm.specs.GfmAutolinkLiteral.{end_of, kind_here, trail_
 use Rattle.markdown_leaf_gfm.specs.GfmAutolinkLiteral.{LookReady, passed_code, path_plan, path_punctuation_plan, domain_plan, domain_after_plan, nothing_more, domain_ends, domain_after_ends, path_ends, path_punctuation_ends, states, domain_after_words, domain_punctuation_words, domain_words, path_after_words, path_punctuation_words, path_words}
 use Rattle.markdown_leaf_gfm.proofs.KnownTrails.{knows-nothing, knows-mark, mark-past, known-past, known-here}
 use Rattle.markdown_leaf_gfm.proofs.GfmAutolinkLiteralReadings.{domain-more, domain-stop, domain-end, path-more, path-stop}
+use Rattle.markdown_leaf_gfm.proofs.TrailReadings.{trails-looked}
 use Rattle.markdown_leaf_gfm.proofs.TrailChecks.{space-here, looked-back}
 use Rattle.markdown_model.proofs.GrammarSteps.{and-left, if-true, if-false}
 use Rattle.markdown_engine.specs.StateWords.{Words, Law, GoesIn, StateWords, words_in}
@@ -152,9 +154,9 @@ code-by bytes end c cs e =
 
 pub mark-by : (bytes : List ℕ) (end : ℕ) (c : Code) (cs : List Code) → is_among (codes "._") c ≡ true →
     is_domain_code bytes end (c ∷ cs) ≡ not (trails_in bytes end None (c ∷ cs))
-unfolding trails
 mark-by bytes end c cs e =
     ap (λ b. elim b as (λ _. Bool) [ true ↦ not (trails bytes end (c ∷ cs)) | false ↦ (is_value 45 c || is_later_byte c) || is_other (class_of (after_index bytes c.start.index)) ]) e
+    ∙ ap not (trails-looked bytes end (c ∷ cs))
 
 mark-fields : (s : TokenizeState) (c : Code) → is_among (codes "._") c ≡ true →
     passed_code c s ≡ marked (Some c.value) s
@@ -359,7 +361,6 @@ module _ (W : Words) (within : EqualsLayer states W) where
 
   ends-here : (T : Tokenizer) (c : ℕ) (e : current_of T ≡ Some c) →
       (let b = ahead-some T c e in ends_path (bytes_of T) (end_of T) T.tokenize_state.size T.tokenize_state.size_b (b.code ∷ rest_of (ahead T)) ≡ is_space_at c T || (is_open_mark c T.tokenize_state && trails_in (bytes_of T) (end_of T) None (ahead T)))
-  unfolding trails
   ends-here T c e =
       let B : List ℕ = bytes_of T in
       let E : ℕ = end_of T in
@@ -367,7 +368,8 @@ module _ (W : Words) (within : EqualsLayer states W) where
       let b = ahead-some T c e in
       let more : List Code = rest_of (ahead T) in
       let class : Kind = class_of (after_index B b.code.start.index) in
-      ap (λ v. (not (later_value v) && is_space class) || (is_open_mark v s && trails_in B E None (b.code ∷ more))) b.value
+      ap (λ t. (not (later_value b.code.value) && is_space class) || (is_open_mark b.code.value s && t)) (trails-looked B E (b.code ∷ more))
+      ∙ ap (λ v. (not (later_value v) && is_space class) || (is_open_mark v s && trails_in B E None (b.code ∷ more))) b.value
       ∙ ap (λ x. (not (later_value c) && is_space x) || (is_open_mark c s && trails_in B E None (b.code ∷ more))) (sym (space-here T b.code more b.whole))
       ∙ ap (λ cs. is_space_at c T || (is_open_mark c s && trails_in B E None cs)) (sym b.whole)
 

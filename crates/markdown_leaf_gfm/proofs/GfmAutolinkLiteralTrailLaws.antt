@@ -13,7 +13,8 @@ use Rattle.markdown_engine.specs.declared.tokenizer.Tokenizer.{Tokenizer}
 use Rattle.markdown_engine.proofs.LawSteps.{if-step, code-step}
 use Rattle.markdown_engine.proofs.OperationFields.{ahead-none, ahead-some, ahead-consumed, current-ahead}
 use Rattle.markdown_model.specs.CodeTests.{is_among, is_empty, next_is, is_whitespace_code}
-use Rattle.markdown_model.specs.GfmAutolinkLiteral.{is_space, trails_in}
+use Rattle.markdown_model.specs.GfmAutolinkLiteral.{is_space}
+use Rattle.markdown_leaf_gfm.specs.Trails.{trails_in}
 use Rattle.markdown_plan.specs.ByteTests.{letter_value}
 use Rattle.markdown_plan.specs.Characters.{bytes_of}
 use Rattle.markdown_plan.proofs.CharactersAlongContent.{text-passed}

@@ -3,7 +3,7 @@ use Rattle.std.proofs.Common.{◌≡◌, ℕ, ◌==◌, ◌&&◌, ◌||◌, Bool
 use Rattle.std.proofs.lemmas.Bool.{eqb-true, or_parts}
 use Rattle.markdown_content.specs.Codes.{Code}
 use Rattle.markdown_model.specs.CodeTests.{is_letter}
-use Rattle.markdown_model.specs.GfmAutolinkLiteral.{trails_in}
+use Rattle.markdown_leaf_gfm.specs.Trails.{trails_in}
 use Rattle.markdown_model.proofs.GrammarSteps.{and-left, and-right}
 use Rattle.markdown_plan.specs.ByteTests.{letter_value}
 use Rattle.markdown_leaf_gfm.specs.GfmAutolinkLiteral.{trail_value, is_known, known_after, Knows}

@@ -2,6 +2,7 @@ pub mod CheckSteps
 pub mod GfmTaskListItemCheckLaws
 pub mod GfmAutolinkLiteralReadings
 pub mod TrailChecks
+pub mod TrailReadings
 pub mod TrailScans
 pub mod DomainParts
 pub mod GfmAutolinkLiteralTrailLaws

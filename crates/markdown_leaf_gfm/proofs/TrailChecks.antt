@@ -20,7 +20,8 @@ use Rattle.markdown_engine.proofs.OperationFields.{attempts-applied, left-consum
 use Rattle.markdown_engine.proofs.OperationLemmas.{Grown-applied, scratch-done}
 use Rattle.markdown_content.proofs.PlaceRules.{point_ahead, point_end}
 use Rattle.markdown_model.specs.CodeTests.{is_among, is_letter}
-use Rattle.markdown_model.specs.GfmAutolinkLiteral.{is_space, trails_in}
+use Rattle.markdown_model.specs.GfmAutolinkLiteral.{is_space}
+use Rattle.markdown_leaf_gfm.specs.Trails.{trails_in}
 use Rattle.markdown_util.specs.Neighbours.{class_of, after_index}
 use Rattle.markdown_plan.specs.Characters.{IsText, ReadsText, at_later, bytes_of}
 use Rattle.markdown_plan.proofs.CharactersAlongContent.{text-moved}

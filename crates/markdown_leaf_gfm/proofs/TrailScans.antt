@@ -6,7 +6,8 @@ use Rattle.markdown_content.specs.Codes.{Code}
 use Rattle.markdown_content.specs.Place.{Place, ahead_at, code_at, moved, point_of}
 use Rattle.markdown_content.proofs.PlaceRules.{IsAhead, ahead_none, ahead_some, code_at_ahead, code_at_end, point_ahead, point_end, end_moved}
 use Rattle.markdown_model.specs.CodeTests.{is_among, is_empty, next_is, is_whitespace_code}
-use Rattle.markdown_model.specs.GfmAutolinkLiteral.{is_space, trails_in}
+use Rattle.markdown_model.specs.GfmAutolinkLiteral.{is_space}
+use Rattle.markdown_leaf_gfm.specs.Trails.{trails_in}
 use Rattle.markdown_util.specs.Neighbours.{class_of, after_index}
 use Rattle.markdown_plan.specs.ByteTests.{letter_value}
 use Rattle.markdown_plan.specs.Characters.{IsText, at_later}

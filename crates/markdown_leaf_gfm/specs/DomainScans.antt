@@ -5,7 +5,8 @@ use Rattle.markdown_content.specs.Codes.{Code}
 use Rattle.markdown_content.specs.Place.{Place, ahead_at, moved}
 use Rattle.markdown_model.specs.CodeTests.{is_value}
 use Rattle.markdown_plan.specs.ByteTests.{letter_value}
-use Rattle.markdown_model.specs.GfmAutolinkLiteral.{trails_in, domain_from, is_domain_code}
+use Rattle.markdown_model.specs.GfmAutolinkLiteral.{domain_from, is_domain_code}
+use Rattle.markdown_leaf_gfm.specs.Trails.{trails_in}
 use Rattle.markdown_leaf_gfm.specs.DomainOutlook.{begins_www}
 use Rattle.markdown_leaf_gfm.specs.declared.domain_outlook.Look.{Look}
 use Rattle.markdown_leaf_gfm.specs.declared.domain_outlook.Look.TheVariants.{GoesOn, Ends}

@@ -12,7 +12,8 @@ use Rattle.markdown_engine.specs.TreeOps.{consumes}
 use Rattle.markdown_engine.specs.Weights.{codes_left}
 use Rattle.markdown_model.specs.CodeTests.{is_empty, next_is, is_whitespace_code, is_among, is_between}
 use Rattle.markdown_model.specs.Grammar.{Reading, ◌then_◌}
-use Rattle.markdown_model.specs.GfmAutolinkLiteral.{schemes, first_letters, letters, one_word_of, is_other, is_space, trails_in, domain, domain_from, path, path_from, count_if}
+use Rattle.markdown_model.specs.GfmAutolinkLiteral.{schemes, first_letters, letters, one_word_of, is_other, is_space, domain, domain_from, path, path_from, count_if}
+use Rattle.markdown_leaf_gfm.specs.Trails.{trails_in}
 use Rattle.markdown_model.specs.SingleConstructs as SingleConstructs
 use Rattle.markdown_util.specs.Neighbours.{class_of, after_index}
 use Rattle.markdown_util.specs.declared.util.char.Kind.{Kind}

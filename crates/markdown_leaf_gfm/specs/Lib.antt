@@ -4,4 +4,5 @@ pub mod GfmTaskListItemCheck
 pub mod DomainOutlook
 pub mod GfmAutolinkLiteral
 -- What serves proofs: what functions and proofs promise each other.
+pub mod Trails
 pub mod DomainScans

@@ -10,7 +10,8 @@ ghost use Rattle.markdown_content.specs.Place.{ahead_at, code_at, moved, point_o
 ghost use Rattle.markdown_content.specs.Stretch.{past_stretch};
 ghost use Rattle.markdown_plan.specs.ByteTests.{among_values};
 ghost use Rattle.markdown_plan.specs.Characters.{IsText, at_later, later_value};
-ghost use Rattle.markdown_model.specs.GfmAutolinkLiteral.{is_other, is_space, trails_in};
+ghost use Rattle.markdown_model.specs.GfmAutolinkLiteral.{is_other, is_space};
+ghost use Rattle.markdown_leaf_gfm.specs.Trails.{trails_in};
 ghost use Rattle.markdown_util.specs.Neighbours.{class_of, after_index};
 ghost use Rattle.markdown_leaf_gfm.specs.GfmAutolinkLiteral.{ends_bracket};
 ghost use Rattle.markdown_leaf_gfm.specs.DomainOutlook as DomainOutlook;

@@ -1,5 +1,5 @@
 -- Autolink literals (GFM 6.9): addresses that stand bare in text, with a protocol or from `www.` on.
-use Rattle.std.specs.Prelude.{ℕ, ◌+◌, ◌-◌, Bool, true, false, ◌&&◌, ◌||◌, not, nat_lt, ◌==◌, if◌then◌else◌, List, [], ◌∷◌, ◌++◌, filter, reverse, Option, Some, None, codes}
+use Rattle.std.specs.Prelude.{ℕ, zero, suc, ◌+◌, ◌-◌, Bool, true, false, ◌&&◌, ◌||◌, not, nat_lt, ◌==◌, if◌then◌else◌, List, [], ◌∷◌, ◌++◌, length, filter, reverse, Option, Some, None, codes}
 use Rattle.std.specs.Str.{byte}
 use Rattle.std.specs.List.{list_any}
 use Rattle.markdown_content.specs.Codes.{Code}
@@ -8,7 +8,7 @@ use Rattle.markdown_event.specs.declared.event.Name.{Name}
 use Rattle.markdown_util.specs.Neighbours.{class_of, after_index}
 use Rattle.markdown_util.specs.declared.util.char.Kind.{Kind}
 use Rattle.markdown_model.specs.CodeTests.{is_value, is_among, is_empty, next_is, is_whitespace_code, is_between, is_letter, is_later_byte, is_some_code}
-use Rattle.markdown_model.specs.Grammar.{Reading, ◌>>=◌, ◌>>◌, gives, either, provided, one}
+use Rattle.markdown_model.specs.Grammar.{Reading, ◌>>=◌, ◌>>◌, gives, either, provided, one, some, ◌then_◌}
 
 -- The schemes that a literal may begin with, in lower case.
 abbrev pub schemes : List (List ℕ)
@@ -78,6 +78,14 @@ may_precede_www (Some c) = is_whitespace_code c || is_among (codes "(*_[]~") c
 abbrev pub begins_with_www : List Code → Bool
 begins_with_www cs = elim (letters www cs) [ None ↦ false | Some r ↦ not (is_empty r.1) ]
 
+-- A piece of trailing punctuation: a mark, or what looks like a named reference.
+unfoldable pub trailing : Reading (List Code)
+trailing = either (one (is_among (codes "!\"'),*.:;?]_~"))) (one (is_value (byte "&")) then_ some is_letter then_ one (is_value (byte ";")))
+
+-- a code that may begin such a piece, and so is no whitespace
+abbrev pub begins_trailing : Code → Bool
+begins_trailing c = is_among (codes "!\"&'),*.:;?]_~") c
+
 -- `bytes` is the document, and `end` the index where the content ends.
 module _ (bytes : List ℕ) (end : ℕ) where
   abbrev pub index_of : List Code → ℕ
@@ -88,34 +96,22 @@ module _ (bytes : List ℕ) (end : ℕ) where
   abbrev pub stands_before_space : List Code → Bool
   stands_before_space cs = is_space (class_of (after_index bytes (index_of cs)))
 
-  -- Trailing punctuation: punctuation and what looks like named references, up to whitespace or `<`. With
-  -- `Some seen` a `&` stands before, and what stands here is the rest of such a reference and then trailing
-  -- punctuation; `seen` says that letters stand between the `&` and here.
-  unfoldable pub trails_in : Option Bool → List Code → Bool
-  trails_in None [] = stands_before_space []
-  trails_in (Some seen) [] = false
-  trails_in None (c ∷ cs) =
-      elim (is_among (codes "!\"'),*.:;?_~") c) [
-        | true ↦ trails_in None cs
-        | false ↦ elim (is_value (byte "&") c) [
-          | true ↦ trails_in (Some false) cs
-          | false ↦ elim (is_value (byte "<") c) [
-            | true ↦ true
-            | false ↦ elim (is_value (byte "]") c) [
-              | true ↦ (is_empty cs || next_is (λ d. is_whitespace_code d || is_among (codes "([") d) cs) || trails_in None cs
-              | false ↦ stands_before_space (c ∷ cs)
-            ]
-          ]
-        ]
-      ]
-  trails_in (Some seen) (c ∷ cs) =
-      elim (is_letter c) [
-        | true ↦ trails_in (Some true) cs
-        | false ↦ (seen && is_value (byte ";") c) && trails_in None cs
-      ]
+  -- Trailing punctuation ends here: at whitespace, at a `<`, or at a `]` that the end, whitespace, `(` or `[` follows.
+  abbrev pub ends_trail : List Code → Bool
+  ends_trail [] = stands_before_space []
+  ends_trail (c ∷ cs) =
+      is_value (byte "<") c
+      || (is_value (byte "]") c && (is_empty cs || next_is (λ d. is_whitespace_code d || is_among (codes "([") d) cs))
+      || (not (begins_trailing c) && stands_before_space (c ∷ cs))
 
+  -- it ends behind some number of pieces, n at most
+  unfoldable pub trails_within : ℕ → List Code → Bool
+  trails_within zero cs = ends_trail cs
+  trails_within (suc n) cs = ends_trail cs || elim (trailing cs) [ None ↦ false | Some r ↦ trails_within n r.1 ]
+
+  -- What stands here trails: some number of pieces of trailing punctuation, and then its end.
   unfoldable pub trails : List Code → Bool
-  trails cs = trails_in None cs
+  trails cs = trails_within (length cs) cs
 
   -- Domains go on over `.` and `_` that are not trailing, `-`, and characters of class other; the later
   -- bytes of a character stand with its first one.

@@ -1,5 +1,5 @@
 -- What may follow a label: where its reading holds.
-use Rattle.std.proofs.Common.{◌≡◌, ◌==◌, inl, inr, ◌&&◌, ◌||◌, Bool, true, false, Option, Some, None, List, [], ◌∷◌, ◌++◌, refl, sym, ap, subst, ◌∙◌}
+use Rattle.std.proofs.Common.{◌≡◌, ◌==◌, inl, inr, ◌&&◌, ◌||◌, Bool, true, false, Option, Some, None, List, [], ◌∷◌, ◌++◌, refl, sym, ap, subst, ◌∙◌, arith}
 use Rattle.markdown_partial.proofs.PartialDestinationReadings.{if-here, if-other}
 use Rattle.std.proofs.lemmas.Bool.{eqb-true, and_from}
 use Rattle.markdown_content.specs.Codes.{Code}
@@ -134,13 +134,7 @@ shortcut-found defined cs tree rest d n = switched-on (gives empty) defined cs d
 unless-back : (a b : Reading Forest) (cs : List Code) (r : Forest × List Code) →
     ◌≡◌ {A = Option (Forest × List Code)} (unless a b cs) (Some r) → (a cs ≡ None) × (b cs ≡ Some r)
 unfolding unless
-unless-back a b cs r e = by_answer (a cs) refl e
-  where
-    by_answer : (o : Option (Forest × List Code)) → a cs ≡ o →
-        elim o as (λ _. Option (Forest × List Code)) [ None ↦ b cs | Some x ↦ None ] ≡ Some r →
-        (a cs ≡ None) × (b cs ≡ Some r)
-    by_answer None f k = (f, k)
-    by_answer (Some x) f k = cc
+unless-back a b cs r e = grind arith
 
 unless-found : (a b : Reading Forest) (cs : List Code) → a cs ≡ None → unless a b cs ≡ b cs
 unfolding unless
@@ -148,13 +142,7 @@ unless-found a b cs e = ap (λ o. elim o as (λ _. Option (Forest × List Code))
 
 either-none : (a b : Reading Forest) (cs : List Code) → either a b cs ≡ None → (a cs ≡ None) × (b cs ≡ None)
 unfolding either
-either-none a b cs e = by_answer (a cs) refl e
-  where
-    by_answer : (o : Option (Forest × List Code)) → a cs ≡ o →
-        elim o as (λ _. Option (Forest × List Code)) [ None ↦ b cs | Some x ↦ Some x ] ≡ None →
-        (a cs ≡ None) × (b cs ≡ None)
-    by_answer None f k = (f, k)
-    by_answer (Some x) f k = cc
+either-none a b cs e = grind arith
 
 -- a resource begins with `(`
 no-resource : (both : Bool) (cs : List Code) → next_is (is_value 40) cs ≡ false → NoneHere (IsResource both) cs
@@ -225,11 +213,7 @@ module _ (s : Setting) (defined : Bool) where
   at-bracket : (cs : List Code) → next_is (is_value 91) cs ≡ true →
       after_label s defined cs ≡ reference_after_label s defined cs
   unfolding after_label
-  at-bracket cs h = if-other (is_value 40) _ _ cs (other cs h) ∙ if-here (is_value 91) _ _ cs h
-    where
-      other : (ds : List Code) → next_is (is_value 91) ds ≡ true → next_is (is_value 40) ds ≡ false
-      other [] e = cc
-      other (c ∷ ds) e = ap (λ v. v == 40) (eqb-true c.value 91 e)
+  at-bracket cs h = grind (arith, if-other, if-here, eqb-true)
 
   full-follows : (cs : List Code) (tree : Forest) (rest : List Code) → IsFull s cs tree rest →
       after_label s defined cs ≡ Some (tree, rest)

@@ -1,5 +1,5 @@
 -- The events of a tree with linked leaves in groups of their own: a chain is events that stand one after another.
-use Rattle.std.proofs.Common.{◌≡◌, ℕ, zero, suc, ◌+◌, List, [], ◌∷◌, ◌++◌, slice_get, Option, Some, None, option_map, refl, sym, ap, subst, ◌∙◌, arith, append_assoc, append-nil, inl, inr}
+use Rattle.std.proofs.Common.{◌≡◌, ℕ, zero, suc, ◌+◌, List, [], ◌∷◌, ◌++◌, slice_get, Option, Some, None, option_map, sym, ap, subst, ◌∙◌, arith, append_assoc, append-nil, inl, inr}
 use Rattle.markdown_content.specs.Codes.{Code, document_start, stop_of}
 use Rattle.markdown_content.specs.Content.{content_of}
 use Rattle.markdown_content.specs.Tree.{Forest, empty, leaf_then, group_then, event, event_count, events_from, events_of, next_linked, start_of}
@@ -52,12 +52,7 @@ first-linked n m (group_then name a b inside rest) h e = absurd h
 
 linked-leaf : (n : ℕ) (name : Name) (p : Option ℕ) (content : Content) (cs : List Code) (t : Forest) (es : List Event) → AreLinkedLeaves t → Go (n + 2) es →
     Go n (record { kind = Kind.Enter; name = name; point = start_of cs; link = Some (record { previous = p; next = next_linked (n + 2) t; content = content }) } ∷ event Kind.Exit name (stop_of document_start cs) ∷ es)
-linked-leaf n name p content cs t es linked h =
-    ((λ l e. record { exit = refl; next = λ m k. first-linked (n + 2) m t linked (ap (λ (x : Option Link). next_of x) e ∙ k) }), ((λ l e. no-link l e), subst (λ k. Go k es) (two n) h))
-  where
-    next_of : Option Link → Option ℕ
-    next_of None = None
-    next_of (Some l) = l.next
+linked-leaf n name p content cs t es linked h = grind (arith, first-linked, no-link, two)
 
 -- The events of siblings, in front of others.
 
@@ -126,19 +121,8 @@ first-exit (x ∷ es) h = ap Some h
 at-number : (es : List Event) (b n : ℕ) (e : Event) (l : Link) → Go b es → slice_get es n ≡ Some e → e.link ≡ Some l →
     (option_map (λ (x : Event). x.kind) (slice_get es (n + 1)) ≡ Some Kind.Exit) × ((m : ℕ) → l.next ≡ Some m → m ≡ b + n + 2)
 at-number [] b n e l h k q = absurd (no-event e k)
-at-number (f ∷ es) b zero e l h k q =
-    let s : ExitStands b l es = h.0 l (ap (λ (x : Event). x.link) (same-event f e k) ∙ q) in (first-exit es s.exit, λ m g. s.next m g ∙ first b)
-  where
-    first : (a : ℕ) → a + 2 ≡ a + 0 + 2
-    first a = omega arith
-at-number (f ∷ es) b (suc n) e l h k q =
-    let r = at-number es (b + 1) n e l h.1 k q in (ap (λ i. option_map (λ (x : Event). x.kind) (slice_get (f ∷ es) i)) (number n) ∙ r.0, λ m g. r.1 m g ∙ moved b n)
-  where
-    number : (i : ℕ) → suc i + 1 ≡ suc (i + 1)
-    number i = omega arith
-
-    moved : (a i : ℕ) → a + 1 + i + 2 ≡ a + suc i + 2
-    moved a i = omega arith
+at-number (f ∷ es) b zero e l h k q = grind (arith, same-event, first-exit)
+at-number (f ∷ es) b (suc n) e l h k q = grind (arith, at-number es (b + 1) n e l h.1 k q)
 
 tree-unbroken : (t : Forest) → HasChains t → AreUnbroken (events_of t)
 tree-unbroken t h n e l k q =

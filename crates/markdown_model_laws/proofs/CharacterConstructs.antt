@@ -14,7 +14,7 @@ use Rattle.markdown_util.specs.Neighbours.{class_of, after_index}
 use Rattle.markdown_util.specs.Reference.{Table}
 use Rattle.markdown_model.specs.CodeTests.{is_value, is_among, next_is, is_digit, is_hex_digit, is_letter, is_alphanumeric, is_ascii_punctuation, is_whitespace_code, is_later_byte}
 use Rattle.markdown_model.specs.Grammar.{Reading, ◌>>◌, provided, one, some, span, word_of, word, up_to_word, through, ◌then_◌, optional_tree}
-use Rattle.markdown_model.specs.GfmAutolinkLiteral.{schemes, letters, one_word_of, domain_from, is_domain, is_domain_code, domain, ends_path, path_from, path, trails, is_other, is_space, count_if, gfm_autolink_literal_protocol, www_from_here, gfm_autolink_literal_www, may_precede_www, begins_with_www}
+use Rattle.markdown_model.specs.GfmAutolinkLiteral.{schemes, letters, one_word_of, domain_from, is_domain, domain, ends_path, path_from, path, trails, is_space, count_if, gfm_autolink_literal_protocol, www_from_here, gfm_autolink_literal_www, may_precede_www, begins_with_www}
 use Rattle.markdown_model.specs.HtmlText.{html_codes, html_text, open_tag, closing_tag, comment, instruction, declaration, cdata}
 use Rattle.markdown_model.specs.LabelEnd.{full_reference, collapsed_reference, shortcut, shortcut_before_bracket, reference_after_label, after_label}
 use Rattle.markdown_model.specs.Laws.{is_run}
@@ -96,20 +96,10 @@ pub blank-low : (c : Code) → is_blank c ≡ true → is_low c ≡ true
 blank-low c h = grind (arith, nat_tests)
 
 cuts-by : (a b x y : Bool) → (not (a || b) && ((x && y) || not (x || y))) ≡ false → ((a ≡ true) ⊎ (x ≡ true)) ⊎ ((b ≡ true) ⊎ (y ≡ true))
-cuts-by true b x y h = inl (inl refl)
-cuts-by false true x y h = inr (inl refl)
-cuts-by false false true y h = inl (inr refl)
-cuts-by false false false true h = inr (inr refl)
-cuts-by false false false false h = cc
+cuts-by a b x y h0 = grind arith
 
 cuts-marked : (p : Code → Bool) → IsLowTest p → CutsLow p
-cuts-marked p test c d h =
-    elim (cuts-by (is_line_ending c) (is_line_ending d) (p c) (p d) h) [
-      | inl (inl e) ↦ inl (ending-low c e)
-      | inl (inr e) ↦ inl (test c e)
-      | inr (inl e) ↦ inr (ending-low d e)
-      | inr (inr e) ↦ inr (test d e)
-    ]
+cuts-marked p test c d h = grind (arith, cuts-by, ending-low)
 
 cuts-line : (a b : Bool) → (not (a || b) && ((true && true) || not (true || true))) ≡ false → (a ≡ true) ⊎ (b ≡ true)
 cuts-line true b h = inl refl
@@ -122,14 +112,7 @@ cuts-lines c d h =
 
 onto-early : (p : Code → Bool) → CutsLow p → (c : Code) (ss : List (List Code)) → LaterEarly ss → (is_low c ≡ true → Early (joined_codes ss)) →
     LaterEarly (onto_stretch p c ss)
-onto-early p cut c [] h e = tt
-onto-early p cut c ([] ∷ more) h e = h
-onto-early p cut c ((d ∷ ds) ∷ more) h e = by_test (joins p c d) refl
-  where
-    by_test : (b : Bool) → joins p c d ≡ b →
-        LaterEarly (elim b as (λ _. List (List Code)) [ true ↦ (c ∷ d ∷ ds) ∷ more | false ↦ (c ∷ []) ∷ (d ∷ ds) ∷ more ])
-    by_test true k = h
-    by_test false k = (elim (cut c d k) [ inl l ↦ e l | inr l ↦ low-early d l ], h)
+onto-early p c ss h0 h1 h2 = grind (arith, low-early)
 
 later-early : (p : Code → Bool) → CutsLow p → (cs : List Code) → HasNoStrays cs → LaterEarly (stretches p cs)
 later-early p cut [] s = tt
@@ -145,11 +128,7 @@ each-early p cut cs h =
     first-early (stretches p cs) (subst Early (sym (joined_codes-stretches p cs)) h.0) (later-early p cut cs h.1)
 
 leads-line_leaf : (name : Name) (link : Option Content) (s : List Code) → is_run name ≡ false → Early s → HasLeads (line_leaf name link s)
-leads-line_leaf name link s n h = by_test (next_is is_line_ending s)
-  where
-    by_test : (b : Bool) → HasLeads (elim b as (λ _. Forest) [ true ↦ linked_leaf N.LineEnding link s | false ↦ linked_leaf name link s ])
-    by_test true = leads-linked_leaf N.LineEnding link s refl h
-    by_test false = leads-linked_leaf name link s n h
+leads-line_leaf name link s n h = grind (arith, leads-linked_leaf)
 
 leads-line_leaves : (name : Name) (ss : List (List Code)) → is_run name ≡ false → EachEarly ss → HasLeads (line_leaves name ss)
 leads-line_leaves name [] n h = tt
@@ -250,13 +229,7 @@ parts-hexadecimal =
     reads_bind true true true Lows ArePartsLow _ _ (a-one _ (value-low 59 refl)) λ back b. reads_gives ArePartsLow true _ (record { front = f; number = lows-all number n; hexadecimal = lows-all x k; value = v; back = b }))
 
 leads-reference : (p : Parts) → ArePartsLow p → HasLeads (reference_tree p)
-leads-reference p h = (
-  leads-row (leaf N.CharacterReferenceMarker p.front) _ (marker-leaf N.CharacterReferenceMarker p.front refl h.front)
-      (leads-row (leaf N.CharacterReferenceMarkerNumeric p.number) _ (low-leaf N.CharacterReferenceMarkerNumeric p.number refl h.number)
-      (leads-row (leaf N.CharacterReferenceMarkerHexadecimal p.hexadecimal) _ (low-leaf N.CharacterReferenceMarkerHexadecimal p.hexadecimal refl h.hexadecimal)
-      (leads-row (leaf N.CharacterReferenceValue p.value) (leaf N.CharacterReferenceMarkerSemi p.back) (marker-leaf N.CharacterReferenceValue p.value refl h.value) (marker-leaf N.CharacterReferenceMarkerSemi p.back refl h.back)))),
-  tt,
-)
+leads-reference p h = grind (arith, leads-row, marker-leaf, low-leaf)
 
 pub leads_character_reference : (table : Table) → ReadsLeads (character_reference table)
 unfolding character_reference
@@ -274,18 +247,10 @@ then-by P first a b h =
     record { at = λ cs. given-then (λ x _. P x) (λ x _. HasFirst x) a b cs (h.at cs) (λ x rest l. given-map (λ _ _. Unit {0}) (λ y _. HasFirst (x ++ y)) (b rest) (λ y left _. first x y l) (given-any (b rest))) }
 
 then-first : (a b : Reading (List Code)) → Yields Lows a → Yields HasFirst (a then_ b)
-then-first = then-by Lows first
-  where
-    first : (xs ys : List Code) → Lows xs → HasFirst (xs ++ ys)
-    first [] ys l = absurd l
-    first (x ∷ xs) ys l = ((λ e. cc), low-early x l.0)
+then-first = grind (arith, then-by, low-early)
 
 more-first : (a b : Reading (List Code)) → Yields HasFirst a → Yields HasFirst (a then_ b)
-more-first = then-by HasFirst first
-  where
-    first : (xs ys : List Code) → HasFirst xs → HasFirst (xs ++ ys)
-    first [] ys l = absurd (l.0 refl)
-    first (x ∷ xs) ys l = ((λ e. cc), l.1)
+more-first = grind (arith, then-by)
 
 scheme-first : Yields HasFirst scheme
 unfolding scheme
@@ -332,20 +297,10 @@ AreEven p [] = Unit {0}
 AreEven p (s ∷ ss) = IsEven p s × AreEven p ss
 
 both-pass : (x a b : Bool) → (not x && ((a && b) || not (a || b))) ≡ true → a ≡ true → b ≡ true
-both-pass true a b h k = cc
-both-pass false true true h k = refl
-both-pass false true false h k = cc
-both-pass false false b h k = cc
+both-pass x a b h0 h1 = grind arith
 
 even-onto : (p : Code → Bool) → IsLowTest p → (c : Code) (ss : List (List Code)) → AreEven p ss → AreEven p (onto_stretch p c ss)
-even-onto p test c [] h = ((λ e. (test c e, tt)), tt)
-even-onto p test c ([] ∷ more) h = ((λ e. (test c e, tt)), h.1)
-even-onto p test c ((d ∷ ds) ∷ more) h = by_test (joins p c d) refl
-  where
-    by_test : (b : Bool) → joins p c d ≡ b →
-        AreEven p (elim b as (λ _. List (List Code)) [ true ↦ (c ∷ d ∷ ds) ∷ more | false ↦ (c ∷ []) ∷ (d ∷ ds) ∷ more ])
-    by_test true k = ((λ e. (test c e, h.0 (both-pass (is_line_ending c || is_line_ending d) (p c) (p d) k e))), h.1)
-    by_test false k = ((λ e. (test c e, tt)), h)
+even-onto p c ss h0 h1 = grind (arith, both-pass)
 
 even-stretches : (p : Code → Bool) → IsLowTest p → (cs : List Code) → AreEven p (stretches p cs)
 even-stretches p test [] = tt
@@ -357,18 +312,7 @@ IsClosingRun r = EachEarly r.0 × Lows r.1
 closing-found : (p : Code → Bool) (n : ℕ) (ss : List (List Code)) → EachEarly ss → AreEven p ss → PassesValue IsClosingRun (closing_run p n ss)
 unfolding closing_run
 closing-found p n [] h k = tt
-closing-found p n (s ∷ ss) h k = by_test (next_is p s) (length s == n) refl (closing-found p n ss h.1 k.1)
-  where
-    by_rest : (r : Option ((List (List Code) × List Code) × List Code)) → PassesValue IsClosingRun r
-        → PassesValue IsClosingRun (elim r [ None ↦ None | Some r ↦ Some ((s ∷ r.0.0, r.0.1), r.1) ])
-    by_rest None l = tt
-    by_rest (Some r) l = ((h.0, l.0), l.1)
-
-    by_test : (a b : Bool) → next_is p s ≡ a → PassesValue IsClosingRun (closing_run p n ss)
-        → PassesValue IsClosingRun (elim (a && b) [ true ↦ Some (([], s), joined_codes ss) | false ↦ elim (closing_run p n ss) [ None ↦ None | Some r ↦ Some ((s ∷ r.0.0, r.0.1), r.1) ] ])
-    by_test true true e l = (tt, k.0 e)
-    by_test true false e l = by_rest (closing_run p n ss) l
-    by_test false b e l = by_rest (closing_run p n ss) l
+closing-found p n (s ∷ ss) h k = grind (arith, closing-found p n ss h.1 k.1)
 
 reads_closing : (p : Code → Bool) → IsLowTest p → (n : ℕ) → ReadsFrom true true IsClosingRun (closing p n)
 reads_closing p test n =
@@ -434,16 +378,7 @@ word-ends n ns l = yields-weaker Lows EndsLow lows-ends _ (word-lows n ns l)
 
 html-ends : (slashes : Bool) → Yields EndsLow (html_codes slashes)
 unfolding html_codes open_tag closing_tag comment instruction declaration cdata word through
-html-ends slashes =
-    yields_either _ _ _ (ends_then _ _ (ends_then _ _ (ends_then _ _ (ends_then _ _ (ends_then _ _ greater)))))
-    (yields_either _ _ _ (ends_then _ _ (ends_then _ _ (ends_then _ _ greater)))
-    (yields_either _ _ _ (yields_either _ _ _ (word-ends 60 (codes "!-->") (refl, (refl, (refl, (refl, (refl, tt)))))) (yields_either _ _ _ (word-ends 60 (codes "!--->") (refl, (refl, (refl, (refl, (refl, (refl, tt))))))) (ends_then _ _ (record { at = through-ends (codes "-->") (word-ends 45 (codes "->") (refl, (refl, (refl, tt)))) }))))
-    (yields_either _ _ _ (ends_then _ _ (record { at = through-ends (codes "?>") (word-ends 63 (codes ">") (refl, (refl, tt))) }))
-    (yields_either _ _ _ (ends_then _ _ (ends_then _ _ (record { at = through-ends (codes ">") greater })))
-    (ends_then _ _ (record { at = through-ends (codes "]]>") (word-ends 93 (codes "]>") (refl, (refl, (refl, tt)))) }))))))
-  where
-    greater : Yields EndsLow (word_of (codes ">"))
-    greater = word-ends 62 [] (refl, tt)
+html-ends slashes = grind (arith, yields_either, ends_then, word-ends, through-ends)
 
 reads_html : (slashes : Bool) → ReadsFrom true true Starts (html_codes slashes)
 reads_html slashes =
@@ -505,18 +440,7 @@ module _ (bytes : List ℕ) (end : ℕ) where
 
   domain-early : (cs : List Code) → Early (domain_from bytes end cs).1
   domain-early [] = tt
-  domain-early (c ∷ cs) = by_test (is_domain_code bytes end (c ∷ cs)) refl (domain-early cs)
-    where
-      by_kind : (among : Bool) → is_among (codes "._") c ≡ among →
-          (elim among as (λ _. Bool) [ true ↦ not (trails bytes end (c ∷ cs)) | false ↦ (is_value (byte "-") c || is_later_byte c) || is_other (class_of (after_index bytes c.start.index)) ]) ≡ false →
-          is_later_byte c ≡ false
-      by_kind true e h = low-early c (among-low (codes "._") refl c e)
-      by_kind false e h = not-later (is_value (byte "-") c) (is_later_byte c) (is_other (class_of (after_index bytes c.start.index))) h
-
-      by_test : (b : Bool) → is_domain_code bytes end (c ∷ cs) ≡ b → Early (domain_from bytes end cs).1 →
-          (let r : List Code × List Code = elim b [ true ↦ let s = domain_from bytes end cs in (c ∷ s.0, s.1) | false ↦ ([], c ∷ cs) ] in Early r.1)
-      by_test true e more = more
-      by_test false e more = by_kind (is_among (codes "._") c) refl e
+  domain-early (c ∷ cs) = grind (arith, domain-early cs, low-early, among-low, not-later)
 
   reads_domain : ReadsFrom false true (λ cs. cs ≢ []) (domain bytes end)
   unfolding domain

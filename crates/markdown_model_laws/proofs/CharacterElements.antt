@@ -1,5 +1,5 @@
 -- Elements, labels and pairs: each leaf begins with a character, but for data behind data.
-use Rattle.std.proofs.Common.{◌≡◌, ◌≢◌, ◌==◌, ◌&&◌, ◌||◌, not, nat_lt, ℕ, zero, suc, ◌-◌, Bool, true, false, List, [], ◌∷◌, ◌++◌, length, take, drop, map, reverse, sum_by, Option, Some, None, refl, sym, ap, subst, ◌∙◌, ◌⊎◌, inl, inr, append_assoc}
+use Rattle.std.proofs.Common.{◌≡◌, ◌≢◌, ◌==◌, ◌&&◌, ◌||◌, not, nat_lt, ℕ, zero, suc, ◌-◌, Bool, true, false, List, [], ◌∷◌, ◌++◌, take, drop, map, Option, Some, None, refl, sym, ap, subst, ◌∙◌, ◌⊎◌, inl, inr, append_assoc, arith}
 use Rattle.std.specs.Prelude.{codes, is_none}
 use Rattle.std.specs.List.{list_any, list_all}
 use Rattle.std.proofs.lemmas.Bool.{both_ways, and_parts}
@@ -7,9 +7,9 @@ use Rattle.markdown_event.specs.declared.event.Name.{Name}
 use Rattle.markdown_event.specs.declared.event.Name.TheVariants as N
 use Rattle.markdown_event.specs.declared.event.Content.{Content}
 use Rattle.markdown_content.specs.declared.label_kind.LabelKind.{LabelKind}
-use Rattle.markdown_content.specs.Codes.{Code, stop_of, document_start}
-use Rattle.markdown_content.specs.Tree.{Forest, empty, leaf_then, group_then, leaf, group, text_group, start_of, ◌⊕◌}
-use Rattle.markdown_model.specs.BracketGroups.{Bracketed, item, opens, closes, onto, nest, nested, after_loose, joined, loose, Token, pair_names, pair_group, closing_sizes, opening_sizes, cut_front, run_tokens, assembled, tokens_of, paired}
+use Rattle.markdown_content.specs.Codes.{Code}
+use Rattle.markdown_content.specs.Tree.{Forest, empty, leaf_then, group_then, leaf, ◌⊕◌}
+use Rattle.markdown_model.specs.BracketGroups.{Bracketed, item, opens, closes, onto, nest, nested, after_loose, joined, loose, Token, pair_group, cut_front, run_tokens, assembled, tokens_of, paired}
 use Rattle.markdown_model.specs.CodeTests.{is_value, is_later_byte}
 use Rattle.markdown_model.specs.Elements.{as_plain, switched, line_ending, data_code, attention_run, label_start_image, gfm_label_start_footnote, label_start_link, code_text, math_text, Tries, tries, tried, first_check, text_element, string_element, text_choice, string_choice, Choice, AreElementsFrom, code_before, elements_of, string_elements_of}
 use Rattle.markdown_model.specs.Grammar.{Reading, ◌>>=◌, ◌>>◌, gives, either, provided, one, word, word_of}
@@ -18,8 +18,8 @@ use Rattle.markdown_model.specs.LeafConstructs.{character_escape, character_refe
 use Rattle.markdown_model.specs.Laws.{is_run}
 use Rattle.markdown_model.specs.Pairs.{Pair}
 use Rattle.markdown_model.specs.Passes.{Start, End, as_bracket, start_marker, start_tree, label_group, labelled, labels_of}
-use Rattle.markdown_model.specs.Runs.{Run, marker_of, run_of, runs_of}
-use Rattle.markdown_model.specs.Setting.{Setting, within}
+use Rattle.markdown_model.specs.Runs.{Run, run_of, runs_of}
+use Rattle.markdown_model.specs.Setting.{Setting}
 use Rattle.markdown_model.proofs.GivenByReadings.{IfGiven, given-map}
 use Rattle.markdown_model.proofs.ElementCases.{either_has}
 use Rattle.markdown_model.proofs.GivenNames.{pair-named}
@@ -237,11 +237,7 @@ module _ (c : Code) (cs : List Code) (s : HasNoStrays (c ∷ cs)) where
   -- where a later byte of one is at hand
   module _ (w : is_later_byte c ≡ true) where
     other : (n : ℕ) → nat_lt n 128 ≡ true → is_value n c ≡ false
-    other n l = by_test (is_value n c) refl
-      where
-        by_test : (b : Bool) → is_value n c ≡ b → is_value n c ≡ false
-        by_test false e = e
-        by_test true e = absurd (both_ways (is_later_byte c) (low-early c (value-low n l c e)) w)
+    other n l = grind (arith, both_ways, low-early, value-low)
 
     abbrev KeysBelow : List ℕ → Bool
     KeysBelow ns = list_all (λ n. nat_lt n 128) ns
@@ -302,12 +298,7 @@ KeepsFitting choice = (earlier : List Element) (previous : Option Code) (cs : Li
 
 text-going : (set : Setting) (all : List Code) → KeepsFitting (text_choice set all)
 unfolding text_element
-text-going set all earlier previous [] s = tt
-text-going set all earlier previous (c ∷ cs) s = by_test (is_later_byte c) refl
-  where
-    by_test : (b : Bool) → is_later_byte c ≡ b → AnswerFits (c ∷ cs) (text_choice set all earlier previous (c ∷ cs))
-    by_test true e = text-later c cs s e (within all set) (stop_of document_start all).index earlier previous
-    by_test false e = text-first c cs s e (within all set) (stop_of document_start all).index earlier previous
+text-going set all h0 h1 h2 h3 = grind (arith, text-later, text-first)
 
 no-data : AnswerFits [] (data_code [])
 unfolding data_code one ◌>>=◌
@@ -324,11 +315,7 @@ string-nothing set =
 
 string-going : (set : Setting) → KeepsFitting (string_choice set)
 string-going set earlier previous [] s = string-nothing set
-string-going set earlier previous (c ∷ cs) s = by_test (is_later_byte c) refl
-  where
-    by_test : (b : Bool) → is_later_byte c ≡ b → AnswerFits (c ∷ cs) (string_element set (c ∷ cs))
-    by_test true e = string-later c cs s e set
-    by_test false e = string-first c cs s e set
+string-going set earlier previous (c ∷ cs) s = grind (arith, string-later, string-first)
 
 -- Lists of elements.
 
@@ -352,10 +339,7 @@ fit-code f e es cs rest (c, both_are) h k =
     subst (λ x. ElementsFit f (x ∷ es)) (sym both_are.0) (((lead-code f c rest cs both_are.1 h, ((λ e. cc), λ e. absurd (never (sym e)))), tt), k)
 
 fit-element : (f : Bool) (e : Element) (es : List Element) → ElementHasLeads e → ((g : Bool) → ElementsFit g es) → ElementsFit f (e ∷ es)
-fit-element f (plain t) es h k = (h f, k (out f t))
-fit-element f (starts kind marker) es h k = (h, k false)
-fit-element f (ends marker None) es h k = (h, k false)
-fit-element f (ends marker (Some outcome)) es h k = (h, k false)
+fit-element f e es g h0 = grind arith
 
 elements-fit : (choice : Choice) → KeepsFitting choice → (es earlier : List Element) (previous : Option Code) (cs : List Code) → HasNoStrays cs → AreElementsFrom choice earlier previous cs es → (f : Bool) → (f ≡ false → Early cs) →
     ElementsFit f es
@@ -406,10 +390,7 @@ module _ {O C : Type 0} (IsOpen : O → Type 0) (IsClose : C → Type 0) where
 
     onto-fits : (f : Bool) (o : O) (inside : List Forest) (cuts : List (C × List Forest)) → IsOpen o → Flagged false (joined inside) → CutsFit cuts →
         Flagged f (joined (onto wrap loose_o loose_c o inside cuts).0) × CutsFit (onto wrap loose_o loose_c o inside cuts).1
-    onto-fits f o inside [] l g h =
-        (row f (leaf N.Data (open_codes o)) (joined inside) (low-data f (open_codes o) (open-low o l)) (more _ (joined inside) g), tt)
-    onto-fits f o inside (c ∷ cuts) l g h =
-        (joined-row f (wrap o inside c.0) c.1 (wrap-fits o inside c.0 l g h.0.0 f) h.0.1, h.1)
+    onto-fits f o inside cuts h0 h1 h2 = grind (arith, row, low-data, more, joined-row)
 
     nest-fits : (f : Bool) (w : List (Bracketed O C Forest)) → WordFits f w →
         Flagged f (joined (nest wrap loose_o loose_c w).0) × CutsFit (nest wrap loose_o loose_c w).1
@@ -445,31 +426,14 @@ low-drop (suc n) [] h = tt
 low-drop (suc n) (c ∷ cs) h = low-drop n cs h.1
 
 front-low : (kind : LabelKind) (cs : List Code) → AllLow cs → AllLow (start_marker kind cs)
-front-low LabelKind.GfmUndefinedFootnote cs h = low-take 1 cs h
-front-low LabelKind.Image cs h = h
-front-low LabelKind.Link cs h = h
-front-low LabelKind.GfmFootnote cs h = h
+front-low kind cs h0 = grind (arith, low-take)
 
 start-leads : (kind : LabelKind) (cs : List Code) → AllLow cs → HasLeads (start_tree kind cs)
-start-leads LabelKind.Image cs h =
-    (leads-row (leaf N.LabelImageMarker (take 1 cs)) (leaf N.LabelMarker (drop 1 cs)) (low-leaf N.LabelImageMarker (take 1 cs) refl (low-take 1 cs h)) (low-leaf N.LabelMarker (drop 1 cs) refl (low-drop 1 cs h)), tt)
-start-leads LabelKind.GfmFootnote cs h =
-    (leads-row (leaf N.LabelMarker (take 1 cs)) (leaf N.GfmFootnoteCallMarker (drop 1 cs)) (low-leaf N.LabelMarker (take 1 cs) refl (low-take 1 cs h)) (low-leaf N.GfmFootnoteCallMarker (drop 1 cs) refl (low-drop 1 cs h)), tt)
-start-leads LabelKind.Link cs h = (low-leaf N.LabelMarker cs refl h, tt)
-start-leads LabelKind.GfmUndefinedFootnote cs h = (low-leaf N.LabelMarker cs refl h, tt)
+start-leads kind cs h0 = grind (arith, leads-row, low-leaf, low-take, low-drop)
 
 label-fits : (kind : LabelKind) (marker : List Code) (inside : Forest) (back : List Code) (tail : Forest) → AllLow marker → Flagged false inside → AllLow back → HasLeads tail →
     (f : Bool) → Flagged f (label_group kind marker inside back tail)
-label-fits kind marker inside back tail m h b k f =
-    let front : List Code = start_marker kind marker in
-    let caret : List Code = drop (length front) marker in
-    let text : Forest = text_group N.LabelText (stop_of document_start front) (start_of back) (leaf N.Data caret ⊕ inside) in
-    let close : Forest = group N.LabelEnd (leaf N.LabelMarker back) in
-    let label : Forest = start_tree kind front ⊕ text ⊕ close in
-    let inner : Flagged false (leaf N.Data caret ⊕ inside) = row false (leaf N.Data caret) inside (low-data false caret (low-drop (length front) marker m)) (more _ inside h) in
-    let first : Flagged false (start_tree kind front) = of-leads false (start_tree kind front) (start-leads kind front (front-low kind marker m)) in
-    let both : Flagged (out false (start_tree kind front)) (text ⊕ close) = (inner, of-leads false close (low-leaf N.LabelMarker back refl b, tt)) in
-    ((row false (start_tree kind front) (text ⊕ close) first both, of-leads false tail k), tt)
+label-fits kind marker inside back tail m h b k f = grind (arith, row, low-data, low-drop, more, of-leads, start-leads, front-low, both, low-leaf)
 
 abbrev HasLowStart : Start → Type 0
 HasLowStart o = Lows o.1
@@ -513,12 +477,7 @@ string-labels-fit set cs s w =
 
 pair-fits : (front : List Code) (inside : List Forest) (back : List Code) → AllLow front → Flagged false (joined inside) → AllLow back → (f : Bool) →
     Flagged f (joined (pair_group front inside back))
-pair-fits front inside back k h b f =
-    let names : Name × Name × Name = pair_names (marker_of front) (length front) in
-    let quiet : is_run names.1 ≡ false = pair-named (λ ns. is_run ns.1 ≡ false) refl refl refl (marker_of front) (length front) in
-    let text : Forest = text_group names.2 (stop_of document_start front) (start_of back) (joined inside) in
-    let behind : Flagged (out false (leaf names.1 front)) (text ⊕ leaf names.1 back) = (h, of-leads false (leaf names.1 back) (low-leaf names.1 back quiet b)) in
-    (row false (leaf names.1 front) (text ⊕ leaf names.1 back) (of-leads false (leaf names.1 front) (low-leaf names.1 front quiet k)) behind, tt)
+pair-fits front inside back k h b f = grind (arith, pair-named, of-leads, low-leaf, row)
 
 abbrev TokensFit : Bool → List Token → Type 0
 TokensFit f w = WordFits AllLow AllLow f w
@@ -549,16 +508,7 @@ opens-fit [] w l h = h
 opens-fit (c ∷ cs) w l h = λ g. (l.0, opens-fit cs w l.1 h false)
 
 run-fits : (ps : List Pair) (n : ℕ) (r : Run) (w : List Token) → AllLow r.codes → Anywhere w → Anywhere (run_tokens ps n r ++ w)
-run-fits ps n r w l h =
-    let front : List (List Code) × List Code = cut_front (closing_sizes n ps) r.codes in
-    let sizes : List ℕ = reverse (opening_sizes n ps) in
-    let kept : ℕ = length front.1 - sum_by (λ k. k) sizes in
-    let back : List (List Code) × List Code = cut_front sizes (drop kept front.1) in
-    let f = cut-low (closing_sizes n ps) r.codes l in
-    let b = cut-low sizes (drop kept front.1) (low-drop kept front.1 f.1) in
-    let rest_data : Forest = leaf N.Data (take kept front.1) in
-    let middle : Anywhere ((item rest_data ∷ map opens back.0) ++ w) = λ g. (low-data g (take kept front.1) (low-take kept front.1 f.1), opens-fit back.0 w b.0 h (out g rest_data)) in
-    subst Anywhere (sym (append_assoc (map closes front.0) (item rest_data ∷ map opens back.0) w)) (closes-fit front.0 ((item rest_data ∷ map opens back.0) ++ w) f.0 middle)
+run-fits ps n r w l h = grind (arith, cut-low, low-drop, low-data, low-take, opens-fit, append_assoc, closes-fit)
 
 module _ (s : Setting) (pairs_of : List Run → List Pair) where
   tokens-fit : (t : Forest) (ps : List Pair) (n : ℕ) (f : Bool) → Flagged f t → TokensFit f (tokens_of s pairs_of t ps n)

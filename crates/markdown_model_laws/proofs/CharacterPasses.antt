@@ -1,5 +1,5 @@
 -- The passes: each leaf of the inline tree begins with a character.
-use Rattle.std.proofs.Common.{◌≡◌, ◌≢◌, ◌&&◌, ◌||◌, not, ℕ, zero, suc, Bool, true, false, List, [], ◌∷◌, ◌++◌, length, reverse, Option, Some, None, refl, sym, ap, subst, ◌∙◌, append-nil}
+use Rattle.std.proofs.Common.{◌≡◌, ◌≢◌, ◌&&◌, ◌||◌, not, ℕ, zero, suc, Bool, true, false, List, [], ◌∷◌, ◌++◌, length, reverse, Option, Some, None, refl, sym, ap, subst, ◌∙◌, append-nil, arith}
 use Rattle.std.specs.Prelude.{codes}
 use Rattle.std.specs.Str.{byte}
 use Rattle.std.proofs.lemmas.List.{reverse-append}
@@ -19,7 +19,7 @@ use Rattle.markdown_model.specs.Setting.{Setting, rules, within}
 use Rattle.markdown_model.proofs.DefinitionSteps.{span-all}
 use Rattle.markdown_model.proofs.LabelsCover.{codes-labels_of}
 use Rattle.markdown_model.proofs.LeafCodes.{codes-leaf}
-use Rattle.markdown_model.proofs.LiteralCodes.{found, HasCodesAround, reverse-first}
+use Rattle.markdown_model.proofs.LiteralCodes.{found, reverse-first}
 use Rattle.markdown_model.proofs.OneTree.{codes-finished_text, codes-finished_string, leaves_cover}
 use Rattle.markdown_model.proofs.PassedTrees.{HoldsByParts, walks-row, walks-trimmed, walks-mailed}
 use Rattle.markdown_model.proofs.PassesKeepCodes.{codes-merged, codes-paired, codes-trimmed_data}
@@ -53,10 +53,7 @@ early-more [] ds h e = absurd (h refl)
 early-more (c ∷ cs) ds h e = e
 
 onto-led : (f : Bool) (cs : List Code) (t : Forest) → cs ≢ [] → Lead (f && true) cs → LedOpen t → LedAfter f (data_onto cs t)
-onto-led true cs (leaf_then N.Data None ds rest) n l h = (some-more cs ds n, h.1)
-onto-led true cs t n l h = (n, h)
-onto-led false cs (leaf_then N.Data None ds rest) n l h = ((early-more cs ds n l, some-more cs ds n), h.1)
-onto-led false cs t n l h = ((l, n), h)
+onto-led f cs t h0 h1 h2 = grind (arith, some-more, early-more)
 
 merged-led : (f : Bool) (t : Forest) → Flagged f t → LedAfter f (merged t)
 unfolding merged
@@ -86,13 +83,7 @@ led-whole (group_then name a b inside rest) h s =
     (led-whole inside h.0 (sound-front (leaf_codes inside) (leaf_codes rest) s), led-whole rest h.1 (sound-back (leaf_codes inside) (leaf_codes rest) s))
 
 whole : HoldsByParts AreWhole (λ name link cs. IsWhole cs) (λ name a b inside. Unit {0})
-whole = record {
-  none = tt;
-  leaf_of = λ name link cs rest h. h;
-  leaf_to = λ name link cs rest h k. (h, k);
-  group_of = λ name a b inside rest h. (tt, h.0, h.1);
-  group_to = λ name a b inside rest g h k. (h, k);
-}
+whole = grind arith
 
 whole-row : (t u : Forest) → AreWhole t → AreWhole u → AreWhole (t ⊕ u)
 whole-row t u h k = walks-row whole t u h k
@@ -234,15 +225,7 @@ emails-whole : (n : ℕ) (before cs : List Code) → Starts (reverse before ++ c
 unfolding email_leaves
 emails-whole n before [] h = whole-leaf N.Data (reverse before) (subst Starts (append-nil (reverse before)) h)
 emails-whole zero before (c ∷ cs) h = whole-leaf N.Data (reverse before ++ c ∷ cs) h
-emails-whole (suc n) before (c ∷ cs) h = by_answer (email_at before c cs) (found before c cs) (email-low before c cs) (emails-whole n)
-  where
-    by_answer : (r : Option (List Code × Forest × List Code)) → HasCodesAround before c cs r → HasLowLeaf r
-        → ((front ds : List Code) → Starts (reverse front ++ ds) → AreWhole (email_leaves n front ds))
-        → AreWhole (elim r as (λ _. Forest) [ None ↦ email_leaves n (c ∷ before) cs | Some x ↦ leaf N.Data x.0 ⊕ x.1 ⊕ email_leaves n [] x.2 ])
-    by_answer None k l more = more (c ∷ before) cs (subst Starts (sym (reverse-first c before cs)) h)
-    by_answer (Some x) k l more =
-        let parts = found-whole x (reverse before ++ c ∷ cs) l k h in
-        whole-row (leaf N.Data x.0) (x.1 ⊕ email_leaves n [] x.2) (whole-leaf N.Data x.0 parts.0) (whole-row x.1 (email_leaves n [] x.2) parts.1.0 (more [] x.2 parts.1.1))
+emails-whole (suc n) before (c ∷ cs) h = grind (arith, found, email-low, emails-whole n, reverse-first, found-whole, whole-row, whole-leaf)
 
 mailed-whole : (t : Forest) → AreWhole t → AreWhole (with_emails_apart t)
 unfolding with_emails

@@ -1,5 +1,5 @@
 -- Codes of texts: which begin a character, and readings that stop between two.
-use Rattle.std.proofs.Common.{◌≡◌, ◌==◌, ◌||◌, nat_lt, ℕ, Bool, true, false, List, [], ◌∷◌, ◌++◌, Option, refl, sym, ap, subst, ◌∙◌, arith}
+use Rattle.std.proofs.Common.{◌≡◌, ◌==◌, ◌||◌, nat_lt, ℕ, Bool, true, false, List, [], ◌∷◌, ◌++◌, Option, refl, ap, ◌∙◌, arith}
 use Rattle.std.specs.List.{list_all, list_any}
 use Rattle.std.proofs.lemmas.Bool.{and_parts, eqb-true}
 use Rattle.std.proofs.lemmas.Bool.Decides.{nat_tests}
@@ -9,7 +9,7 @@ use Rattle.markdown_model.specs.Grammar.{Reading, ◌>>=◌, ◌>>◌, gives, ei
 use Rattle.markdown_model.proofs.DefinitionSteps.{span-all}
 use Rattle.markdown_model.proofs.GivenByReadings.{IfGiven, given-map, given-both, given-bind, given-gives, given-passed, given-either, given-before, given-next, given-unless, given-one, given-some}
 use Rattle.markdown_model.proofs.NoLinkInConstructs.{Yields, yields_any}
-use Rattle.markdown_model.proofs.ReadingsCover.{Splits, Takes, itself, takes_one, takes_some, takes_any_number}
+use Rattle.markdown_model.proofs.ReadingsCover.{Takes, takes_one, takes_some, takes_any_number}
 
 -- Codes.
 
@@ -193,13 +193,7 @@ module _ (a : Reading (List Code)) (takes : Takes a) where
   -- what is known of the codes at hand as those that are given and those behind them
   by_parts : (from to : Bool) (P Q : List Code → Type 0) → Yields P a → ((xs ys : List Code) → HasNoStrays (xs ++ ys) → Where from (xs ++ ys) → P xs → Q xs × Where to ys)
       → ReadsFrom from to Q a
-  by_parts from to P Q y split =
-      record {
-        at = λ cs s w. given-both (Splits itself cs) (λ x _. P x) (ToSound to Q) (a cs) (λ x rest k l.
-            let sound : HasNoStrays (x ++ rest) = subst HasNoStrays (sym k) s in
-            let found : Q x × Where to rest = split x rest sound (subst (Where from) (sym k) w) l in
-            (found.0, (sound-back x rest sound, found.1))) (takes.at cs) (y.at cs);
-      }
+  by_parts from to P Q y split = grind (arith, given-both, sound-back)
 
   pub reads_lows : Yields Lows a → ReadsFrom false true Lows a
   reads_lows y = by_parts false true Lows Lows y (λ xs ys s w l. (l, lows-behind xs ys l s))

@@ -1,5 +1,5 @@
 -- No blank code stands in data beside a line ending, nor first or last in a text.
-use Rattle.std.proofs.Common.{◌≡◌, ℕ, zero, suc, Bool, true, false, ◌&&◌, ◌||◌, not, List, [], ◌∷◌, ◌++◌, length, reverse, refl, sym, ap, subst, ◌∙◌, append_assoc, append-nil, Option, Some, None}
+use Rattle.std.proofs.Common.{◌≡◌, ℕ, zero, suc, Bool, true, false, ◌&&◌, ◌||◌, not, List, [], ◌∷◌, ◌++◌, length, reverse, refl, sym, ap, subst, ◌∙◌, append_assoc, append-nil, Option, Some, None, arith}
 use Rattle.std.proofs.Math.Bool.{and-false}
 use Rattle.std.proofs.lemmas.Bool.{both_ways}
 use Rattle.markdown_event.proofs.AndParts.{and-left, and-right}
@@ -66,8 +66,7 @@ blank-other = blank-named (λ name. is_other name ≡ true) refl refl
 
 email-other : (name : Name) → is_email name ≡ true → is_other name ≡ true
 email-other Name.Data h = cc
-email-other Name.LineEnding h = cc
-email-other name h = refl
+email-other name h = cc
 
 -- One data.
 
@@ -91,11 +90,7 @@ never b h k = absurd (both_ways b h k)
 -- data, and blank codes behind it or none
 tight-back : (tight : Bool) (front whole : Bool) (ys zs : List Code) (name : Name) (f : Forest) → is_other name ≡ true → NotBlankFirst front ys → NotBlankLast (goes_last tight whole f) ys
     → IsTight tight front whole f → IsTight tight false whole f → IsTight tight front whole ((leaf Name.Data ys ⊕ leaf name zs) ⊕ f)
-tight-back tight front whole [] [] name f o first last h k = h
-tight-back tight front whole [] (z ∷ zs) name f o first last h k = tight-other tight front whole name (z ∷ zs) f o k
-tight-back tight front whole (y ∷ ys) [] name f o first last h k = (refl, first, last, k)
-tight-back tight front whole (y ∷ ys) (z ∷ zs) name f o first last h k =
-    (refl, first, never (tight && (begins_line_ending (leaf_then name None (z ∷ zs) f) || (whole && false))) ((λ i. tight && (not-ending name (z ∷ zs) f o i || and-false whole i)) ∙ and-false tight), tight-other tight false whole name (z ∷ zs) f o k)
+tight-back tight front whole ys zs name f h0 h1 h2 h3 h4 = grind (arith, tight-other, never, not-ending, and-false)
 
 -- blank codes before it or none
 tight-three : (tight : Bool) (front whole : Bool) (xs ys zs : List Code) (name : Name) (f : Forest) → is_other name ≡ true → NotBlankFirst front ys → NotBlankLast (goes_last tight whole f) ys
@@ -109,11 +104,7 @@ tight-three tight front whole (x ∷ xs) ys zs name f o first last h k =
 trimmed-next : (hard : HardBreaks) (front whole : Bool) (f : Forest) → begins_data f ≡ false →
     ends_before whole (trimmed hard front whole f) ≡ ends_before whole f
 unfolding trimmed
-trimmed-next hard front whole empty h = refl
-trimmed-next hard front whole (leaf_then Name.Data None cs rest) h = cc
-trimmed-next hard front whole (leaf_then Name.LineEnding link cs rest) h = refl
-trimmed-next hard front whole (leaf_then name link cs rest) h = refl
-trimmed-next hard front whole (group_then name enter exit inside rest) h = refl
+trimmed-next hard front whole f h0 = grind arith
 
 abbrev back_cut : Bool → List Code → List Code × List Code
 back_cut back cs = elim back [ true ↦ span is_blank (reverse cs) | false ↦ ([], reverse cs) ]
@@ -138,37 +129,16 @@ back-last false cs h = cc
 
 tight-data : (front whole back : Bool) (hard : HardBreaks) (cs : List Code) (f : Forest) → ends_before whole f ≡ back →
     IsTight (not hard.keeps) front whole f → IsTight (not hard.keeps) false whole f → IsTight (not hard.keeps) front whole (trimmed_data front back hard cs ⊕ f)
-tight-data front whole back hard cs f e h k =
-    tight-three tight front whole (front_cut front kept).0 (front_cut front kept).1 (reverse (back_cut goes cs).0) (blank_name hard (reverse (back_cut goes cs).0)) f (blank-other hard (reverse (back_cut goes cs).0))
-    (front-first front kept) (λ l. front-last front kept (back-last goes cs (λ i. (sym e ∙ and-right tight (ends_before whole f) l) i && and-left tight (ends_before whole f) l i))) h k
-  where
-    tight : Bool
-    tight = not hard.keeps
-
-    goes : Bool
-    goes = back && not hard.keeps
-
-    kept : List Code
-    kept = reverse (back_cut goes cs).1
+tight-data front whole back hard cs f e h k = grind (arith, tight-three, blank-other, front-first, front-last, back-last, and-right, and-left)
 
 -- what does not begin with data is tight whatever stands before
 tight-any : (tight : Bool) (front whole : Bool) (f : Forest) → begins_data f ≡ false → IsTight tight false whole f → IsTight tight front whole f
-tight-any tight front whole empty h k = k
-tight-any tight front whole (leaf_then Name.Data None cs rest) h k = cc
-tight-any tight front whole (leaf_then Name.LineEnding link cs rest) h k = k
-tight-any tight front whole (leaf_then Name.Data (Some link) cs rest) h k = k
-tight-any tight front whole (leaf_then name link cs rest) h k = k
-tight-any tight front whole (group_then name enter exit inside rest) h k = k
+tight-any tight front whole f h0 h1 = grind arith
 
 trimmed-no-data : (hard : HardBreaks) (front whole : Bool) (f : Forest) → begins_data f ≡ false →
     begins_data (trimmed hard front whole f) ≡ false
 unfolding trimmed
-trimmed-no-data hard front whole empty h = refl
-trimmed-no-data hard front whole (leaf_then Name.Data None cs rest) h = cc
-trimmed-no-data hard front whole (leaf_then Name.LineEnding link cs rest) h = refl
-trimmed-no-data hard front whole (leaf_then Name.Data (Some link) cs rest) h = refl
-trimmed-no-data hard front whole (leaf_then name link cs rest) h = refl
-trimmed-no-data hard front whole (group_then name enter exit inside rest) h = refl
+trimmed-no-data hard front whole f h0 = grind arith
 
 tight-trimmed : (hard : HardBreaks) (front whole : Bool) (f : Forest) → IsDataApart f →
     IsTight (not hard.keeps) front whole (trimmed hard front whole f)
@@ -206,16 +176,7 @@ module _ (tight whole : Bool) (f : Forest) (k : IsTight tight false whole f) whe
 
   email-tight : (front : Bool) (xs : List Code) (e more : Forest) → IsEmailLeaf e → NotBlankFirst front xs →
       IsTight tight false whole (more ⊕ f) → IsTight tight front whole ((leaf Name.Data xs ⊕ e ⊕ more) ⊕ f)
-  email-tight front xs e more h first l = subst (λ t. IsTight tight front whole ((leaf Name.Data xs ⊕ t ⊕ more) ⊕ f)) (sym h.is) (by_codes xs first)
-    where
-      o : is_other h.name ≡ true
-      o = email-other h.name h.named
-
-      by_codes : (ys : List Code) → NotBlankFirst front ys →
-          IsTight tight front whole ((leaf Name.Data ys ⊕ leaf_then h.name None (h.first ∷ h.more) empty ⊕ more) ⊕ f)
-      by_codes [] g = tight-other tight front whole h.name (h.first ∷ h.more) (more ⊕ f) o l
-      by_codes (y ∷ ys) g =
-          (refl, g, never (tight && (begins_line_ending (leaf_then h.name None (h.first ∷ h.more) (more ⊕ f)) || (whole && false))) ((λ i. tight && (not-ending h.name (h.first ∷ h.more) (more ⊕ f) o i || and-false whole i)) ∙ and-false tight), tight-other tight false whole h.name (h.first ∷ h.more) (more ⊕ f) o l)
+  email-tight front xs e more h first l = grind (arith, email-other, tight-other, never, not-ending, and-false)
 
   first-part : (front : Bool) (xs ds cs : List Code) → xs ++ ds ≡ cs → NotBlankFirst front cs → NotBlankFirst front xs
   first-part front [] ds cs e g h = refl
@@ -262,30 +223,13 @@ pub emails-begin : (n : ℕ) (before cs : List Code) (f : Forest) → is_empty (
 unfolding email_leaves
 emails-begin n before [] f h = data-begins (reverse before) f (ap is_empty (sym (append-nil (reverse before))) ∙ h)
 emails-begin zero before (c ∷ cs) f h = data-begins (reverse before ++ c ∷ cs) f h
-emails-begin (suc n) before (c ∷ cs) f h = by_answer (email_at before c cs) (answer-email before c cs) (emails-begin n (c ∷ before) cs f)
-  where
-    email-begins : (xs : List Code) (e more : Forest) → IsEmailLeaf e → BeginsLeaf ((leaf Name.Data xs ⊕ e ⊕ more) ⊕ f)
-    email-begins [] e more l =
-        subst (λ t. BeginsLeaf ((t ⊕ more) ⊕ f)) (sym l.is) (not-ending l.name (l.first ∷ l.more) (more ⊕ f) (email-other l.name l.named), refl)
-    email-begins (x ∷ xs) e more l = (refl, refl)
-
-    by_answer : (r : Option (List Code × Forest × List Code)) → AnswerIsEmail r → (is_empty (reverse (c ∷ before) ++ cs) ≡ false → BeginsLeaf (email_leaves n (c ∷ before) cs ⊕ f))
-        → BeginsLeaf ((elim r as (λ _. Forest) [ None ↦ email_leaves n (c ∷ before) cs | Some x ↦ leaf Name.Data x.0 ⊕ x.1 ⊕ email_leaves n [] x.2 ]) ⊕ f)
-    by_answer None k more = more (ap is_empty (reverse-first c before cs) ∙ h)
-    by_answer (Some x) k more = email-begins x.0 x.1 (email_leaves n [] x.2) k
+emails-begin (suc n) before (c ∷ cs) f h = grind (arith, answer-email, emails-begin n (c ∷ before) cs f, not-ending, email-other, reverse-first)
 
 -- a tight row ends before as it did when its emails are found
 email-next : (tight : Bool) (whole : Bool) (f : Forest) → IsTight tight false whole f →
     ends_before whole (with_emails_apart f) ≡ ends_before whole f
 unfolding with_emails_apart with_emails
-email-next tight whole empty h = refl
-email-next tight whole (leaf_then Name.Data None cs rest) h =
-    let b = emails-begin (length cs) [] cs (with_emails_apart rest) h.0 in λ i. b.0 i || (whole && b.1 i)
-email-next tight whole (leaf_then Name.LineEnding link cs rest) h = refl
-email-next tight whole (leaf_then Name.Data (Some link) cs rest) h = refl
-email-next tight whole (leaf_then name link cs rest) h = refl
-email-next tight whole (group_then Name.Link enter exit inside rest) h = refl
-email-next tight whole (group_then name enter exit inside rest) h = refl
+email-next tight whole f h0 = grind (arith, emails-begin)
 
 tight-mailed : (tight : Bool) (front whole : Bool) (f : Forest) → IsTight tight front whole f → IsTight tight front whole (with_emails_apart f)
 unfolding with_emails_apart with_emails

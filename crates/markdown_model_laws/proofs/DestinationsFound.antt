@@ -1,5 +1,5 @@
 -- Destinations: where their reading holds.
-use Rattle.std.proofs.Common.{◌≡◌, inl, inr, ℕ, not, Bool, true, false, Some, List, [], ◌∷◌, ◌++◌, refl, sym, ap, subst, ◌∙◌, arith}
+use Rattle.std.proofs.Common.{◌≡◌, ℕ, not, Bool, true, false, Some, List, [], ◌∷◌, ◌++◌, refl, sym, ap, subst, ◌∙◌, arith}
 use Rattle.markdown_partial.proofs.PartialDestinationReadings.{if-here, if-other}
 use Rattle.std.proofs.lemmas.Bool.{not-true}
 use Rattle.markdown_content.specs.Codes.{Code}
@@ -10,11 +10,11 @@ use Rattle.markdown_model.specs.Resource.{DestinationNames, destination, literal
 use Rattle.markdown_model.proofs.ReadingsCover.{covers_destination, takes_raw, itself}
 use Rattle.markdown_model.proofs.DefinitionSteps.{read-codes}
 use Rattle.markdown_model.proofs.GrammarSteps.{bind-some, after-some, provided-true}
-use Rattle.markdown_model_laws.specs.LinkParts.{opening, closing, IsEnclosed, IsRaw, Raw, enclosed_tree, raw_tree_of, IsDestination, DestinationsAreFound}
+use Rattle.markdown_model_laws.specs.LinkParts.{opening, closing, IsRaw, Raw, raw_tree_of, IsDestination, DestinationsAreFound}
 use Rattle.markdown_model_laws.proofs.EscapedTexts.{escapes-after}
 use Rattle.markdown_model_laws.proofs.ReadingsInverted.{Went, bind-back, provided-back, gives-back}
 use Rattle.markdown_model_laws.proofs.LinkTextsFound.{enclosed-back, enclosed-found, marked-found}
-use Rattle.markdown_model_laws.proofs.RawDestinationsFound.{bare_from, bare-from, EndsRawDestination, RawFrom, raw-reads, raw-found}
+use Rattle.markdown_model_laws.proofs.RawDestinationsFound.{bare_from, bare-from, RawFrom, raw-reads, raw-found}
 
 opening-from : (text : List Code) → opening text ≡ bare_from 40 false text
 opening-from text = bare-from 40 false [] text refl
@@ -24,22 +24,10 @@ closing-from text = bare-from 41 false [] text refl
 
 to-raw : (max : ℕ) (text rest : List Code) → is_empty text ≡ false → next_is (is_value 60) text ≡ false →
     RawFrom max false 0 text rest → IsRaw max text rest
-to-raw max text rest some first r = record {
-  some = some;
-  first = first;
-  plain = r.plain;
-  nested = λ before after e. (omega (arith, opening-from before, closing-from before, (r.nested before after e).0), omega (arith, opening-from before, closing-from before, (r.nested before after e).1));
-  balanced = omega (arith, opening-from text, closing-from text, r.balanced);
-  ends = subst (λ s. EndsRawDestination s rest) (sym (escapes-after text)) r.ends;
-}
+to-raw max text rest some first r = grind (arith, opening-from, closing-from, escapes-after)
 
 of-raw : (max : ℕ) (text rest : List Code) → IsRaw max text rest → RawFrom max false 0 text rest
-of-raw max text rest i = record {
-  plain = i.plain;
-  nested = λ before after e. (omega (arith, opening-from before, closing-from before, (i.nested before after e).0), omega (arith, opening-from before, closing-from before, (i.nested before after e).1));
-  balanced = omega (arith, opening-from text, closing-from text, i.balanced);
-  ends = subst (λ s. EndsRawDestination s rest) (escapes-after text) i.ends;
-}
+of-raw max text rest i = grind (arith, opening-from, closing-from, escapes-after)
 
 -- the next code of a text is that of the codes from it on
 next-first : (p : Code → Bool) (text rest : List Code) → is_empty text ≡ false →
@@ -84,19 +72,11 @@ module _ (max : ℕ) (names : DestinationNames) where
 
   pub destination-back : (cs : List Code) (tree : Forest) (rest : List Code) →
       destination max names cs ≡ Some (tree, rest) → IsDestination max names cs tree rest
-  destination-back cs tree rest e = by_next (next_is (is_value 60) cs) refl
-    where
-      by_next : (b : Bool) → next_is (is_value 60) cs ≡ b → IsDestination max names cs tree rest
-      by_next true h = inl (enclosed-back names cs tree rest (sym (at-bracket cs h) ∙ e))
-      by_next false h = inr (raw-back cs tree rest h (sym (at-other cs h) ∙ e))
+  destination-back cs tree rest e = grind (arith, enclosed-back, at-bracket, raw-back, at-other)
 
   pub destination-found : (cs : List Code) (tree : Forest) (rest : List Code) → IsDestination max names cs tree rest →
       destination max names cs ≡ Some (tree, rest)
-  destination-found cs tree rest (inl m) =
-      at-bracket cs (ap (next_is (is_value 60)) m.stands ∙ m.is.opens) ∙ marked-found (literal_destination names) IsEnclosed (enclosed_tree names) (enclosed-found names) cs tree rest m
-  destination-found cs tree rest (inr r) =
-      at-other cs (ap (next_is (is_value 60)) r.stands ∙ next-first (is_value 60) r.text rest r.is.some ∙ r.is.first)
-      ∙ ap (raw_destination max names) r.stands ∙ raw-some r.text rest r.is ∙ ap (λ t. Some (t, rest)) (sym r.tree_is)
+  destination-found cs tree rest h0 = grind (arith, at-bracket, marked-found, enclosed-found, at-other, next-first, raw-some)
 
 pub destinations_are_found : DestinationsAreFound
 destinations_are_found max names = record {

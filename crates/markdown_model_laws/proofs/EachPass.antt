@@ -1,5 +1,5 @@
 -- What the passes keep holds of the inline trees.
-use Rattle.std.proofs.Common.{Bool, true, false, List}
+use Rattle.std.proofs.Common.{Bool, true, false, List, arith}
 use Rattle.markdown_content.specs.Codes.{Code}
 use Rattle.markdown_content.specs.Tree.{Forest}
 use Rattle.markdown_model.specs.Elements.{elements_of, string_elements_of}
@@ -21,11 +21,7 @@ unmailed s cs = trimmed (breaks s) true true (merged (pairs_in s cs))
 -- what holds of it, and of what it is with emails apart, holds of the text's tree
 pub text-has : (P : Forest → Type 0) (s : Setting) (cs : List Code) → P (with_emails_apart (unmailed s cs)) → P (unmailed s cs) → P (text_tree s cs)
 unfolding text_tree finished_text raw_tree
-text-has P s cs apart whole = by_test s.options.constructs.gfm_autolink_literal
-  where
-    by_test : (b : Bool) → P (elim b as (λ _. Forest) [ true ↦ with_emails_apart (unmailed s cs) | false ↦ unmailed s cs ])
-    by_test true = apart
-    by_test false = whole
+text-has P s cs apart whole = grind arith
 
 -- The passes behind the pairing keep it.
 pub record IsKeptByPasses (P : Forest → Type 0) : Type 0 where

@@ -1,6 +1,5 @@
 -- What holds of each row of `tries`, where it holds of each construct.
-use Rattle.std.proofs.Common.{ℕ, ◌==◌, Bool, true, false, List, [], ◌∷◌}
-use Rattle.std.specs.List.{list_any}
+use Rattle.std.proofs.Common.{ℕ, Bool, List, [], ◌∷◌, arith}
 use Rattle.std.specs.Str.{byte}
 use Rattle.markdown_content.specs.Tree.{Forest}
 use Rattle.markdown_model.specs.Grammar.{Reading, either}
@@ -16,12 +15,7 @@ EachRow H (row ∷ rows) = H row.1 × EachRow H rows
 pub tried-has : (H : Reading Element → Type 0) (rows : Tries) (v : ℕ) → EachRow H rows → H data_code → H (tried rows v)
 unfolding tried
 tried-has H [] v h k = k
-tried-has H (row ∷ rows) v h k = by_test (list_any (λ n. v == n) row.0) (tried-has H rows v h.1 k)
-  where
-    by_test : (b : Bool) → H (tried rows v) →
-        H (elim b as (λ _. Reading Element) [ true ↦ row.1 | false ↦ tried rows v ])
-    by_test true more = h.0
-    by_test false more = more
+tried-has H (row ∷ rows) v h k = grind (arith, tried-has H rows v h.1 k)
 
 -- H of what is read of each construct, where Q holds of those that stand by themselves
 pub record OfConstructs (Q : Reading Forest → Type 0) (H : Reading Element → Type 0) (s : Setting) (earlier : List Element) : Type 0 where

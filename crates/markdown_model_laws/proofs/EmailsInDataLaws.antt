@@ -1,5 +1,5 @@
 -- Email literals stand in data.
-use Rattle.std.proofs.Common.{◌≡◌, ℕ, zero, suc, true, false, List, [], ◌∷◌, ◌++◌, length, reverse, if◌then◌else◌, refl, sym, ap, ◌∙◌, append-nil, Option, Some, None}
+use Rattle.std.proofs.Common.{◌≡◌, ℕ, zero, suc, true, false, List, [], ◌∷◌, ◌++◌, length, reverse, if◌then◌else◌, refl, sym, ap, ◌∙◌, append-nil, Option, Some, None, arith}
 use Rattle.markdown_event.specs.declared.event.Name.{Name}
 use Rattle.markdown_content.specs.Codes.{Code}
 use Rattle.markdown_content.specs.Tree.{Forest, empty, leaf_then, group_then, leaf, ◌⊕◌, leaf_codes}
@@ -27,11 +27,7 @@ data-first (c ∷ cs) f = refl
 
 email-first : (e f : Forest) → IsEmailLeaf e → merged (as_data (e ⊕ f)) ≡ onto (leaf_codes e) (merged (as_data f))
 unfolding merged
-email-first e f h =
-    ap (λ t. merged (as_data (t ⊕ f))) h.is
-    ∙ ap (λ b. merged (leaf_then (if b then Name.Data else h.name) None (h.first ∷ h.more) (as_data f))) h.named
-    ∙ ap (λ cs. data_onto (h.first ∷ cs) (merged (as_data f))) (sym (append-nil h.more))
-    ∙ ap (λ t. onto (leaf_codes t) (merged (as_data f))) (sym h.is)
+email-first e f h = grind (arith, append-nil)
 
 emails-data : (n : ℕ) (before cs : List Code) (f : Forest) →
     merged (as_data (email_leaves n before cs ⊕ f)) ≡ onto (reverse before ++ cs) (merged (as_data f))

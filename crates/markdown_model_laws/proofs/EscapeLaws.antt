@@ -1,5 +1,5 @@
 -- A text that is escaped, read as a string, is given back.
-use Rattle.std.proofs.Common.{◌≡◌, ℕ, Bool, true, false, ◌&&◌, ◌||◌, List, [], ◌∷◌, ◌++◌, length, reverse, if◌then◌else◌, refl, sym, ap, subst, ◌∙◌, zero-add, Option, Some, None, append_assoc, append-nil}
+use Rattle.std.proofs.Common.{◌≡◌, ℕ, Bool, true, false, ◌&&◌, ◌||◌, List, [], ◌∷◌, ◌++◌, length, if◌then◌else◌, refl, sym, ap, subst, ◌∙◌, zero-add, Option, Some, None, append_assoc, append-nil, arith}
 use Rattle.markdown_model_laws.proofs.TreesFilledLaws.{more-codes}
 use Rattle.std.proofs.lemmas.List.{reverse-reverse}
 use Rattle.markdown_event.specs.declared.event.Name.{Name}
@@ -145,19 +145,11 @@ kept-merged (group_then name enter exit inside rest) = λ i. kept-merged inside 
 -- Trimming does nothing.
 
 fine-next : (f : Forest) → HasNoEndings f → begins_line_ending f ≡ false
-fine-next empty h = refl
-fine-next (leaf_then Name.LineEnding link cs rest) h = cc
-fine-next (leaf_then name link cs rest) h = refl
-fine-next (group_then name enter exit inside rest) h = refl
+fine-next f h0 = grind arith
 
 whole-data : (rules : Rules) (cs : List Code) (f : Forest) → is_empty cs ≡ false →
     trimmed_data false false (no_breaks rules) cs ⊕ f ≡ leaf_then Name.Data None cs f
-whole-data rules [] f h = cc
-whole-data rules (c ∷ cs) f h = shown (reverse (reverse (c ∷ cs))) (reverse-reverse (c ∷ cs))
-  where
-    shown : (ds : List Code) → ds ≡ c ∷ cs →
-        (leaf Name.SpaceOrTab [] ⊕ leaf Name.Data ds ⊕ leaf Name.SpaceOrTab []) ⊕ f ≡ leaf_then Name.Data None (c ∷ cs) f
-    shown ds e = ap (λ xs. (leaf Name.SpaceOrTab [] ⊕ leaf Name.Data xs ⊕ leaf Name.SpaceOrTab []) ⊕ f) e
+whole-data rules cs f h0 = grind (arith, reverse-reverse)
 
 untrimmed : (rules : Rules) (f : Forest) → HasNoEndings f → trimmed (no_breaks rules) false false f ≡ f
 unfolding trimmed

@@ -1,5 +1,5 @@
 -- The codes of a text that is escaped: codes that mean themselves, and escapes.
-use Rattle.std.proofs.Common.{◌≡◌, ℕ, zero, suc, ◌+◌, ◌-◌, nat_lt, ◌==◌, Bool, true, false, ◌&&◌, ◌||◌, not, List, [], ◌∷◌, ◌++◌, length, take, drop, map, if◌then◌else◌, refl, sym, ap, subst, ◌∙◌, arith, inl, inr, append-nil}
+use Rattle.std.proofs.Common.{◌≡◌, ℕ, zero, suc, ◌+◌, ◌-◌, ◌==◌, Bool, true, false, not, List, [], ◌∷◌, ◌++◌, length, drop, map, if◌then◌else◌, refl, sym, ap, subst, ◌∙◌, arith, inl, inr, append-nil}
 use Rattle.std.specs.Prelude.{slice_range}
 use Rattle.markdown_engine.proofs.SolidTrees.{stop_of-append}
 use Rattle.std.proofs.Math.Bool.{and-false}
@@ -7,7 +7,7 @@ use Rattle.std.specs.List.{list_any, list_all}
 use Rattle.std.proofs.lemmas.List.{drop-drop}
 use Rattle.std.proofs.lemmas.Bool.{or_cases, or_parts, and_parts, eqb-true, both_ways, lt-ltb, not-true}
 use Rattle.markdown_event.specs.declared.event.Point.{Point}
-use Rattle.markdown_content.specs.Codes.{Code, codes_from, codes_of_byte, codes_of_tab, tab_width, line_start, line_ending_len, next_column, stop_of, document_start, is_line_ending_byte, tab_value, line_feed, carriage_return}
+use Rattle.markdown_content.specs.Codes.{Code, codes_from, codes_of_tab, tab_width, next_column, stop_of, document_start, is_line_ending_byte, tab_value, line_feed, carriage_return}
 use Rattle.markdown_content.specs.Slices.{byte_from}
 use Rattle.markdown_model.specs.CodeTests.{is_ascii_punctuation}
 use Rattle.markdown_model_laws.specs.EscapedText.{punctuation, is_punctuation, escaped, has_one_line}
@@ -61,15 +61,7 @@ tab-items v (suc n) p is h k = (h, tab-items 32 n (next_column p p.index (p.vs +
 tab-bytes : (all : List ℕ) (v n : ℕ) (p : Point) →
     codes_bytes all (codes_of_tab v n p) ≡ slice_range all (byte_from p) (p.index + 1)
 tab-bytes all v zero p = append-nil (slice_range all (byte_from p) (p.index + 1))
-tab-bytes all v (suc n) p =
-    (λ i. slice_range all (byte_from p) (inside i) ++ (tab-bytes all 32 n (next_column p p.index (p.vs + 1)) ∙ ap (λ m. slice_range all m (p.index + 1)) inside ∙ slice-none all (p.index + 1)) i)
-    ∙ append-nil (slice_range all (byte_from p) (p.index + 1))
-  where
-    later : nat_lt 0 (p.vs + 1) ≡ true
-    later = lt-ltb 0 (p.vs + 1) (omega arith)
-
-    inside : byte_from (next_column p p.index (p.vs + 1)) ≡ p.index + 1
-    inside = ap (λ b. if b then p.index + 1 else p.index) later
+tab-bytes all v (suc n) p = grind (arith, tab-bytes all 32 n (next_column p p.index (p.vs + 1)), slice-none, append-nil, lt-ltb)
 
 -- the place after these codes, by its index
 pub record StandsAtIndex (p : Point) (i : ℕ) : Type 0 where
@@ -94,11 +86,7 @@ of-list p (n ∷ ns) b h k =
     ]
 
 not-of-list : (b m : ℕ) → is_punctuation b ≡ false → is_punctuation m ≡ true → b == m ≡ false
-not-of-list b m h k = by_test (b == m) refl
-  where
-    by_test : (t : Bool) → b == m ≡ t → t ≡ false
-    by_test false e = refl
-    by_test true e = absurd (both_ways (is_punctuation b) h (ap is_punctuation (eqb-true b m e) ∙ k))
+not-of-list b m h k = grind (arith, both_ways, eqb-true)
 
 is-punctuation : (b : ℕ) (p q : Point) → is_punctuation b ≡ true →
     is_ascii_punctuation (record { value = b; start = p; stop = q }) ≡ true
@@ -141,12 +129,7 @@ here-next all p q b rest h e = record {
 
 here-byte : (all : List ℕ) (p : Point) (b : ℕ) (rest : List ℕ) → TextIsHere all p (b ∷ rest) →
     slice_range all (byte_from p) (p.index + 1) ≡ b ∷ []
-here-byte all p b rest h =
-    (λ i. slice_range all (if nat_lt 0 (h.vs i) then p.index + 1 else p.index) (p.index + 1))
-    ∙ (λ i. take (one i) (h.bytes i))
-  where
-    one : (p.index + 1) - p.index ≡ 1
-    one = omega arith
+here-byte all p b rest h = grind arith
 
 -- the codes of a byte that is no line ending
 abbrev codes_here : ℕ → Point → List Code
@@ -155,38 +138,18 @@ codes_here b p =
 
 first-codes : (before : ℕ) (p : Point) (b : ℕ) (rest : List ℕ) → b == line_feed ≡ false → b == carriage_return ≡ false
     → codes_from before p (b ∷ rest) ≡ codes_here b p ++ codes_from b (stop_of p (codes_here b p)) rest
-first-codes before p b rest h k =
-    ap (λ t. elim t as (λ _. List Code) [ true ↦ codes_from b p rest | false ↦ let here = codes_of_byte p b rest in here ++ codes_from b (stop_of p here) rest ]) (ap (λ t. before == carriage_return && t) h ∙ and-false (before == carriage_return))
-    ∙ ap (λ cs. cs ++ codes_from b (stop_of p cs) rest) here
-  where
-    here : codes_of_byte p b rest ≡ codes_here b p
-    here = λ i. if h i || k i then record { value = line_feed; start = p; stop = line_start (p.line + 1) (p.index + line_ending_len b rest) } ∷ [] else codes_here b p
+first-codes before p b rest h k = grind (arith, and-false)
 
 here-end : (b : ℕ) (p q : Point) → StandsAtIndex (stop_of q (codes_here b p)) (p.index + 1)
-here-end b p q = by_test (b == tab_value)
-  where
-    by_test : (t : Bool) →
-        StandsAtIndex (stop_of q (if t then codes_of_tab tab_value (tab_width p - 1) p else record { value = b; start = p; stop = next_column p (p.index + 1) 0 } ∷ [])) (p.index + 1)
-    by_test true = tab-end tab_value (tab_width p - 1) p q
-    by_test false = record { index = refl; vs = refl }
+here-end b p q = grind (arith, tab-end)
 
 here-bytes : (all : List ℕ) (b : ℕ) (p : Point) →
     codes_bytes all (codes_here b p) ≡ slice_range all (byte_from p) (p.index + 1)
-here-bytes all b p = by_test (b == tab_value)
-  where
-    by_test : (t : Bool) →
-        codes_bytes all (if t then codes_of_tab tab_value (tab_width p - 1) p else record { value = b; start = p; stop = next_column p (p.index + 1) 0 } ∷ []) ≡ slice_range all (byte_from p) (p.index + 1)
-    by_test true = tab-bytes all tab_value (tab_width p - 1) p
-    by_test false = append-nil (slice_range all (byte_from p) (p.index + 1))
+here-bytes all b p = grind (arith, tab-bytes, append-nil)
 
 here-items : (b : ℕ) (p : Point) (is : List Item) → IsOrdinary b → AreEscapedItems is →
     AreEscapedItems (selves (codes_here b p) ++ is)
-here-items b p is h k = by_test (b == tab_value)
-  where
-    by_test : (t : Bool) →
-        AreEscapedItems (selves (if t then codes_of_tab tab_value (tab_width p - 1) p else record { value = b; start = p; stop = next_column p (p.index + 1) 0 } ∷ []) ++ is)
-    by_test true = tab-items tab_value (tab_width p - 1) p is (refl, refl, refl) k
-    by_test false = (h, k)
+here-items b p is h k = grind (arith, tab-items)
 
 -- a byte that means itself, and the rest
 with-byte : (all : List ℕ) (before : ℕ) (p : Point) (b : ℕ) (rest text : List ℕ) → IsOrdinary b → b == carriage_return ≡ false → TextIsHere all p (b ∷ rest)

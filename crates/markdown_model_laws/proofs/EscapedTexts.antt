@@ -1,5 +1,5 @@
 -- Texts in which a backslash escapes: what their reading gives, by the number of backslashes before each code.
-use Rattle.std.proofs.Common.{◌≡◌, ◌==◌, ◌&&◌, ◌||◌, not, Bool, true, false, Some, None, List, [], ◌∷◌, ◌++◌, length, reverse, refl, sym, ap, subst, ◌∙◌}
+use Rattle.std.proofs.Common.{◌≡◌, ◌==◌, ◌&&◌, ◌||◌, not, Bool, true, false, Some, None, List, [], ◌∷◌, ◌++◌, length, reverse, refl, sym, ap, subst, ◌∙◌, arith}
 use Rattle.std.proofs.lemmas.Bool.{or_right, or_left}
 use Rattle.std.proofs.lemmas.List.{reverse-append, reverse-reverse}
 use Rattle.markdown_content.specs.Codes.{Code}
@@ -23,12 +23,7 @@ slash_back (c ∷ cs) = turned (slash_back cs) c
 
 odd-span : (cs : List Code) → is_odd (length (span (is_value 92) cs).0) ≡ slash_back cs
 odd-span [] = refl
-odd-span (c ∷ cs) = by_test (is_value 92 c) (odd-span cs)
-  where
-    by_test : (b : Bool) → is_odd (length (span (is_value 92) cs).0) ≡ slash_back cs
-        → is_odd (length (let r : List Code × List Code = elim b [ true ↦ let s = span (is_value 92) cs in (c ∷ s.0, s.1) | false ↦ ([], c ∷ cs) ] in r.0)) ≡ b && not (slash_back cs)
-    by_test true h = ap not h
-    by_test false h = refl
+odd-span (c ∷ cs) = grind (arith, odd-span cs)
 
 pub after-last : (slash : Bool) (cs : List Code) (c : Code) →
     slash_after slash (cs ++ (c ∷ [])) ≡ turned (slash_after slash cs) c
@@ -52,22 +47,12 @@ pub record Escaped (marks takes : Code → Bool) (slash : Bool) (text : List Cod
 
 -- an escaped code does not escape
 pub taken-turned : (takes : Code → Bool) (slash : Bool) (c : Code) → slash && takes c ≡ true → turned slash c ≡ false
-taken-turned takes true c e = by_value (is_value 92 c)
-  where
-    by_value : (b : Bool) → b && false ≡ false
-    by_value true = refl
-    by_value false = refl
-taken-turned takes false c e = cc
+taken-turned takes slash c h0 = grind arith
 
 -- a backslash that is not escaped does
 pub next-turned : (takes : Code → Bool) → ((c : Code) → is_value 92 c ≡ true → takes c ≡ true) →
     (slash : Bool) (c : Code) → slash && takes c ≡ false → turned slash c ≡ (c.value == 92)
-next-turned takes slashes slash c e = by_value (c.value == 92) slash refl e
-  where
-    by_value : (b x : Bool) → is_value 92 c ≡ b → x && takes c ≡ false → b && not x ≡ b
-    by_value true true h k = let no : takes c ≡ true = slashes c h in cc
-    by_value true false h k = refl
-    by_value false x h k = refl
+next-turned takes slashes slash c e = grind arith
 
 module _ (stop takes refuses : Code → Bool) (slashes : (c : Code) → is_value 92 c ≡ true → takes c ≡ true) (stops : (c : Code) → stop c ≡ true → takes c ≡ true) where
   abbrev marks : Code → Bool

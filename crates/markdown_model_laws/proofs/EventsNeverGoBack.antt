@@ -1,10 +1,8 @@
 -- No event of a content stands before an earlier one: the passes behind pairs keep all places of a tree, and its events stand at some of them.
-use Rattle.std.proofs.Common.{◌≡◌, ℕ, ◌+◌, Bool, true, false, ◌&&◌, ◌||◌, not, cond, filter, List, [], ◌∷◌, ◌++◌, refl, sym, ap, subst, ◌∙◌, arith, append_assoc, Option, Some, None, IsTrue}
+use Rattle.std.proofs.Common.{◌≡◌, ℕ, ◌+◌, Bool, true, false, ◌&&◌, ◌||◌, not, filter, List, [], ◌∷◌, ◌++◌, refl, sym, ap, subst, ◌∙◌, arith, append_assoc, Option, Some, None, IsTrue}
 use Rattle.std.specs.List.{All}
 use Rattle.std.proofs.lemmas.Bool.Decides.{nat_tests}
 use Rattle.std.proofs.lemmas.List.Elements.{All-nil, All-cons}
-use Rattle.markdown_attention.specs.AttentionTrees.{HasStripes}
-use Rattle.markdown_attention.specs.TokenWord.{IsUnlinkedRow}
 use Rattle.markdown_attention.proofs.AttentionTreeLabels.{IsGood}
 use Rattle.markdown_attention.proofs.PairedContainersFlat.{flat-row, ready-row}
 use Rattle.markdown_attention.proofs.MarkerCodes.{singles-content}
@@ -26,7 +24,7 @@ use Rattle.markdown_model.specs.InlineTree.{label_tree, finished_string, text_tr
 use Rattle.markdown_model.specs.LabelEnd.{Element}
 use Rattle.markdown_model.specs.Pairs.{pair_list}
 use Rattle.markdown_model.specs.Passes.{no_breaks, HardBreaks, breaks_where, breaks, data_onto, merged, begins_line_ending, is_nothing, trimmed_data, trimmed, with_emails_apart, labels_of}
-use Rattle.markdown_model.specs.Setting.{Setting, rules, within}
+use Rattle.markdown_model.specs.Setting.{Setting, rules}
 use Rattle.markdown_model.proofs.PassesKeepCodes.{codes-trimmed_data}
 use Rattle.markdown_model.proofs.LabelsCover.{codes-labels_of}
 use Rattle.markdown_model.proofs.LiteralCodes.{codes-with_emails}
@@ -178,11 +176,7 @@ forward-join (c ∷ xs) ys h k = (h.0, forward-join xs ys h.1 k)
 
 forward-filter : (p : Code → Bool) (cs : List Code) → EachCode IsForward cs → EachCode IsForward (filter p cs)
 forward-filter p [] h = tt
-forward-filter p (c ∷ cs) h = by_test (p c) (forward-filter p cs h.1)
-  where
-    by_test : (b : Bool) → EachCode IsForward (filter p cs) → EachCode IsForward (cond b (c ∷ filter p cs) (filter p cs))
-    by_test true k = (h.0, k)
-    by_test false k = k
+forward-filter p (c ∷ cs) h = grind (arith, forward-filter p cs h.1)
 
 forward-pieces : (bytes : List ℕ) (pieces : List Piece) → EachCode IsForward (codes_of bytes) →
     EachCode IsForward (content_of bytes pieces)
@@ -238,18 +232,8 @@ module _ (s : Setting) (pieces : List Piece) (content : IsContent s.bytes pieces
   abbrev paired_row : Forest
   paired_row = paired_whole s (pair_list s) label_row
 
-  -- the setting in which they are paired
-  abbrev there : Setting
-  there = within (leaf_codes label_row) s
-
   pairs-allow : Allows (ends_of all) (places_of paired_row)
-  pairs-allow =
-      let stripes : HasStripes label_row = good.1.0 in
-      let unlinked : IsUnlinkedRow label_row = good.1.1.0 in
-      subst (λ xs. Allows (ends_of xs) (places_of paired_row)) codes-labels
-      (allows-then (ends_of (leaf_codes label_row)) (places_of label_row) (places_of paired_row) (fit-labels read_elements (good-text s all))
-      (subst (λ t. Allows (places_of label_row) (places_of t)) (sym (whole-pairs s label_row))
-      (paired-allows there (pair_list there) label_row (flat-row there label_row stripes (λ _. unlinked)) (ready-row there label_row stripes))))
+  pairs-allow = grind (arith, good, codes-labels, allows-then, fit-labels, good-text, whole-pairs, paired-allows, flat-row, ready-row)
 
   trimmed-same : places_of (unmailed s all) ≡ places_of paired_row
   trimmed-same = trimmed-places (breaks s) true true (merged paired_row) ∙ merged-places paired_row

@@ -1,5 +1,5 @@
 -- Rows in which nothing is empty but the texts of labels.
-use Rattle.std.proofs.Common.{◌≡◌, ℕ, Bool, true, false, ◌&&◌, ◌||◌, not, List, [], ◌∷◌, ◌++◌, refl, sym, ◌∙◌}
+use Rattle.std.proofs.Common.{◌≡◌, ℕ, Bool, true, false, ◌&&◌, ◌||◌, not, List, [], ◌∷◌, ◌++◌, refl, arith}
 use Rattle.std.proofs.lemmas.Bool.{and_parts, not-true}
 use Rattle.markdown_event.specs.declared.event.Name.{Name}
 use Rattle.markdown_content.specs.Codes.{Code}
@@ -22,13 +22,7 @@ filled-leaf name [] = tt
 filled-leaf name (c ∷ cs) = (refl, tt)
 
 pub filled : HoldsByParts IsFilled (λ name link cs. is_empty cs ≡ false) (λ name a b inside. is_nothing inside ≡ true → is_label_text name ≡ true)
-filled = record {
-  none = tt;
-  leaf_of = λ name link cs rest h. h;
-  leaf_to = λ name link cs rest h k. (h, k);
-  group_of = λ name a b inside rest h. h;
-  group_to = λ name a b inside rest g h k. (g, h, k);
-}
+filled = grind arith
 
 pub filled-join : (a b : Forest) → IsFilled a → IsFilled b → IsFilled (a ⊕ b)
 filled-join a b h k = walks-row filled a b h k
@@ -53,8 +47,7 @@ made-filled (group_then name enter exit inside rest) h =
 
 pub nothing-codes : (f : Forest) → is_nothing f ≡ true → leaf_codes f ≡ []
 nothing-codes empty h = refl
-nothing-codes (leaf_then name link cs rest) h = cc
-nothing-codes (group_then name enter exit inside rest) h = cc
+nothing-codes f h = cc
 
 some-codes : (cs ds : List Code) → is_empty cs ≡ false → cs ++ ds ≡ [] → ⊥
 some-codes [] ds h e = cc
@@ -65,11 +58,4 @@ module _ (s : Setting) where
   pub nothing-assembled : (f : Forest) (pairs : List Pair) (n : ℕ) → IsFilled f →
       is_nothing (assembled (tokens_of s (pair_list s) f pairs n)) ≡ true → is_nothing f ≡ true
   unfolding tokens_of
-  nothing-assembled empty pairs n h e = refl
-  nothing-assembled (leaf_then Name.AttentionSequence link cs rest) pairs n h e =
-      absurd (some-codes cs (leaf_codes rest) h.0 (sym (covered (leaf_then Name.AttentionSequence link cs rest)) ∙ nothing-codes (assembled (tokens_of s (pair_list s) (leaf_then Name.AttentionSequence link cs rest) pairs n)) e))
-    where
-      covered : (f : Forest) → leaf_codes (assembled (tokens_of s (pair_list s) f pairs n)) ≡ leaf_codes f
-      covered f = codes-assembled (tokens_of s (pair_list s) f pairs n) ∙ codes-tokens_of s (pair_list s) f pairs n
-  nothing-assembled (leaf_then name link cs rest) pairs n h e = cc
-  nothing-assembled (group_then name enter exit inside rest) pairs n h e = cc
+  nothing-assembled f pairs n h0 h1 = grind (arith, some-codes, nothing-codes, codes-assembled, codes-tokens_of)

@@ -1,5 +1,5 @@
 -- The runs of a tree of labels: the codes of each are one marker, and no two runs of one marker are neighbours.
-use Rattle.std.proofs.Common.{◌≡◌, ℕ, ◌+◌, ◌≤◌, ◌==◌, Bool, true, false, ◌&&◌, ◌||◌, List, [], ◌∷◌, ◌++◌, length, drop, map, refl, sym, ap, subst, ◌∙◌, arith, append_assoc, append-nil, Option, Some, None, ◌⊎◌, inl, inr}
+use Rattle.std.proofs.Common.{◌≡◌, ℕ, ◌+◌, ◌≤◌, ◌==◌, Bool, true, false, ◌&&◌, ◌||◌, List, [], ◌∷◌, ◌++◌, length, map, refl, sym, ap, subst, ◌∙◌, arith, append_assoc, append-nil, Option, Some, None, ◌⊎◌, inl, inr}
 use Rattle.markdown_attention.proofs.AttentionTreeLabels.{quiet-start_tree, quiet-label_end}
 use Rattle.std.specs.Str.{byte}
 use Rattle.std.specs.List.{list_all}
@@ -7,8 +7,8 @@ use Rattle.std.proofs.lemmas.Bool.{and_parts, or_parts, both_ways, eqb-true}
 use Rattle.std.proofs.lemmas.Bool.Decides.{nat_tests}
 use Rattle.markdown_event.specs.declared.event.Name.{Name}
 use Rattle.markdown_content.specs.declared.label_kind.LabelKind.{LabelKind}
-use Rattle.markdown_content.specs.Codes.{Code, stop_of, document_start}
-use Rattle.markdown_content.specs.Tree.{Forest, empty, leaf_then, group_then, leaf, ◌⊕◌, group, text_group, leaf_codes, start_of}
+use Rattle.markdown_content.specs.Codes.{Code}
+use Rattle.markdown_content.specs.Tree.{Forest, empty, leaf_then, group_then, leaf, ◌⊕◌, leaf_codes}
 use Rattle.markdown_model.specs.CodeTests.{is_value, is_empty, next_is}
 use Rattle.markdown_model.specs.Grammar.{Reading, ◌>>=◌, gives, some, span}
 use Rattle.markdown_model.specs.Setting.{Setting, within}
@@ -16,19 +16,19 @@ use Rattle.markdown_model.specs.Runs.{marker_of}
 use Rattle.markdown_model.specs.LabelEnd.{Element, plain, starts, ends, Label, label_before, outcome_of, label_end}
 use Rattle.markdown_model.specs.Elements.{as_plain, line_ending, data_code, attention_run, text_element, AreElementsFrom, code_before, elements_of}
 use Rattle.markdown_model.specs.BracketGroups.{nest, onto, after_loose, joined, loose}
-use Rattle.markdown_model.specs.Passes.{Start, End, as_bracket, start_marker, start_tree, label_group, loose_start, loose_end, labelled, labels_of, is_nothing}
+use Rattle.markdown_model.specs.Passes.{Start, End, as_bracket, label_group, loose_start, loose_end, labelled, labels_of, is_nothing}
 use Rattle.markdown_model.proofs.ReadsACode.{Left}
 use Rattle.markdown_model.proofs.ElementsReadACode.{text_element_takes}
 use Rattle.markdown_model.proofs.ElementCases.{EachConstruct, outcome_yields, text_has}
 use Rattle.markdown_model.proofs.ElementsCover.{covers_text_element}
 use Rattle.markdown_model.proofs.OneElementList.{text_elements}
 use Rattle.markdown_model.proofs.LabelsCover.{element_codes, unused}
-use Rattle.markdown_model.proofs.NoLinkInConstructs.{PassesValue, Yields, yields_bind, yields_gives, yields_either, then_any}
+use Rattle.markdown_model.proofs.NoLinkInConstructs.{Yields, yields_bind, yields_gives, yields_either, then_any}
 use Rattle.markdown_model.proofs.ReadingsCover.{At}
 use Rattle.markdown_model.proofs.DefinitionSteps.{span-all, span-stops}
 use Rattle.markdown_model.proofs.PlainTrees.{is_mark, is_linked, marks, IsQuiet, plain-quiet, quiet_after_label}
 use Rattle.markdown_model.proofs.PlainConstructs.{IsPlainTree, ReadsPlain}
-use Rattle.markdown_model_laws.proofs.MadeConstructs.{IsSome}
+use Rattle.markdown_model_laws.proofs.AfterLabelTrees.{IsSome}
 use Rattle.markdown_model_laws.proofs.MadeElements.{AllGood, good-text}
 
 abbrev pub is_marker : ℕ → Bool
@@ -80,10 +80,7 @@ quiet-after b (group_then name enter exit inside rest) h =
     quiet-after b rest (or_parts (marks b inside) (marks b rest) (or_parts (is_mark name) (marks b inside || marks b rest) h).1).1
 
 quiet-last : (b : Bool) (p : ℕ) (t : Forest) → marks b t ≡ false → is_nothing t ≡ false → last_run p t ≡ 0
-quiet-last b p empty h k = cc
-quiet-last b p (leaf_then Name.AttentionSequence link cs rest) h k = cc
-quiet-last b p (leaf_then name link cs rest) h k = quiet-after b (leaf_then name link cs rest) h
-quiet-last b p (group_then name enter exit inside rest) h k = quiet-after b (group_then name enter exit inside rest) h
+quiet-last b p t h0 h1 = grind (arith, quiet-after)
 
 apart-join : (p : ℕ) (a b : Forest) → HasApartRuns p a → HasApartRuns (last_run p a) b → HasApartRuns p (a ⊕ b)
 apart-join p empty b h k = k
@@ -150,11 +147,7 @@ abbrev Always : Element → Type 0
 Always e = (rest : List Code) → IsQuietElement e rest
 
 fine_always : (a : Reading Element) → Yields Always a → Fine a
-fine_always a h = record { at = λ cs. by_answer (a cs) (h.at cs) }
-  where
-    by_answer : (r : Option (Element × List Code)) → PassesValue Always r → AnswersFine r
-    by_answer None k = tt
-    by_answer (Some x) k = k x.1
+fine_always a h = grind arith
 
 fine_plain : (bytes : List ℕ) (a : Reading Forest) → ReadsPlain bytes a → Fine (as_plain a)
 unfolding as_plain
@@ -255,13 +248,7 @@ module _ (s : Setting) (end : ℕ) where
 
   apart-element : (e : Element) (es : List Element) (d p : ℕ) (rest cs : List Code) → IsQuietElement e rest → element_codes d e ++ rest ≡ cs → 1 + length rest ≤ length cs → IsPastMarker p cs
       → ((q : ℕ) → IsPastMarker q rest → AreApartElements q es) → AreApartElements p (e ∷ es)
-  apart-element (plain t) es d p rest cs (inl h) e l k more =
-      (quiet-apart true p t h, subst (λ x. AreApartElements x es) (sym (quiet-last true p t h (some-tree t rest cs e l))) (more 0 (inr refl)))
-  apart-element (plain t) es d p rest cs (inr h) e l k more = subst (λ x. AreApartElements p (plain x ∷ es)) (sym h.is)
-      ((h.stripe, not-before p h.codes rest cs h.stripe (sym (ap (λ x. x ++ rest) (ap leaf_codes h.is ∙ append-nil h.codes)) ∙ e) k, tt), more (marker_of h.codes) (inl h.stops))
-  apart-element (starts kind marker) es d p rest cs h e l k more = more 0 (inr refl)
-  apart-element (ends marker None) es d p rest cs h e l k more = more 0 (inr refl)
-  apart-element (ends marker (Some outcome)) es d p rest cs h e l k more = (h, more 0 (inr refl))
+  apart-element e es d p rest cs q h0 h1 h2 h3 = grind (arith, quiet-apart, quiet-last, some-tree, not-before, append-nil)
 
   all-apart : (es earlier : List Element) (previous : Option Code) (cs : List Code) (p : ℕ) → IsPastMarker p cs →
       From earlier previous cs es → AreApartElements p es
@@ -277,20 +264,7 @@ module _ (s : Setting) (end : ℕ) where
 
 apart-label : (p : ℕ) (kind : LabelKind) (marker : List Code) (inside : Forest) (back : List Code) (tail : Forest) →
     HasApartRuns 0 inside → IsQuiet false tail → HasApartRuns p (label_group kind marker inside back tail)
-apart-label p kind marker inside back tail h q =
-    ((apart-join 0 (start_tree kind front) text (quiet-apart true 0 (start_tree kind front) (quiet-start_tree kind front)) (row, quiet-apart true 0 (group Name.LabelEnd (leaf Name.LabelMarker back)) (quiet-label_end back)), quiet-apart false 0 tail q), tt)
-  where
-    front : List Code
-    front = start_marker kind marker
-
-    caret : List Code
-    caret = drop (length front) marker
-
-    text : Forest
-    text = text_group Name.LabelText (stop_of document_start front) (start_of back) (leaf Name.Data caret ⊕ inside) ⊕ group Name.LabelEnd (leaf Name.LabelMarker back)
-
-    row : HasApartRuns 0 (leaf Name.Data caret ⊕ inside)
-    row = apart-join 0 (leaf Name.Data caret) inside (data-apart 0 caret) (subst (λ x. HasApartRuns x inside) (sym (caret-last caret)) h)
+apart-label p kind marker inside back tail h q = grind (arith, apart-join, quiet-apart, quiet-start_tree, quiet-label_end, caret-last)
 
 abbrev QuietEnd : End → Type 0
 QuietEnd (back, None) = IsSome back
@@ -302,12 +276,7 @@ end-some (back, Some outcome) h = h.0
 
 labelled-apart : (p : ℕ) (start : Start) (inside : List Forest) (end : End) (after : List Forest) → IsSome start.1 → QuietEnd end → ListApart 0 inside → ListApart 0 after
     → ListApart p (labelled start inside end ++ after)
-labelled-apart p start inside (back, None) after h k l m =
-    subst (ListApart p) (sym (regroup (loose start.1) inside (loose back) after))
-    (after-loose p start.1 (inside ++ (loose back ++ after)) h (apart-append 0 inside (loose back ++ after) l (after-loose (list_last 0 inside) back after k m)))
-  where
-    regroup : (a b c d : List Forest) → (a ++ (b ++ c)) ++ d ≡ a ++ (b ++ (c ++ d))
-    regroup a b c d = simp append_assoc
+labelled-apart p start inside (back, None) after h k l m = grind (arith, after-loose, apart-append, append_assoc)
 labelled-apart p start inside (back, Some outcome) after h k l m =
     (apart-label p outcome.0 start.1 (joined inside) back outcome.1 (apart-joined 0 inside l) k.1, m)
 

@@ -1,5 +1,5 @@
 -- What is lent for the leaves of a tree, by the codes that they cover.
-use Rattle.std.proofs.Common.{◌≡◌, ℕ, ◌+◌, ◌-◌, ◌≤◌, nat_lt, Bool, true, false, List, [], ◌∷◌, ◌++◌, take, drop, map, if◌then◌else◌, refl, sym, ap, subst, ◌∙◌, arith, append_assoc}
+use Rattle.std.proofs.Common.{◌≡◌, ℕ, ◌+◌, ◌-◌, ◌≤◌, nat_lt, true, false, List, [], ◌∷◌, ◌++◌, take, drop, map, if◌then◌else◌, refl, sym, ap, subst, ◌∙◌, arith, append_assoc}
 use Rattle.std.specs.Prelude.{slice_range}
 use Rattle.markdown_content.proofs.VirtualSpaces.{byte-order}
 use Rattle.std.proofs.lemmas.List.{drop-drop}
@@ -87,11 +87,7 @@ span-text bytes s ss = refl
 spans_text-append : (bytes : List ℕ) (ss ts : List Span) →
     spans_text bytes (ss ++ ts) ≡ spans_text bytes ss ++ spans_text bytes ts
 spans_text-append bytes [] ts = refl
-spans_text-append bytes (s ∷ ss) ts =
-    span-text bytes s (ss ++ ts)
-    ∙ ap (λ x. (if is_text s.name then position_bytes bytes s.start s.end else []) ++ x) (spans_text-append bytes ss ts)
-    ∙ sym (append_assoc (if is_text s.name then position_bytes bytes s.start s.end else []) (spans_text bytes ss) (spans_text bytes ts))
-    ∙ ap (λ x. x ++ spans_text bytes ts) (sym (span-text bytes s ss))
+spans_text-append bytes (s ∷ ss) ts = grind (arith, span-text, spans_text-append bytes ss ts, append_assoc)
 
 abbrev SliceLaw : List ℕ → Forest → Type 0
 SliceLaw bytes t =
@@ -99,12 +95,7 @@ SliceLaw bytes t =
 
 leaf-law : (bytes : List ℕ) (name : Name) (cs : List Code) (ss : List Span) (ds : List Code) → position_bytes bytes (start_of cs) (stop_of document_start cs) ≡ codes_bytes bytes cs
     → spans_text bytes ss ≡ codes_bytes bytes ds → spans_text bytes (record { name = name; start = start_of cs; end = stop_of document_start cs } ∷ ss) ≡ codes_bytes bytes ((if is_text name then cs else []) ++ ds)
-leaf-law bytes name cs ss ds h k = span-text bytes (record { name = name; start = start_of cs; end = stop_of document_start cs }) ss ∙ by_test (is_text name)
-  where
-    by_test : (b : Bool) →
-        (if b then position_bytes bytes (start_of cs) (stop_of document_start cs) else []) ++ spans_text bytes ss ≡ codes_bytes bytes ((if b then cs else []) ++ ds)
-    by_test true = (λ i. h i ++ k i) ∙ sym (codes_bytes-append bytes cs ds)
-    by_test false = k
+leaf-law bytes name cs ss ds h k = grind (arith, span-text, codes_bytes-append)
 
 nothing-law : (bytes : List ℕ) (name : Name) (a b : Point) (ss : List Span) → is_text name ≡ false →
     spans_text bytes (record { name = name; start = a; end = b } ∷ ss) ≡ spans_text bytes ss
@@ -113,11 +104,7 @@ nothing-law bytes name a b ss h =
 
 group-law : (bytes : List ℕ) (inside rest : Forest) → SliceLaw bytes inside → SliceLaw bytes rest → (p : Point) (back : List Code) → IsChain p ((leaf_codes inside ++ leaf_codes rest) ++ back)
     → HasNoTextGroup inside → HasNoTextGroup rest → spans_text bytes (leaves_of inside ++ leaves_of rest) ≡ codes_bytes bytes (kept inside ++ kept rest)
-group-law bytes inside rest in_law rest_law p back h k l =
-    let apart : IsChain p (leaf_codes inside ++ (leaf_codes rest ++ back)) = subst (λ xs. IsChain p xs) (append_assoc (leaf_codes inside) (leaf_codes rest) back) h in
-    spans_text-append bytes (leaves_of inside) (leaves_of rest)
-    ∙ (λ i. in_law p (leaf_codes rest ++ back) apart k i ++ rest_law (stop_of p (leaf_codes inside)) back (chain-back p (leaf_codes inside) (leaf_codes rest ++ back) apart) l i)
-    ∙ sym (codes_bytes-append bytes (kept inside) (kept rest))
+group-law bytes inside rest in_law rest_law p back h k l = grind (arith, append_assoc, spans_text-append, chain-back, codes_bytes-append)
 
 -- what is lent for the leaves of a tree that are text is the bytes of their codes
 pub kept-lent : (bytes : List ℕ) (t : Forest) → SliceLaw bytes t

@@ -7,6 +7,7 @@ pub mod ProbeLaws
 pub mod EmailLeaves
 pub mod EmailsInDataLaws
 pub mod DataIsTightLaws
+pub mod AfterLabelTrees
 pub mod MadeConstructs
 pub mod MadeElements
 pub mod LabelTreeRuns

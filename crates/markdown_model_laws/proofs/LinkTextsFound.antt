@@ -144,15 +144,7 @@ module _ (both : Bool) (names : StringNames) where
   pub found-title : (front : Code) (text : List Code) (back : Code) (rest : List Code) → IsTitle both front text back →
       title both names (front ∷ (text ++ (back ∷ rest))) ≡ Some (between_markers names (front ∷ []) text (back ∷ []), rest)
   unfolding title
-  found-title front text back rest (inl i) =
-      either-some _ _ (front ∷ (text ++ (back ∷ rest))) _ (between-found false 34 34 names front text back rest i)
-  found-title front text back rest (inr (inl i)) =
-      either-second _ _ (front ∷ (text ++ (back ∷ rest))) (between-none false 34 34 names front (text ++ (back ∷ rest)) (other 39 34 front refl i.opens))
-      ∙ either-some _ _ (front ∷ (text ++ (back ∷ rest))) _ (between-found false 39 39 names front text back rest i)
-  found-title front text back rest (inr (inr i)) =
-      either-second _ _ (front ∷ (text ++ (back ∷ rest))) (between-none false 34 34 names front (text ++ (back ∷ rest)) (other 40 34 front refl i.opens))
-      ∙ either-second _ _ (front ∷ (text ++ (back ∷ rest))) (between-none false 39 39 names front (text ++ (back ∷ rest)) (other 40 39 front refl i.opens))
-      ∙ between-found both 40 41 names front text back rest i
+  found-title front text back rest h0 = grind (arith, either-some, between-found, either-second, between-none, other)
 
 -- a reading that holds at three parts with their tree holds where they stand
 pub marked-found : (a : Reading Forest) (Is : Code → List Code → Code → Type 0) (tree_of : List Code → List Code → List Code → Forest)

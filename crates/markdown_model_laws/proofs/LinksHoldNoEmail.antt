@@ -1,5 +1,5 @@
 -- No email literal stands in a link or an autolink: none stands in the tree before they are found, they are not sought in links, and an autolink holds no data.
-use Rattle.std.proofs.Common.{◌≡◌, ℕ, suc, Bool, true, false, ◌&&◌, ◌||◌, not, List, [], ◌∷◌, refl, None}
+use Rattle.std.proofs.Common.{◌≡◌, ℕ, suc, Bool, true, false, ◌&&◌, ◌||◌, not, List, [], ◌∷◌, refl, None, arith}
 use Rattle.std.proofs.lemmas.Bool.{both_ways, and_parts, or_parts, or_from, and_from, not-true}
 use Rattle.markdown_model.proofs.GivenNames.{pair-named}
 use Rattle.markdown_event.specs.declared.event.Name.{Name}
@@ -41,13 +41,7 @@ abbrev IsSealed : Forest → Type 0
 IsSealed f = is_sealed f ≡ true
 
 sealed : HoldsByParts IsSealed (λ name link cs. not (is_data name || is_run name) ≡ true) (λ name a b inside. ⊥)
-sealed = record {
-  none = refl;
-  leaf_of = λ name link cs rest h. and_parts (not (is_data name || is_run name)) (is_sealed rest) h;
-  leaf_to = λ name link cs rest h k. and_from (not (is_data name || is_run name)) (is_sealed rest) h k;
-  group_of = λ name a b inside rest h. absurd (both_ways false refl h);
-  group_to = λ name a b inside rest g h k. absurd g;
-}
+sealed = grind (arith, and_parts, and_from, both_ways)
 
 plain-leaf : (name : Name) (cs : List Code) → is_email name ≡ false → SealsNoEmail (leaf name cs)
 plain-leaf name [] h = (refl, refl)
@@ -56,21 +50,10 @@ plain-leaf name (c ∷ cs) h = (or_from (is_email name) false h refl, refl)
 -- the parts of a group
 group-parts : (name : Name) (enter exit : Point) (inside rest : Forest) →
     SealsNoEmail (group_then name enter exit inside rest) → (is_shut name inside ≡ true) × SealsNoEmail inside × SealsNoEmail rest
-group-parts name enter exit inside rest h =
-    let p = or_parts (holds_email inside) (holds_email rest) h.0 in
-    let q = and_parts (is_shut name inside) (seals inside && seals rest) h.1 in
-    let r = and_parts (seals inside) (seals rest) q.1 in
-    (q.0, (p.0, r.0), (p.1, r.1))
+group-parts name enter exit inside rest h = grind (arith, or_parts, and_parts)
 
 is-plain : HoldsByParts SealsNoEmail (λ name link cs. is_email name ≡ false) (λ name a b inside. is_shut name inside ≡ true)
-is-plain = record {
-  none = (refl, refl);
-  leaf_of = λ name link cs rest h. let p = or_parts (is_email name) (holds_email rest) h.0 in (p.0, (p.1, h.1));
-  leaf_to = λ name link cs rest h k. (or_from (is_email name) (holds_email rest) h k.0, k.1);
-  group_of = group-parts;
-  group_to = λ name a b inside rest g h k.
-      (or_from (holds_email inside) (holds_email rest) h.0 k.0, and_from (is_shut name inside) (seals inside && seals rest) g (and_from (seals inside) (seals rest) h.1 k.1));
-}
+is-plain = grind (arith, or_parts, or_from, group-parts, and_from)
 
 plain-join : (a b : Forest) → SealsNoEmail a → SealsNoEmail b → SealsNoEmail (a ⊕ b)
 plain-join a b h k = walks-row is-plain a b h k
@@ -140,12 +123,7 @@ module _ (s : Setting) (pairs_of : List Run → List Pair) where
 
   shut-tokens : (name : Name) (f : Forest) (pairs : List Pair) (n : ℕ) → is_shut name f ≡ true →
       is_shut name (assembled (tokens_of s pairs_of f pairs n)) ≡ true
-  shut-tokens name f pairs n h = by_test (is_autolink name) h
-    where
-      by_test : (b : Bool) → (not b || is_sealed f) ≡ true →
-          (not b || is_sealed (assembled (tokens_of s pairs_of f pairs n))) ≡ true
-      by_test true k = sealed-assembled (tokens_of s pairs_of f pairs n) (sealed-tokens f pairs n k)
-      by_test false k = refl
+  shut-tokens name f pairs n h = grind (arith, sealed-assembled, sealed-tokens)
 
   plain-tokens : (f : Forest) (pairs : List Pair) (n : ℕ) → SealsNoEmail f → PlainWord (tokens_of s pairs_of f pairs n)
   unfolding tokens_of
@@ -174,11 +152,7 @@ sealed-merged f h = walks-merged sealed (λ cs ds k _. k) (λ name a b inside _ 
 
 -- where such leaves are kept so, so is what an autolink holds
 still-shut : (name : Name) (f g : Forest) → (IsSealed f → IsSealed g) → is_shut name f ≡ true → is_shut name g ≡ true
-still-shut name f g more h = by_test (is_autolink name) h
-  where
-    by_test : (b : Bool) → (not b || is_sealed f) ≡ true → (not b || is_sealed g) ≡ true
-    by_test true k = more k
-    by_test false k = refl
+still-shut name f g more h = grind arith
 
 plain-merged : (f : Forest) → SealsNoEmail f → SealsNoEmail (merged f)
 plain-merged f h =

@@ -1,8 +1,7 @@
 -- What constructs make: each leaf has a code and is no email literal, each group reaches from where its first tree begins to where its last one ends,
 -- none is a pair's, and an autolink holds leaves of its own.
-use Rattle.std.proofs.Common.{◌≡◌, ◌≢◌, ◌==◌, ℕ, ◌+◌, ◌≤◌, Bool, true, false, ◌&&◌, ◌||◌, not, List, [], ◌∷◌, ◌++◌, length, refl, sym, ◌∙◌, ap, arith, Option, Some, None}
-use Rattle.markdown_model.proofs.LinksDoNotNest.{yields_passed_if}
-use Rattle.std.proofs.lemmas.Bool.{not-true, eq-eqb}
+use Rattle.std.proofs.Common.{◌≡◌, ◌≢◌, ◌==◌, ℕ, Bool, true, false, ◌&&◌, ◌||◌, not, List, [], ◌∷◌, refl, sym, ◌∙◌, ap, arith, Option, Some, None}
+use Rattle.std.proofs.lemmas.Bool.{eq-eqb}
 use Rattle.std.proofs.Math.Bool.{and_assoc, or-true}
 use Rattle.markdown_event.specs.declared.event.Name.{Name}
 use Rattle.markdown_event.specs.declared.event.Content.{Content}
@@ -10,20 +9,17 @@ use Rattle.markdown_event.specs.declared.event.Point.{Point}
 use Rattle.markdown_content.specs.Codes.{Code}
 use Rattle.markdown_content.specs.Tree.{Forest, empty, leaf_then, group_then, leaf, linked, group, ◌⊕◌, enter_of, exit_after}
 use Rattle.markdown_model.specs.CodeTests.{is_empty}
-use Rattle.markdown_model.specs.Grammar.{Reading, one, optional_tree}
+use Rattle.markdown_model.specs.Grammar.{Reading}
 use Rattle.markdown_model.specs.TextLines.{linked_leaf, lines}
-use Rattle.markdown_model.specs.Whitespace.{space_or_tab_eol, spaces_across, spaces_on_line}
-use Rattle.markdown_model.specs.Resource.{string_group, label, reference_names, title, title_between, title_names, literal_destination, raw_destination, destination, resource_names, spaced_title, destination_and_title, resource}
+use Rattle.markdown_model.specs.Resource.{string_group, label}
 use Rattle.markdown_model.specs.Passes.{is_nothing}
 use Rattle.markdown_model.specs.Laws.{is_run}
 use Rattle.markdown_model.specs.Setting.{Setting}
-use Rattle.markdown_model.specs.LabelEnd.{full_reference, collapsed_reference, shortcut, shortcut_before_bracket, reference_after_label, after_label}
+use Rattle.markdown_model.specs.LabelEnd.{after_label}
 use Rattle.markdown_model.proofs.LeafRows.{Leaves, leaves-lines}
-use Rattle.markdown_model.proofs.ReadsACode.{Consumes, one_takes}
-use Rattle.markdown_model.proofs.NoLinkInConstructs.{PassesValue, Yields, yields_bind, yields_gives, yields_passed, yields_either, yields_before, yields_next, yields_unless, then_any}
+use Rattle.markdown_model.proofs.NoLinkInConstructs.{Yields}
 use Rattle.markdown_model.proofs.PlainConstructs.{is_own, leaf-own, group-own, IsOwnLeaf, IsPlainTree}
-use Rattle.markdown_model.proofs.ReadingsCover.{Takes, takes_one, itself}
-use Rattle.markdown_model.proofs.DefinitionSteps.{read-codes, read-shorter}
+use Rattle.markdown_model_laws.proofs.AfterLabelTrees.{IsSome, PassesAfterLabels, of_after_label}
 use Rattle.markdown_model_laws.specs.PairGroups.{is_pair}
 use Rattle.markdown_model_laws.specs.EmailsInData.{is_email}
 use Rattle.markdown_model_laws.specs.TreesFilled.{is_label_text}
@@ -83,12 +79,7 @@ made-join texts (group_then name enter exit inside rest) b =
 
 pub made-leaf : (texts : Bool) (name : Name) (cs : List Code) →
     made texts (leaf name cs) ≡ (not (is_email name) || is_empty cs)
-made-leaf texts name [] = sym (or-true (not (is_email name)))
-made-leaf texts name (c ∷ cs) = by_test (is_email name)
-  where
-    by_test : (b : Bool) → (not b && true) ≡ (not b || false)
-    by_test true = refl
-    by_test false = refl
+made-leaf texts name cs = grind (arith, or-true)
 
 made-linked_leaf : (name : Name) (link : Option Content) (cs : List Code) → is_email name ≡ false →
     made false (linked_leaf name link cs) ≡ true
@@ -157,9 +148,6 @@ made-destination_string : (cs : List Code) →
 made-destination_string cs =
     made-string_group Name.ResourceDestinationString (linked Name.Data cs) (λ g. refl) (made-linked cs)
 
-ruleset made_laws =
-    (made-reference_string, made-title_string, made-destination_string, made-join, made-leaf, made-space, made-ending)
-
 pub front-some : (name : Name) (cs : List Code) (f : Forest) → is_empty cs ≡ false →
     is_nothing (leaf name cs ⊕ f) ≡ false
 front-some name [] f h = cc
@@ -175,57 +163,17 @@ made-front name marker cs f h e k l =
 
 -- Readings.
 
-abbrev pub IsSome : List Code → Type 0
-IsSome cs = is_empty cs ≡ false
-
 abbrev pub IsMadeTree : Forest → Type 0
 IsMadeTree t = made false t ≡ true
 
 abbrev pub MakesTrees : Reading Forest → Type 0
 MakesTrees a = Yields IsMadeTree a
 
--- a reading that takes a code at least gives one
-gives-some : (a : Reading (List Code)) → Takes a → Consumes 1 a → Yields IsSome a
-gives-some a h k = record { at = λ cs. by_answer cs (a cs) refl }
-  where
-    none : (xs cs rest : List Code) → xs ≡ [] → cs ≡ xs ++ rest → 1 + length rest ≤ length cs → ⊥
-    none xs cs rest e f l = omega (arith, l, ap length (f ∙ ap (λ ys. ys ++ rest) e))
-
-    some-codes : (xs cs rest : List Code) → cs ≡ xs ++ rest → 1 + length rest ≤ length cs → is_empty xs ≡ false
-    some-codes [] cs rest f l = absurd (none [] cs rest refl f l)
-    some-codes (x ∷ xs) cs rest f l = refl
-
-    by_answer : (cs : List Code) (r : Option (List Code × List Code)) → a cs ≡ r → PassesValue IsSome r
-    by_answer cs None e = tt
-    by_answer cs (Some x) e =
-        some-codes x.0 cs x.1 (read-codes itself a h cs x.1 x.0 e) (read-shorter 1 a k cs x.1 x.0 e)
-
-pub one-gives : (p : Code → Bool) → Yields IsSome (one p)
-one-gives p = gives-some (one p) (takes_one p) (one_takes p)
-
-makes_optional : (a : Reading Forest) → MakesTrees a → MakesTrees (optional_tree a)
-unfolding optional_tree
-makes_optional a h = yields_either _ _ _ h (yields_gives _ _ refl)
-
-makes_spacing : (link : Option Content) → MakesTrees (space_or_tab_eol link)
-unfolding space_or_tab_eol spaces_across spaces_on_line
-makes_spacing link = yields_either _ _ _
-    (then_any _ _ _ λ front. then_any _ _ _ λ ending. then_any _ _ _ λ back. yields_gives _ _ (simp made_laws))
-    (then_any _ _ _ λ blank. yields_gives _ _ (simp made_laws))
-
 -- What stands by itself.
 
 own-names : (name : Name) → is_own name ≡ true →
     (is_email name ≡ false) × ((is_pair name ≡ false) × ((is_data name || is_run name) ≡ false))
-own-names Name.Data e = cc
-own-names Name.AttentionSequence e = cc
-own-names Name.Emphasis e = cc
-own-names Name.Strong e = cc
-own-names Name.GfmStrikethrough e = cc
-own-names Name.GfmAutolinkLiteralEmail e = cc
-own-names Name.GfmAutolinkLiteralMailto e = cc
-own-names Name.GfmAutolinkLiteralXmpp e = cc
-own-names _ e = (refl, (refl, refl))
+own-names name h0 = grind arith
 
 leaves-made : (bytes : List ℕ) (t : Forest) → Leaves (IsOwnLeaf bytes) t → (made false t ≡ true) × (is_sealed t ≡ true)
 leaves-made bytes empty h = (refl, refl)
@@ -246,88 +194,32 @@ plain-made bytes (group_then name enter exit inside rest) h =
     let single : is_single name inside ≡ true = (λ i. not (n.1.0 i) && (not (is_autolink name) || k.1 i)) ∙ or-true (not (is_autolink name)) in
     (λ i. made false (group_then name (h.0.enters i) (h.0.exits i) inside (h.1 i))) ∙ made-group false name inside single h.0.some k.0
 
--- Resources and references.
+-- What follows a label.
 
-makes_label : (characters : Bool) → MakesTrees (label characters reference_names)
-unfolding label
-makes_label characters =
-    yields_bind IsSome _ _ _ (one-gives _) λ front h. then_any _ _ _ λ text. yields_passed _ _ _ (yields_passed _ _ _ (then_any _ _ _ λ back. yields_passed _ _ _
-    (yields_gives _ _ (made-front Name.Reference Name.ReferenceMarker front (string_group Name.ReferenceString (lines Name.Data (Some Content.String) text) ⊕ leaf Name.ReferenceMarker back) refl refl h (simp made_laws)))))
-
-makes_title_between : (both : Bool) (opener closer : ℕ) → MakesTrees (title_between both opener closer title_names)
-unfolding title_between
-makes_title_between both opener closer =
-    yields_bind IsSome _ _ _ (one-gives _) λ front h. then_any _ _ _ λ text. then_any _ _ _ λ back. yields_passed _ _ _
-    (yields_gives _ _ (made-front Name.ResourceTitle Name.ResourceTitleMarker front (string_group Name.ResourceTitleString (lines Name.Data (Some Content.String) text) ⊕ leaf Name.ResourceTitleMarker back) refl refl h (simp made_laws)))
-
-makes_title : (both : Bool) → MakesTrees (title both title_names)
-unfolding title
-makes_title both =
-    yields_either _ _ _ (makes_title_between _ _ _) (yields_either _ _ _ (makes_title_between _ _ _) (makes_title_between _ _ _))
-
-makes_literal_destination : MakesTrees (literal_destination resource_names)
-unfolding literal_destination
-makes_literal_destination =
-    yields_bind IsSome _ _ _ (one-gives _) λ front h. then_any _ _ _ λ text. then_any _ _ _ λ back.
-    yields_gives _ _ (literal front (string_group Name.ResourceDestinationString (linked Name.Data text) ⊕ leaf Name.ResourceDestinationLiteralMarker back) h (simp made_laws))
-  where
-    literal : (front : List Code) (f : Forest) → is_empty front ≡ false → made false f ≡ true →
-        made false (group Name.ResourceDestination (group Name.ResourceDestinationLiteral (leaf Name.ResourceDestinationLiteralMarker front ⊕ f))) ≡ true
-    literal front f h k =
-        made-group false Name.ResourceDestination (group Name.ResourceDestinationLiteral (leaf Name.ResourceDestinationLiteralMarker front ⊕ f)) refl refl (made-front Name.ResourceDestinationLiteral Name.ResourceDestinationLiteralMarker front f refl refl h k)
-
-makes_raw_destination : (max : ℕ) → MakesTrees (raw_destination max resource_names)
-unfolding raw_destination
-makes_raw_destination max =
-    then_any _ _ _ λ text. yields_passed_if _ _ _ λ h. yields_gives _ _ (raw text (not-true (is_empty text) h))
-  where
-    raw : (text : List Code) → is_empty text ≡ false →
-        made false (group Name.ResourceDestination (group Name.ResourceDestinationRaw (group Name.ResourceDestinationString (linked Name.Data text)))) ≡ true
-    raw [] k = cc
-    raw (c ∷ cs) k =
-        made-group false Name.ResourceDestination (group Name.ResourceDestinationRaw (group Name.ResourceDestinationString (linked Name.Data (c ∷ cs)))) refl refl
-        (made-group false Name.ResourceDestinationRaw (group Name.ResourceDestinationString (linked Name.Data (c ∷ cs))) refl refl (made-group false Name.ResourceDestinationString (linked Name.Data (c ∷ cs)) refl refl refl))
-
-makes_destination : (max : ℕ) → MakesTrees (destination max resource_names)
-unfolding destination
-makes_destination max = yields_next _ _ _ _ makes_literal_destination (makes_raw_destination max)
-
-makes_spaced_title : (both : Bool) → MakesTrees (spaced_title both)
-unfolding spaced_title
-makes_spaced_title both =
-    yields_bind IsMadeTree _ _ _ (yields_before _ _ _ (makes_spacing None)) λ space h. yields_bind IsMadeTree _ _ _ (makes_title both) λ text k.
-    yields_bind IsMadeTree _ _ _ (makes_optional _ (makes_spacing None)) λ back l. yields_gives _ _ (simp (made_laws, h, k, l))
-
-makes_destination_and_title : (both : Bool) → MakesTrees (destination_and_title both)
-unfolding destination_and_title
-makes_destination_and_title both =
-    yields_bind IsMadeTree _ _ _ (makes_destination 32) λ target h.
-    yields_bind IsMadeTree _ _ _ (yields_either _ _ _ (makes_spaced_title both) (makes_optional _ (makes_spacing None))) λ after k. yields_gives _ _ (simp (made_laws, h, k))
-
-makes_resource : (both : Bool) → MakesTrees (resource both)
-unfolding resource
-makes_resource both =
-    yields_bind IsSome _ _ _ (one-gives _) λ front e. yields_bind IsMadeTree _ _ _ (makes_optional _ (makes_spacing None)) λ space h.
-    yields_bind IsMadeTree _ _ _ (yields_next _ _ _ _ (yields_gives _ _ refl) (makes_destination_and_title both)) λ inside k.
-    then_any _ _ _ λ back. yields_gives _ _ (made-front Name.Resource Name.ResourceMarker front (space ⊕ inside ⊕ leaf Name.ResourceMarker back) refl refl e (simp (made_laws, h, k)))
-
-makes_full_reference : (s : Setting) → MakesTrees (full_reference s)
-unfolding full_reference
-makes_full_reference s = yields_bind IsMadeTree _ _ _ (makes_label _) λ tree h. yields_passed _ _ _ (yields_gives _ _ h)
-
-makes_collapsed_reference : MakesTrees collapsed_reference
-unfolding collapsed_reference
-makes_collapsed_reference =
-    yields_bind IsSome _ _ _ (one-gives _) λ front h. then_any _ _ _ λ back. yields_gives _ _ (made-front Name.Reference Name.ReferenceMarker front (leaf Name.ReferenceMarker back) refl refl h (simp made_laws))
-
-makes_shortcut : (defined : Bool) → MakesTrees (shortcut defined)
-unfolding shortcut
-makes_shortcut defined = yields_passed _ _ _ (yields_gives _ _ refl)
+made-raw : (text : List Code) → IsSome text →
+    IsMadeTree (group Name.ResourceDestinationRaw (group Name.ResourceDestinationString (linked Name.Data text)))
+made-raw text h0 = grind (arith, made-group)
 
 pub makes_after_label : (s : Setting) (defined : Bool) → MakesTrees (after_label s defined)
-unfolding after_label reference_after_label shortcut_before_bracket
-makes_after_label s defined =
-    yields_next _ _ _ _ (yields_either _ _ _ (makes_resource _) (makes_shortcut defined))
-    (yields_next _ _ _ _
-    (yields_either _ _ _ (makes_full_reference s) (yields_either _ _ _ (yields_passed _ _ _ makes_collapsed_reference) (yields_unless _ _ _ (makes_shortcut _))))
-    (makes_shortcut defined))
+makes_after_label s defined = of_after_label IsMadeTree after_labels s defined
+  where
+    after_labels : PassesAfterLabels IsMadeTree
+    after_labels = record {
+      none = refl;
+      rows = λ t u h k. made-join false t u ∙ (λ i. h i && k i);
+      space = made-space None;
+      ending = made-ending None;
+      label = λ front f e h. made-front Name.Reference Name.ReferenceMarker front f refl refl e h;
+      label_text = made-reference_string;
+      label_end = λ cs. made-leaf false Name.ReferenceMarker cs;
+      titled = λ front f e h. made-front Name.ResourceTitle Name.ResourceTitleMarker front f refl refl e h;
+      title_text = made-title_string;
+      title_end = λ cs. made-leaf false Name.ResourceTitleMarker cs;
+      literal = λ front f e h. made-front Name.ResourceDestinationLiteral Name.ResourceDestinationLiteralMarker front f refl refl e h;
+      literal_text = made-destination_string;
+      literal_end = λ cs. made-leaf false Name.ResourceDestinationLiteralMarker cs;
+      raw = made-raw;
+      target = λ f e h. made-group false Name.ResourceDestination f refl e h;
+      whole = λ front f e h. made-front Name.Resource Name.ResourceMarker front f refl refl e h;
+      whole_end = λ cs. made-leaf false Name.ResourceMarker cs;
+    }

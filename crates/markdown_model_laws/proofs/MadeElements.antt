@@ -1,6 +1,6 @@
 -- What is made of the elements of a content: each leaf has a code and is no email literal, each group but the text of a label reaches from where its first
 -- tree begins to where its last one ends, none is a pair's, and an autolink holds leaves of its own.
-use Rattle.std.proofs.Common.{◌≡◌, ℕ, true, false, ◌&&◌, ◌||◌, not, List, [], ◌∷◌, length, drop, refl, ◌∙◌, Option, Some, None, ap}
+use Rattle.std.proofs.Common.{◌≡◌, ℕ, true, false, ◌&&◌, ◌||◌, not, List, [], ◌∷◌, length, drop, refl, ◌∙◌, Option, Some, None, ap, arith}
 use Rattle.std.proofs.lemmas.Bool.{and_parts}
 use Rattle.std.proofs.Math.Bool.{or-true}
 use Rattle.markdown_event.specs.declared.event.Name.{Name}
@@ -20,7 +20,8 @@ use Rattle.markdown_model.proofs.NoLinkInConstructs.{PassesValue, Yields, yields
 use Rattle.markdown_model.specs.CodeTests.{is_empty}
 use Rattle.markdown_model_laws.specs.EmailsInData.{is_email}
 use Rattle.markdown_model_laws.specs.TreesFilled.{is_label_text}
-use Rattle.markdown_model_laws.proofs.MadeConstructs.{is_single, made, reaches, made-join, made-leaf, made-group, IsSome, IsMadeTree, some-not-empty, one-gives, plain-made, makes_after_label}
+use Rattle.markdown_model_laws.proofs.AfterLabelTrees.{IsSome, one-gives}
+use Rattle.markdown_model_laws.proofs.MadeConstructs.{is_single, made, reaches, made-join, made-leaf, made-group, IsMadeTree, some-not-empty, plain-made, makes_after_label}
 use Rattle.markdown_model.proofs.PlainConstructs.{IsPlainTree, ReadsPlain}
 
 -- Elements.
@@ -111,30 +112,17 @@ made-both : (a b : Forest) → IsLabelled a → IsLabelled b → IsLabelled (a �
 made-both a b h k = made-join true a b ∙ (λ i. h i && k i)
 
 single-label : (kind : LabelKind) (f : Forest) → is_single (label_name kind) f ≡ true
-single-label LabelKind.Image f = refl
-single-label LabelKind.Link f = refl
-single-label LabelKind.GfmFootnote f = refl
-single-label LabelKind.GfmUndefinedFootnote f = refl
+single-label kind f = grind arith
 
 made-start : (kind : LabelKind) (c : Code) (cs : List Code) → IsLabelled (start_tree kind (start_marker kind (c ∷ cs)))
-made-start LabelKind.Image c cs =
-    made-group true Name.LabelImage (leaf_then Name.LabelImageMarker None (c ∷ []) (leaf Name.LabelMarker cs)) refl refl (made-leaf true Name.LabelMarker cs)
-made-start LabelKind.GfmFootnote c cs =
-    made-group true Name.GfmFootnoteCallLabel (leaf_then Name.LabelMarker None (c ∷ []) (leaf Name.GfmFootnoteCallMarker cs)) refl refl (made-leaf true Name.GfmFootnoteCallMarker cs)
-made-start LabelKind.Link c cs =
-    made-group true Name.LabelLink (leaf_then Name.LabelMarker None (c ∷ cs) empty) refl refl refl
-made-start LabelKind.GfmUndefinedFootnote c cs =
-    made-group true Name.LabelLink (leaf_then Name.LabelMarker None (c ∷ []) empty) refl refl refl
+made-start kind c cs = grind (arith, made-group, made-leaf)
 
 made-end : (back : List Code) → IsSome back → IsLabelled (group Name.LabelEnd (leaf Name.LabelMarker back))
 made-end [] h = cc
 made-end (c ∷ cs) h = made-group true Name.LabelEnd (leaf_then Name.LabelMarker None (c ∷ cs) empty) refl refl refl
 
 start-some : (kind : LabelKind) (cs : List Code) (g : Forest) → is_nothing (start_tree kind cs ⊕ g) ≡ false
-start-some LabelKind.Image cs g = refl
-start-some LabelKind.GfmFootnote cs g = refl
-start-some LabelKind.Link cs g = refl
-start-some LabelKind.GfmUndefinedFootnote cs g = refl
+start-some kind cs g = grind arith
 
 made-text : (a b : Point) (f : Forest) → IsLabelled f → IsLabelled (text_group Name.LabelText a b f)
 made-text a b f h = λ i. h i && true

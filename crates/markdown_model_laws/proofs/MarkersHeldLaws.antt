@@ -1,5 +1,5 @@
 -- Each marker of a run is a marker of a pair, data, or part of an email literal.
-use Rattle.std.proofs.Common.{◌≡◌, ℕ, suc, ◌==◌, Bool, true, false, ◌&&◌, ◌||◌, List, [], ◌∷◌, ◌++◌, length, reverse, map, refl, sym, ap, subst, ◌∙◌, arith, append_assoc, append-nil, None, not}
+use Rattle.std.proofs.Common.{◌≡◌, ℕ, suc, ◌==◌, Bool, true, false, ◌&&◌, ◌||◌, List, [], ◌∷◌, ◌++◌, length, reverse, map, refl, sym, ap, subst, ◌∙◌, arith, append_assoc, append-nil, None}
 use Rattle.std.specs.List.{list_all}
 use Rattle.std.proofs.lemmas.Bool.{both_ways, and_parts}
 use Rattle.std.proofs.lemmas.Bool.Decides.{nat_tests}
@@ -14,13 +14,12 @@ use Rattle.markdown_event.specs.declared.event.Name.{Name}
 use Rattle.markdown_content.specs.Codes.{Code, is_blank}
 use Rattle.markdown_content.specs.Tree.{Forest, empty, leaf_then, group_then, leaf, ◌⊕◌, leaf_codes}
 use Rattle.markdown_model.specs.CodeTests.{is_value}
-use Rattle.markdown_model.specs.Grammar.{span}
 use Rattle.markdown_model.specs.GfmEmailLiteral.{with_emails}
 use Rattle.markdown_model.specs.Setting.{Setting, within}
 use Rattle.markdown_model.specs.Runs.{Run, run_of, runs_of, marker_of}
 use Rattle.markdown_model.specs.Pairs.{Pair, pair_list}
 use Rattle.markdown_model.specs.BracketGroups.{Token, pair_names, pair_group, run_tokens, assembled, tokens_of, paired}
-use Rattle.markdown_model.specs.Passes.{HardBreaks, breaks_where, breaks, data_onto, merged, begins_line_ending, is_nothing, blank_name, trimmed_data, trimmed, with_emails_apart}
+use Rattle.markdown_model.specs.Passes.{HardBreaks, breaks_where, breaks, data_onto, merged, begins_line_ending, is_nothing, trimmed_data, trimmed, with_emails_apart}
 use Rattle.markdown_model.specs.InlineTree.{label_tree}
 use Rattle.markdown_model.specs.Laws.{is_run}
 use Rattle.markdown_model.proofs.PassesKeepCodes.{codes-trimmed_data, codes-run_of}
@@ -106,11 +105,7 @@ kept-same [] = tt
 kept-same (x ∷ xs) = (refl, (λ e f. e), kept-same xs)
 
 held-kept : (xs ys zs : MarkedCodes) → AreHeld xs ys → KeepMarks ys zs → AreHeld xs zs
-held-kept [] [] zs h k = by_codes zs k
-  where
-    by_codes : (ws : MarkedCodes) → KeepMarks [] ws → AreHeld [] ws
-    by_codes [] l = tt
-    by_codes (w ∷ ws) l = l
+held-kept [] [] zs h k = grind arith
 held-kept [] (y ∷ ys) zs h k = absurd h
 held-kept (x ∷ xs) [] zs h k = absurd h
 held-kept (x ∷ xs) (y ∷ ys) [] h k = absurd k
@@ -276,33 +271,7 @@ blank-reverse (c ∷ cs) h =
     ap (list_all is_blank) (reverse-append (c ∷ []) cs) ∙ list_all-append is_blank (reverse cs) (c ∷ []) ∙ (λ i. blank-reverse cs p.1 i && (p.0 i && true))
 
 either-data : (front back : Bool) (hard : HardBreaks) (cs : List Code) → AreBlankOrMarked (held (trimmed_data front back hard cs))
-either-data front back hard cs = three Name.SpaceOrTab (blank_name hard (reverse cut.0)) lead.0 lead.1 (reverse cut.0) (lead-blank front (reverse cut.1)) (blank-reverse cut.0 (cut-blank (back && not hard.keeps) cs))
-  where
-    cut : List Code × List Code
-    cut = elim (back && not hard.keeps) [ true ↦ span is_blank (reverse cs) | false ↦ ([], reverse cs) ]
-
-    lead : List Code × List Code
-    lead = elim front [ true ↦ span is_blank (reverse cut.1) | false ↦ ([], reverse cut.1) ]
-
-    lead-blank : (b : Bool) (ds : List Code) →
-        list_all is_blank (elim b as (λ _. List Code × List Code) [ true ↦ span is_blank ds | false ↦ ([], ds) ]).0 ≡ true
-    lead-blank true ds = span-all is_blank ds
-    lead-blank false ds = refl
-
-    cut-blank : (b : Bool) (ds : List Code) →
-        list_all is_blank (elim b as (λ _. List Code × List Code) [ true ↦ span is_blank (reverse ds) | false ↦ ([], reverse ds) ]).0 ≡ true
-    cut-blank true ds = span-all is_blank (reverse ds)
-    cut-blank false ds = refl
-
-    three : (a c : Name) (xs ys zs : List Code) → list_all is_blank xs ≡ true → list_all is_blank zs ≡ true →
-        AreBlankOrMarked (held (leaf a xs ⊕ leaf Name.Data ys ⊕ leaf c zs))
-    three a c xs ys zs h k =
-        subst AreBlankOrMarked
-        (sym
-        (by-join may_hold_marker (leaf a xs) (leaf Name.Data ys ⊕ leaf c zs)
-        ∙ (λ i. by-leaf may_hold_marker a xs i ++ (by-join may_hold_marker (leaf Name.Data ys) (leaf c zs) ∙ (λ j. by-leaf may_hold_marker Name.Data ys j ++ by-leaf may_hold_marker c zs j)) i)))
-        (either-append (marked (may_hold_marker a) xs) (marked true ys ++ marked (may_hold_marker c) zs) (either-blank (may_hold_marker a) xs h)
-        (either-append (marked true ys) (marked (may_hold_marker c) zs) (either-marked ys) (either-blank (may_hold_marker c) zs k)))
+either-data front back hard cs = grind (arith, blank-reverse, span-all, by-join, by-leaf, either-append, either-blank, either-marked)
 
 kept-data : (front back : Bool) (hard : HardBreaks) (cs : List Code) →
     KeepMarks (marked true cs) (held (trimmed_data front back hard cs))

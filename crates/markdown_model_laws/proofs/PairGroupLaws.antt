@@ -144,21 +144,11 @@ closed_from n (p ∷ ps) = (if nat_le n p.closer then 1 else 0) + closed_from n 
 
 length-closing : (i : ℕ) (p : Pair) (ps : List Pair) →
     length (closing_sizes i (p ∷ ps)) ≡ (if p.closer == i then 1 else 0) + length (closing_sizes i ps)
-length-closing i p ps = by_test (p.closer == i)
-  where
-    by_test : (b : Bool) →
-        length (elim b as (λ _. List ℕ) [ true ↦ p.size ∷ closing_sizes i ps | false ↦ closing_sizes i ps ]) ≡ (if b then 1 else 0) + length (closing_sizes i ps)
-    by_test true = omega arith
-    by_test false = omega arith
+length-closing i p ps = grind arith
 
 length-opening : (i : ℕ) (p : Pair) (ps : List Pair) →
     length (opening_sizes i (p ∷ ps)) ≡ (if p.opener == i then 1 else 0) + length (opening_sizes i ps)
-length-opening i p ps = by_test (p.opener == i)
-  where
-    by_test : (b : Bool) →
-        length (elim b as (λ _. List ℕ) [ true ↦ p.size ∷ opening_sizes i ps | false ↦ opening_sizes i ps ]) ≡ (if b then 1 else 0) + length (opening_sizes i ps)
-    by_test true = omega arith
-    by_test false = omega arith
+length-opening i p ps = grind arith
 
 one-balance : (o c n : ℕ) → o < c →
     (if nat_lt o n && nat_le n c then 1 else 0) + (if o == n then 1 else 0) ≡ (if nat_lt o (suc n) && nat_le (suc n) c then 1 else 0) + (if c == n then 1 else 0)

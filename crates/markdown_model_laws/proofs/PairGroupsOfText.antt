@@ -122,19 +122,7 @@ module _ (P : List Code → List Code → Type 0) where
     said : P front back
 
   sides-of : (f : Forest) → HasSides P f → Sides f
-  sides-of (leaf_then name None front (group_then text enter exit inside (leaf_then other None back empty))) h = record {
-    name = name;
-    front = front;
-    back = back;
-    text = text;
-    enter = enter;
-    exit = exit;
-    inside = inside;
-    is = λ i. leaf_then name None front (group_then text enter exit inside (leaf_then (sym h.1 i) None back empty));
-    sequence = h.0;
-    said = h.2;
-  }
-  sides-of f h = absurd h
+  sides-of f h0 = grind arith
 
   -- a pass that keeps sequences, and groups whatever it makes of what they have inside
   record KeepsSides (pass : Forest → Forest) : Type 0 where

@@ -1,5 +1,5 @@
 -- The places of a tree with its pairs grouped: wherever those of the tree go on, so do these.
-use Rattle.std.proofs.Common.{◌≡◌, ◌≢◌, ℕ, suc, List, [], ◌∷◌, ◌++◌, length, refl, sym, ap, subst, ◌∙◌, append_assoc, append-nil, inl, inr}
+use Rattle.std.proofs.Common.{◌≡◌, ◌≢◌, ℕ, suc, List, [], ◌∷◌, ◌++◌, length, refl, sym, ap, subst, ◌∙◌, append_assoc, append-nil, inl, inr, arith}
 use Rattle.markdown_content.specs.Codes.{Code, place_of, stop_of}
 use Rattle.markdown_content.specs.Tree.{Forest, empty, leaf_then, group_then, leaf, group, text_group, ◌⊕◌, enter_of, exit_after}
 use Rattle.markdown_event.specs.declared.event.Name.{Name}
@@ -11,7 +11,7 @@ use Rattle.markdown_model.specs.Setting.{Setting}
 use Rattle.markdown_model.proofs.PassesKeepCodes.{codes-run_of}
 use Rattle.markdown_model.proofs.BracketSums.{Adds, sum_of, sum-joined, sum-append}
 use Rattle.markdown_model.proofs.PairSums.{token_sum, token-append, sum-run}
-use Rattle.markdown_model_laws.proofs.MadeConstructs.{IsSome}
+use Rattle.markdown_model_laws.proofs.AfterLabelTrees.{IsSome}
 use Rattle.markdown_model_laws.proofs.PlacesInOrder.{BytePlace, last_of, Allows, allows-itself, allows-then, allows-join, allows-behind}
 use Rattle.markdown_model_laws.proofs.TreePlaces.{ends_of, ends-join, ends-last, places_of, places-join, places-leaf, places-around, places-between, EndsAtPoint, begins-leaf}
 
@@ -118,11 +118,7 @@ nest_places r = all_places r.0 ++ frame_places r.1
 onto-allows : (o : List Code) (inside : List Forest) (more : PlaceFrames) (source : List BytePlace) → IsSome o → AreFilledFrames more → Allows source (all_places inside ++ frame_places more)
     → let r : List Forest × PlaceFrames = onto pair_group loose loose o inside more in
     Allows (ends_of o ++ source) (nest_places r) × AreFilledFrames r.1
-onto-allows o inside [] source h k g = (
-  subst (Allows (ends_of o ++ source)) (ap (λ x. x ++ (all_places inside ++ [])) (sym (places-leaf Name.Data o)) ∙ sym (append_assoc (places_of (leaf Name.Data o)) (all_places inside) []))
-      (allows-behind (ends_of o) source (all_places inside ++ []) g),
-  tt,
-)
+onto-allows o inside [] source h k g = grind (arith, places-leaf, append_assoc, allows-behind)
 onto-allows o inside (c ∷ more) source h k g = (
   allows-then (ends_of o ++ source) (ends_of o ++ (all_places inside ++ (ends_of c.0 ++ rest))) (all_places (pair_group o inside c.0 ++ c.1) ++ frame_places more)
       (allows-behind (ends_of o) source (all_places inside ++ (ends_of c.0 ++ rest)) g)

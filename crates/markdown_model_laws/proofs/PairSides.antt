@@ -12,10 +12,10 @@ use Rattle.markdown_model.proofs.GivenNames.{pair-named}
 use Rattle.markdown_event.specs.declared.event.Name.{Name}
 use Rattle.markdown_content.specs.Codes.{Code}
 use Rattle.markdown_content.specs.Tree.{Forest, empty, leaf_then, group_then, leaf, ◌⊕◌, leaf_codes}
-use Rattle.markdown_model.specs.CodeTests.{is_value, is_empty}
+use Rattle.markdown_model.specs.CodeTests.{is_value}
 use Rattle.markdown_model.specs.Setting.{Setting, within}
 use Rattle.markdown_model.specs.Runs.{Run, runs_of, run_of, marker_of, rows_inside, rows_of, containers_of}
-use Rattle.markdown_model.specs.Pairs.{Pair, run_at, remaining, taken_by, is_strictly_within, pair_list, ArePairsFrom}
+use Rattle.markdown_model.specs.Pairs.{Pair, run_at, taken_by, is_strictly_within, pair_list, ArePairsFrom}
 use Rattle.markdown_model.specs.BracketGroups.{Token, item, opens, closes, nest, onto, after_loose, joined, loose, pair_names, pair_group, closing_sizes, opening_sizes, cut_front, run_tokens, assembled, tokens_of, paired}
 use Rattle.markdown_model.specs.Passes.{is_nothing}
 use Rattle.markdown_model.proofs.PassesKeepCodes.{codes-run_of}
@@ -46,13 +46,7 @@ module _ (P : List Code → List Code → Type 0) where
   right-leaf name (c ∷ cs) = (tt, filled-leaf name (c ∷ cs))
 
   pub pairs : HoldsByParts (EachPairHas P) (λ name link cs. Unit {0}) (λ name a b inside. is_pair name ≡ true → HasSides P inside)
-  pairs = record {
-    none = tt;
-    leaf_of = λ name link cs rest h. (tt, h);
-    leaf_to = λ name link cs rest l h. h;
-    group_of = λ name a b inside rest h. h;
-    group_to = λ name a b inside rest g h k. (g, h, k);
-  }
+  pairs = grind arith
 
   pub pairs-join : (a b : Forest) → EachPairHas P a → EachPairHas P b → EachPairHas P (a ⊕ b)
   pairs-join a b h k = walks-row pairs a b h k
@@ -65,17 +59,7 @@ module _ (P : List Code → List Code → Type 0) where
 
   right-group : (front : List Code) (inside : List Forest) (back : List Code) → 0 < length front → 0 < length back → P front back → is_nothing (joined inside) ≡ false → AllRight inside
       → AllRight (pair_group front inside back)
-  right-group [] inside back h k l m r = absurd (omega (arith, h))
-  right-group (c ∷ cs) inside [] h k l m r = absurd (omega (arith, k))
-  right-group (c ∷ cs) inside (d ∷ ds) h k l m r =
-      let n = named (marker_of (c ∷ cs)) (length (c ∷ cs)) in
-      let f = right-joined inside r in (
-        (
-          ((λ _. (n.sequence, refl, l)), ((λ e. absurd (both_ways (is_pair (pair_names (marker_of (c ∷ cs)) (length (c ∷ cs))).2) n.text e)), f.0, tt), tt),
-          ((λ e. cc), (refl, ((λ e. absurd (both_ways (is_nothing (joined inside)) m e)), f.1, (refl, tt))), tt),
-        ),
-        tt,
-      )
+  right-group front inside back h0 h1 h2 h3 h4 = grind (arith, named, right-joined, both_ways)
 
 -- Codes among others.
 
@@ -88,10 +72,7 @@ record IsSide (whole : List Code) (p : Pair) (cs : List Code) : Type 0 where
 
 part-marker : (m : ℕ) (before part after : List Code) → list_all (is_value m) (before ++ (part ++ after)) ≡ true →
     0 < length part → marker_of part ≡ m
-part-marker m before [] after h k = absurd (omega (arith, k))
-part-marker m before (c ∷ cs) after h k =
-    let all = and_parts (list_all (is_value m) before) (list_all (is_value m) ((c ∷ cs) ++ after)) (sym (list_all-append (is_value m) before ((c ∷ cs) ++ after)) ∙ h) in
-    eqb-true c.value m (and_parts (is_value m c) (list_all (is_value m) (cs ++ after)) all.1).0
+part-marker m before part after h0 h1 = grind (arith, and_parts, list_all-append, eqb-true)
 
 -- Lists of pairs.
 
@@ -171,41 +152,21 @@ opening i (p ∷ ps) = if_so (p.opener == i) p (opening i ps)
 
 closing-is : (i : ℕ) (ps : List Pair) → closing_sizes i ps ≡ sizes_of (closing i ps)
 closing-is i [] = refl
-closing-is i (p ∷ ps) = by_test (p.closer == i) (closing-is i ps)
-  where
-    by_test : (b : Bool) → closing_sizes i ps ≡ sizes_of (closing i ps) →
-        (elim b as (λ _. List ℕ) [ true ↦ p.size ∷ closing_sizes i ps | false ↦ closing_sizes i ps ]) ≡ sizes_of (if_so b p (closing i ps))
-    by_test true e = ap (λ ns. p.size ∷ ns) e
-    by_test false e = e
+closing-is i (p ∷ ps) = grind (arith, closing-is i ps)
 
 opening-is : (i : ℕ) (ps : List Pair) → opening_sizes i ps ≡ sizes_of (opening i ps)
 opening-is i [] = refl
-opening-is i (p ∷ ps) = by_test (p.opener == i) (opening-is i ps)
-  where
-    by_test : (b : Bool) → opening_sizes i ps ≡ sizes_of (opening i ps) →
-        (elim b as (λ _. List ℕ) [ true ↦ p.size ∷ opening_sizes i ps | false ↦ opening_sizes i ps ]) ≡ sizes_of (if_so b p (opening i ps))
-    by_test true e = ap (λ ns. p.size ∷ ns) e
-    by_test false e = e
+opening-is i (p ∷ ps) = grind (arith, opening-is i ps)
 
 all-closing : (R : Pair → Type 0) (i : ℕ) (ps : List Pair) → AllOf R ps →
     AllOf (λ p. R p × (p.closer ≡ i)) (closing i ps)
 all-closing R i [] h = tt
-all-closing R i (p ∷ ps) h = by_test (p.closer == i) refl (all-closing R i ps h.1)
-  where
-    by_test : (b : Bool) → (p.closer == i) ≡ b → AllOf (λ q. R q × (q.closer ≡ i)) (closing i ps) →
-        AllOf (λ q. R q × (q.closer ≡ i)) (if_so b p (closing i ps))
-    by_test true e k = ((h.0, eqb-true p.closer i e), k)
-    by_test false e k = k
+all-closing R i (p ∷ ps) h = grind (arith, all-closing R i ps h.1, eqb-true)
 
 all-opening : (R : Pair → Type 0) (i : ℕ) (ps : List Pair) → AllOf R ps →
     AllOf (λ p. R p × (p.opener ≡ i)) (opening i ps)
 all-opening R i [] h = tt
-all-opening R i (p ∷ ps) h = by_test (p.opener == i) refl (all-opening R i ps h.1)
-  where
-    by_test : (b : Bool) → (p.opener == i) ≡ b → AllOf (λ q. R q × (q.opener ≡ i)) (opening i ps) →
-        AllOf (λ q. R q × (q.opener ≡ i)) (if_so b p (opening i ps))
-    by_test true e k = ((h.0, eqb-true p.opener i e), k)
-    by_test false e k = k
+all-opening R i (p ∷ ps) h = grind (arith, all-opening R i ps h.1, eqb-true)
 
 all-as : (R T : Pair → Type 0) → ((p : Pair) → R p → T p) → (ps : List Pair) → AllOf R ps → AllOf T ps
 all-as R T f [] h = tt
@@ -254,17 +215,7 @@ module _ (s : Setting) (runs : List Run) (end : ℕ) where
   ordered : (earlier : List Pair) (last : ℕ) (ps : List Pair) → ArePairsFrom s runs end earlier last ps →
       AreOrderedPairs (length runs) ps
   ordered earlier last [] h = tt
-  ordered earlier last (p ∷ ps) h =
-      (size, h.0.eligible.in_order, h.0.eligible.in_container, later p (earlier ++ p ∷ []) p.closer ps (omega arith) (λ i e. (within_push earlier p i e).1) h.1, ordered (earlier ++ p ∷ []) p.closer ps h.1)
-    where
-      opener : 0 < remaining runs earlier p.opener
-      opener = h.0.eligible.opener_left
-
-      closer : 0 < remaining runs earlier p.closer
-      closer = h.0.eligible.closer_left
-
-      size : 0 < p.size
-      size = rw h.0.size (omega (arith, opener, closer))
+  ordered earlier last (p ∷ ps) h = grind (arith, later, within_push, ordered (earlier ++ p ∷ []) p.closer ps h.1)
 
   abbrev HasOneMarker : Pair → Type 0
   HasOneMarker p = marker_of (run_at runs p.opener).codes ≡ marker_of (run_at runs p.closer).codes
@@ -313,53 +264,15 @@ no-opening n p (q ∷ qs) h l m = λ i. if_so (other p.opener p.closer q.opener 
 -- one more pair on two of three lists, or on none
 split-step : (a b c : Bool) (p : Pair) (xs ys zs : List Pair) → xs ≡ ys ++ zs → (b ≡ true → (a ≡ true) × (c ≡ false)) → (b ≡ false → a ≡ c) → (c ≡ true → ys ≡ [])
     → if_so a p xs ≡ if_so b p ys ++ if_so c p zs
-split-step true true false p xs ys zs e f g h = ap (λ x. p ∷ x) e
-split-step true true true p xs ys zs e f g h = absurd (both_ways true (f refl).1 refl)
-split-step false true c p xs ys zs e f g h = absurd (both_ways false refl (f refl).0)
-split-step true false true p xs ys zs e f g h =
-    ap (λ x. p ∷ x) (e ∙ ap (λ y. y ++ zs) (h refl)) ∙ ap (λ y. y ++ p ∷ zs) (sym (h refl))
-split-step false false false p xs ys zs e f g h = e
-split-step true false false p xs ys zs e f g h = absurd (both_ways true (g refl) refl)
-split-step false false true p xs ys zs e f g h = absurd (both_ways true (sym (g refl)) refl)
+split-step a b c p xs ys zs h0 h1 h2 h3 = grind (arith, both_ways)
 
 close-split : (n m : ℕ) (ps : List Pair) → AreOrderedPairs m ps → open_pairs n ps ≡ closing n ps ++ across n ps
 close-split n m [] h = refl
-close-split n m (p ∷ ps) h =
-    split-step (nat_lt p.opener n && nat_le n p.closer) (p.closer == n) (nat_lt p.opener n && nat_le (suc n) p.closer) p (open_pairs n ps) (closing n ps) (across n ps)
-    (close-split n m ps h.4) (λ e. (here p.opener p.closer h.1 e, gone p.opener p.closer e)) (λ e. same p.opener p.closer e) (λ e. no-closing n p ps h.3 (after p.opener p.closer e))
-  where
-    here : (o c : ℕ) → o < c → c == n ≡ true → (nat_lt o n && nat_le n c) ≡ true
-    here o c l e = grind (arith, nat_tests)
-
-    gone : (o c : ℕ) → c == n ≡ true → (nat_lt o n && nat_le (suc n) c) ≡ false
-    gone o c e = grind (arith, nat_tests)
-
-    same : (o c : ℕ) → c == n ≡ false → (nat_lt o n && nat_le n c) ≡ (nat_lt o n && nat_le (suc n) c)
-    same o c e = grind (arith, nat_tests)
-
-    after : (o c : ℕ) → (nat_lt o n && nat_le (suc n) c) ≡ true → n < c
-    after o c e = grind (arith, nat_tests)
+close-split n m (p ∷ ps) h = grind (arith, split-step, close-split n m ps h.4, no-closing, nat_tests)
 
 open-split : (n m : ℕ) (ps : List Pair) → AreOrderedPairs m ps → open_pairs (suc n) ps ≡ opening n ps ++ across n ps
 open-split n m [] h = refl
-open-split n m (p ∷ ps) h =
-    split-step (nat_lt p.opener (suc n) && nat_le (suc n) p.closer) (p.opener == n) (nat_lt p.opener n && nat_le (suc n) p.closer) p (open_pairs (suc n) ps) (opening n ps) (across n ps)
-    (open-split n m ps h.4) (λ e. (here p.opener p.closer h.1 e, gone p.opener p.closer e)) (λ e. same p.opener p.closer e) (λ e. no-opening n p ps h.3 (before p.opener p.closer e) (after p.opener p.closer e))
-  where
-    here : (o c : ℕ) → o < c → o == n ≡ true → (nat_lt o (suc n) && nat_le (suc n) c) ≡ true
-    here o c l e = grind (arith, nat_tests)
-
-    gone : (o c : ℕ) → o == n ≡ true → (nat_lt o n && nat_le (suc n) c) ≡ false
-    gone o c e = grind (arith, nat_tests)
-
-    same : (o c : ℕ) → o == n ≡ false → (nat_lt o (suc n) && nat_le (suc n) c) ≡ (nat_lt o n && nat_le (suc n) c)
-    same o c e = grind (arith, nat_tests)
-
-    before : (o c : ℕ) → (nat_lt o n && nat_le (suc n) c) ≡ true → o < n
-    before o c e = grind (arith, nat_tests)
-
-    after : (o c : ℕ) → (nat_lt o n && nat_le (suc n) c) ≡ true → n < c
-    after o c e = grind (arith, nat_tests)
+open-split n m (p ∷ ps) h = grind (arith, split-step, open-split n m ps h.4, no-opening, nat_tests)
 
 none-open : (ps : List Pair) → open_pairs 0 ps ≡ []
 none-open [] = refl
@@ -468,19 +381,7 @@ module _ (s : Setting) (tree : Forest) (runs : List Run) (container : Contains (
       → AllRight P inside → AreSideFrames (p ∷ pending) more →
       let r : List Forest × SideFrames = onto pair_group loose loose o inside more in
       AllRight P r.0 × AreSideFrames pending r.1
-  word-onto o inside [] p pending q h next r k = absurd k
-  word-onto o inside (c ∷ more) p pending q h next r k = (
-    all-append (IsRight P) (pair_group o inside c.0) c.1
-        (right-group P o inside c.0 (omega (arith, h.size, h.some)) (omega (arith, k.0.size, k.0.some)) (of-pair p o c.0 q h k.0) (by_test (is_nothing (joined inside)) refl) r) k.1,
-    k.2,
-  )
-    where
-      alike : marker_of c.0 == marker_of o ≡ true
-      alike = ap (λ x. x == marker_of o) (k.0.marker ∙ sym q.1 ∙ sym h.marker) ∙ eq-eqb (marker_of o) (marker_of o) refl
-
-      by_test : (b : Bool) → is_nothing (joined inside) ≡ b → is_nothing (joined inside) ≡ false
-      by_test true e = absurd (both_ways (marker_of c.0 == marker_of o) (next e) alike)
-      by_test false e = e
+  word-onto o inside more p pending h0 h1 h2 h3 h4 = grind (arith, all-append, right-group, of-pair, eq-eqb, both_ways)
 
   word-nest : (pending : List Pair) (w : List Token) → IsPairWord pending w →
       AllRight P (nest_pairs w).0 × AreSideFrames pending (nest_pairs w).1
@@ -587,17 +488,7 @@ module _ (s : Setting) (tree : Forest) (runs : List Run) (container : Contains (
 
     -- a token of the run is no empty data
     something : front.0 ≡ [] → take kept front.1 ≡ [] → back.0 ≡ [] → ⊥
-    something e f g = omega (arith, some r.codes stripe.some, left, ap (λ ps. total (sizes_of ps)) no-closer, length-take-le kept front.1 (omega arith), ap length f, total-sizes, ap total sizes-are, ap (λ ps. total (sizes_of ps)) no-opener)
-      where
-        some : (cs : List Code) → is_empty cs ≡ false → 0 < length cs
-        some [] h = cc
-        some (c ∷ cs) h = omega arith
-
-        no-closer : closing i pairs ≡ []
-        no-closer = no-sides closed (closing i pairs) (subst (λ cs. AreSides closed cs (closing i pairs)) e close-sides)
-
-        no-opener : reverse (opening i pairs) ≡ []
-        no-opener = no-sides opened (reverse (opening i pairs)) (subst (λ cs. AreSides opened cs (reverse (opening i pairs))) g open-sides)
+    something e f g = grind (arith, left, length-take-le, total-sizes, sizes-are, pairs, no-sides, close-sides, open-sides)
 
     next-run : (m : ℕ) (w : List Token) → (marker_of r.codes == m) ≡ false → NextIsNot m (run_tokens pairs i r ++ w)
     next-run m w h = by_parts front.0 (take kept front.1) back.0 (closing i pairs) close-sides closer-here something
@@ -646,13 +537,11 @@ module _ (s : Setting) where
     next-tokens : (f : Forest) (runs : List Run) (container : Contains (containers_of s tree) runs) (m n : ℕ) →
         HaveRunsFrom runs n f → HasApartRuns m f → NextIsNot m (words f runs n)
     unfolding tokens_of runs_of
-    next-tokens empty runs container m n k h = tt
     next-tokens (leaf_then Name.AttentionSequence link cs rest) runs container m n k h =
         let here : run_at runs n ≡ run_of s cs = k 0 n (omega arith) in
         next-run s tree runs container (pair_list s runs) (known-pairs runs) (all-sized (length runs) (pair_list s runs) (ordered-pairs runs)) n (run_of s cs) here (stripe-of cs h.0) (enough-markers runs n (run_of s cs) here) m
         (words rest runs (suc n)) (ap (λ x. marker_of x == m) (codes-run_of s cs) ∙ h.1)
-    next-tokens (leaf_then name link cs rest) runs container m n k h = tt
-    next-tokens (group_then name enter exit inside rest) runs container m n k h = tt
+    next-tokens f runs container m n k h = tt
 
     abbrev PairWordLaw : Forest → Type 0
     PairWordLaw f = (runs : List Run) (container : Contains (containers_of s tree) runs) (m n : ℕ) → HaveRunsFrom runs n f → n + length (runs_of s f) ≡ length runs → pair_groups f ≡ 0 → IsFilled f → HasApartRuns m f → HasContainersWithin f

@@ -1,5 +1,5 @@
 -- Codes of a content that stand one after another: one ends where the next begins, or ends a line.
-use Rattle.std.proofs.Common.{◌≡◌, ℕ, Bool, true, false, ◌&&◌, ◌⊎◌, inl, inr, List, [], ◌∷◌, ◌++◌, filter, refl, sym, ap, subst, ◌∙◌, append-nil}
+use Rattle.std.proofs.Common.{◌≡◌, ℕ, true, ◌&&◌, ◌⊎◌, inl, List, [], ◌∷◌, ◌++◌, refl, sym, ap, subst, ◌∙◌, append-nil, arith}
 use Rattle.std.proofs.lemmas.Bool.{and_parts}
 use Rattle.std.proofs.lemmas.List.Elements.{filter-append}
 use Rattle.markdown_event.specs.declared.event.Point.{Point}
@@ -8,7 +8,6 @@ use Rattle.markdown_content.specs.Codes.{Code, codes_of, document_start, is_at_o
 use Rattle.markdown_content.specs.Content.{content_of, piece_codes, is_piece, are_pieces, ends_line, is_one_line}
 use Rattle.markdown_content.specs.DocumentWalk.{codes_after}
 use Rattle.markdown_content.proofs.AdjacentCodes.{IsChain, before_in, from_in, before_in-none, chain-back, split-at}
-use Rattle.markdown_content.proofs.PlaceOrder.{is_before}
 use Rattle.markdown_content.proofs.DocumentPlaces.{chain-split, document-split, there, IsThere}
 use Rattle.markdown_content.proofs.ContentCodes.{piece-codes-is, piece_row, IsPieceRow, followed_by}
 
@@ -99,20 +98,7 @@ module _ (bytes : List ℕ) where
   first-of : (p : Point) (at : ℕ × ℕ) (cs : List Code) (d : Code) (ds : List Code) → IsChain p cs →
       before_in at cs ≡ d ∷ ds → d.start ≡ p
   first-of p at [] d ds h e = cc
-  first-of p at (c ∷ cs) d ds h e = by_test (is_code_before at c) refl
-    where
-      by_test : (b : Bool) → is_code_before at c ≡ b → d.start ≡ p
-      by_test true k =
-          let same : c ∷ before_in at cs ≡ d ∷ ds = sym (passed (λ x. is_code_before at x) c cs k) ∙ e in ap (λ (x : Code). x.start) (sym (heads same)) ∙ h.0
-        where
-          passed : (f : Code → Bool) (x : Code) (xs : List Code) → f x ≡ true → filter f (x ∷ xs) ≡ x ∷ filter f xs
-          passed f x xs l = rw l refl
-
-          heads : {x y : Code} {xs ys : List Code} → x ∷ xs ≡ y ∷ ys → x ≡ y
-          heads l = cc
-      by_test false k =
-          let none : before_in at (c ∷ cs) ≡ [] = before_in-none p (c ∷ cs) at h (ap (λ (q : Point). is_before (place_of q) at) (sym h.0) ∙ k) in
-          let no : [] ≡ d ∷ ds = sym none ∙ e in cc
+  first-of p at (c ∷ cs) d ds h e = grind (arith, before_in-none)
 
   begins-at : (piece : Piece) (d : Code) (ds : List Code) → IsThere bytes piece.start →
       piece_codes (codes_of bytes) piece ≡ d ∷ ds → place_of d.start ≡ piece.start
@@ -123,11 +109,7 @@ module _ (bytes : List ℕ) where
 
   last-follows : (p : ℕ × ℕ) (c : Code) (cs : List Code) (d : Code) (ds : List Code) → ends_line (c ∷ cs) ≡ true →
       place_of (stop_of c.stop cs) ≡ p → is_at_or_after p (place_of d.start) ≡ true → is_one_line bytes p (place_of d.start) ≡ true → Border (c ∷ cs) (d ∷ ds)
-  last-follows p c [] d ds h e after line = inr (record {
-    ending = h;
-    after = ap (λ (x : ℕ × ℕ). is_at_or_after x (place_of d.start)) e ∙ after;
-    line = ap (λ (x : ℕ × ℕ). is_one_line bytes x (place_of d.start)) e ∙ line;
-  })
+  last-follows p c [] d ds h e after line = grind arith
   last-follows p c (x ∷ cs) d ds h e after line = last-follows p x cs d ds h e after line
 
   no-codes : ends_line [] ≡ true → ⊥

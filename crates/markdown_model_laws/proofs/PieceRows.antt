@@ -25,11 +25,7 @@ ends-cons c (d ∷ cs) h = h
 -- what holds of a filtered list with a code in front and without it
 filtered : (P : List Code → Type 0) (f : Code → Bool) (d : Code) (cs : List Code) → P (d ∷ filter f cs) → P (filter f cs) →
     P (filter f (d ∷ cs))
-filtered P f d cs h k = by_test (f d)
-  where
-    by_test : (b : Bool) → P (cond b (d ∷ filter f cs) (filter f cs))
-    by_test true = h
-    by_test false = k
+filtered P f d cs h k = grind arith
 
 module _ (p q end : ℕ × ℕ) (h : is_before q p ≡ false) where
   abbrev EndsTheLine : List Code → Type 0
@@ -109,14 +105,7 @@ module _ (bytes : List ℕ) where
 
   pieces-from : (p : Piece) (ps : List Piece) → is_place bytes p.start ≡ true → is_place bytes p.end ≡ true → is_before p.end p.start ≡ false
       → are_pieces bytes ps ≡ true → is_followed p ps ≡ true → are_pieces bytes (p ∷ ps) ≡ true
-  pieces-from p ps h k order all f = by_rest ps all f
-    where
-      piece : is_piece bytes p ≡ true
-      piece = and_from (is_place bytes p.start && is_place bytes p.end) (is_at_or_after p.start p.end) (and_from (is_place bytes p.start) (is_place bytes p.end) h k) (not_past-back p.start p.end order)
-
-      by_rest : (qs : List Piece) → are_pieces bytes qs ≡ true → is_followed p qs ≡ true → are_pieces bytes (p ∷ qs) ≡ true
-      by_rest [] al l = and_from (is_piece bytes p && true) true (and_from (is_piece bytes p) true piece refl) refl
-      by_rest (n ∷ m) al l = and_from (is_piece bytes p && are_pieces bytes (n ∷ m)) (is_followed p (n ∷ m)) (and_from (is_piece bytes p) (are_pieces bytes (n ∷ m)) piece al) l
+  pieces-from p ps h k order all f = grind (arith, and_from, not_past-back)
 
   -- of two codes that follow each other, at the last of a list
   record Breaks (c : Code) (cs : List Code) (d : Code) : Type 0 where
@@ -224,20 +213,11 @@ module _ (B : ℕ × ℕ → Type 0) where
   AllBoth (p ∷ ps) = HoldsAtBothEnds p × AllBoth ps
 
   onto-both : (p : Piece) (qs : List Piece) → HoldsAtBothEnds p → AllBoth qs → AllBoth (onto_pieces p qs)
-  onto-both p [] h k = (h, tt)
-  onto-both p (q ∷ qs) h k = by_test (meets p q)
-    where
-      by_test : (t : Bool) → AllBoth (if t then record { start = p.start; end = q.end } ∷ qs else p ∷ q ∷ qs)
-      by_test true = ((h.0, k.0.1), k.1)
-      by_test false = (h, k)
+  onto-both p qs h0 h1 = grind arith
 
   joined-both : (ps : List Piece) → EachPieceMeets ps → AllBoth (joined_pieces ps)
   joined-both [] h = tt
-  joined-both (p ∷ ps) h = by_test (meets p p) refl (joined-both ps h.1)
-    where
-      by_test : (t : Bool) → meets p p ≡ t → AllBoth (joined_pieces ps) → AllBoth (if t then joined_pieces ps else onto_pieces p (joined_pieces ps))
-      by_test true m k = k
-      by_test false m k = onto-both p (joined_pieces ps) (h.0 m) k
+  joined-both (p ∷ ps) h = grind (arith, joined-both ps h.1, onto-both)
 
   all-both : (ps : List Piece) → AllBoth ps → All HoldsAtBothEnds ps
   all-both [] h = All-nil HoldsAtBothEnds

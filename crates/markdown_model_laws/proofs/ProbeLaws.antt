@@ -1,5 +1,5 @@
 -- The bounds on probes, by the codes of a content.
-use Rattle.std.proofs.Common.{◌≡◌, ℕ, zero, suc, ◌+◌, ◌*◌, ◌≤◌, Bool, true, false, List, [], ◌∷◌, ◌++◌, length, sum_by, if◌then◌else◌, refl, ap, ◌∙◌, arith, None}
+use Rattle.std.proofs.Common.{◌≡◌, ℕ, ◌+◌, ◌*◌, ◌≤◌, Bool, true, false, List, [], ◌∷◌, ◌++◌, length, sum_by, if◌then◌else◌, refl, ap, ◌∙◌, arith, None}
 use Rattle.std.specs.List.{count_by}
 use Rattle.std.proofs.lemmas.List.{length-append}
 use Rattle.std.proofs.lemmas.List.Sums.{sum_by-append, sum_by-cons}
@@ -115,11 +115,7 @@ module _ (s : Setting) where
   -- Any tree.
 
   for-each-pair : (p r : ℕ) → (r ≡ 0 → p ≡ 0) → p ≤ (r + p) * r
-  for-each-pair p zero h = omega (arith, h refl)
-  for-each-pair p (suc r) h = omega (arith, mul-le-mul_left (suc r + p) one-more)
-    where
-      one-more : 1 ≤ suc r
-      one-more = omega arith
+  for-each-pair p r h0 = grind (arith, mul-le-mul_left)
 
   tree-pairs : (f : Forest) → pair_count s f ≤ probe_bound s f
   tree-pairs f =

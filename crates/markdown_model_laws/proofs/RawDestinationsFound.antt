@@ -51,14 +51,7 @@ pub record RawFrom (max : ℕ) (slash : Bool) (depth : ℕ) (text rest : List Co
 -- Tests on values.
 
 by-parens : (P : ℕ → Type 0) (c : Code) → parens c ≡ true → P 40 → P 41 → P 92 → P c.value
-by-parens P c h p q r =
-    elim (or-parts (c.value == 40) _ h) [
-      | inl k ↦ subst P (sym (eqb-true c.value 40 k)) p
-      | inr k ↦ elim (or-parts (c.value == 41) _ k) [
-        | inl l ↦ subst P (sym (eqb-true c.value 41 l)) q
-        | inr l ↦ subst P (sym (eqb-true c.value 92 (or-last _ l))) r
-      ]
-    ]
+by-parens P c h p q r = grind (arith, or-parts, eqb-true, or-last)
 
 is-paren : (c : Code) (n : ℕ) → is_value n c ≡ true → ((n == 40) || ((n == 41) || ((n == 92) || false))) ≡ true →
     parens c ≡ true
@@ -253,27 +246,13 @@ module _ (max : ℕ) where
 
   -- whitespace is no parenthesis and no backslash
   white-plain : (c : Code) → is_whitespace_code c ≡ true → parens c ≡ false
-  white-plain c h = by_test (parens c) refl
-    where
-      by_test : (b : Bool) → parens c ≡ b → parens c ≡ false
-      by_test true k = let no : true ≡ false = sym h ∙ (or_parts _ _ (paren-part c k)).0 in cc
-      by_test false k = k
+  white-plain c h = grind (arith, or_parts, paren-part)
 
   pub raw-found : (text rest : List Code) → FindsRaw text rest
   raw-found [] [] slash depth r = raw-end max slash depth (is_zero depth (omega (arith, r.balanced)))
     where
       is_zero : (n : ℕ) → n ≡ 0 → (n == 0) ≡ true
       is_zero n e = ap (λ m. m == 0) e
-  raw-found [] (c ∷ cs) slash depth r = by_end r.ends
-    where
-      none_open : (depth == 0) ≡ true
-      none_open = let e : depth ≡ 0 = omega (arith, r.balanced) in ap (λ m. m == 0) e
-
-      by_end : EndsRawDestination slash (c ∷ cs) → raw_from max slash depth (c ∷ cs) ≡ Some ([], c ∷ cs)
-      by_end (inl e) = cc
-      by_end (inr (inl w)) =
-          plain-start slash depth c cs (and_right slash (parens c) (white-plain c w)) ∙ raw-stop max depth c cs (or_left _ _ w) none_open
-      by_end (inr (inr k)) =
-          plain-start slash depth c cs (ap (λ s. s && parens c) k.1) ∙ raw-stop max depth c cs (or_right _ _ (λ i. k.0 i && none_open i)) none_open
+  raw-found [] (c ∷ cs) slash depth r = grind (arith, plain-start, and_right, white-plain, raw-stop, or_left, or_right)
   raw-found (c ∷ text) rest slash depth r =
       by-parts (slash && parens c) (is_value 40 c) (is_value 41 c) slash depth c text rest r (raw-found text rest) refl refl refl

@@ -74,11 +74,7 @@ no-tab : (b vs : ℕ) → 48 ≤ value_of_byte b vs → b ≢ 9
 no-tab b vs h e = omega (arith, h, e, itself b vs h)
 
 not-tab : (b : ℕ) → b ≢ 9 → (b == 9) ≡ false
-not-tab b h = by_test (b == 9) refl
-  where
-    by_test : (t : Bool) → (b == 9) ≡ t → (b == 9) ≡ false
-    by_test false e = e
-    by_test true e = absurd (h (eqb-true b 9 e))
+not-tab b h = grind (arith, eqb-true)
 
 record IsByteCode (bytes : List ℕ) (p : Point) : Type 0 where
   vs : p.vs ≡ 0
@@ -90,14 +86,7 @@ none-inside zero h = refl
 none-inside (suc n) h = absurd (h (omega arith))
 
 is-byte : (bytes : List ℕ) (p : Point) → HasPlaceNumbers bytes p → 48 ≤ value_at bytes p → IsByteCode bytes p
-is-byte bytes p s h =
-    let b : ℕ = get_or bytes p.index 0 in
-    let tab : b ≢ 9 = no-tab b p.vs h in
-    record {
-      vs = none-inside p.vs (λ k. tab (s.in_tab k).1);
-      byte = itself b p.vs h;
-      stop = rw (no-ending b p.vs h, not-tab b tab) refl;
-    }
+is-byte bytes p s h = grind (arith, no-tab, none-inside, itself, no-ending, not-tab)
 
 one-byte : (bytes : List ℕ) (i : ℕ) → i < length bytes → slice_range bytes i (i + 1) ≡ get_or bytes i 0 ∷ []
 one-byte bytes i h =

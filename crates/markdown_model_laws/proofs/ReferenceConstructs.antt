@@ -1,5 +1,5 @@
 -- What constructs read has references as they are read.
-use Rattle.std.proofs.Common.{◌≡◌, ◌≢◌, ℕ, Bool, true, false, ◌&&◌, List, [], ◌∷◌, ◌++◌, length, Option, Some, None, refl, inl, inr}
+use Rattle.std.proofs.Common.{◌≡◌, ◌≢◌, ℕ, Bool, true, false, ◌&&◌, List, [], ◌++◌, length, Option, Some, None, refl, arith}
 use Rattle.std.specs.List.{list_all}
 use Rattle.std.specs.Str.{byte}
 use Rattle.std.specs.Prelude.{codes, nat_le}
@@ -11,22 +11,22 @@ use Rattle.markdown_content.specs.Codes.{Code}
 use Rattle.markdown_content.specs.declared.configuration.Rules.{Rules}
 use Rattle.markdown_content.specs.Tree.{Forest, leaf, linked, group, ◌⊕◌}
 use Rattle.markdown_util.specs.Reference.{Table}
-use Rattle.markdown_model.specs.CodeTests.{is_empty, is_among, is_digit, is_hex_digit, is_alphanumeric, next_is}
-use Rattle.markdown_model.specs.Grammar.{Reading, ◌>>◌, provided, some, span, optional_tree}
+use Rattle.markdown_model.specs.CodeTests.{is_among, is_digit, is_hex_digit, is_alphanumeric, next_is}
+use Rattle.markdown_model.specs.Grammar.{Reading, ◌>>◌, provided, some}
 use Rattle.markdown_model.specs.GfmAutolinkLiteral.{gfm_autolink_literal_protocol, www_from_here, gfm_autolink_literal_www, may_precede_www, begins_with_www}
 use Rattle.markdown_model.specs.HtmlText.{html_text}
 use Rattle.markdown_model.specs.LeafConstructs.{Parts, named_parts, decimal_parts, hexadecimal_parts, character_reference, SpanNames, code_names, math_names, span_of, span_here, in_angle_brackets, autolink, gfm_task_list_item_check}
-use Rattle.markdown_model.specs.LabelEnd.{full_reference, collapsed_reference, shortcut, shortcut_before_bracket, reference_after_label, after_label}
-use Rattle.markdown_model.specs.Resource.{string_group, StringNames, between_markers, label, title_between, title, title_names, literal_destination, raw_destination, destination, resource_names, spaced_title, destination_and_title, resource, reference_names}
+use Rattle.markdown_model.specs.LabelEnd.{after_label}
+use Rattle.markdown_model.specs.Resource.{string_group, label}
 use Rattle.markdown_model.specs.Setting.{Setting}
-use Rattle.markdown_model.specs.TextLines.{linked_leaf, line_leaves, lines}
-use Rattle.markdown_model.specs.Whitespace.{space_or_tab_eol, spaces_across, spaces_on_line}
+use Rattle.markdown_model.specs.TextLines.{line_leaves, lines}
 use Rattle.markdown_model.proofs.DefinitionSteps.{span-all}
 use Rattle.markdown_model.proofs.LinksDoNotNest.{yields_passed_if}
-use Rattle.markdown_model.proofs.NoLinkInConstructs.{PassesValue, Yields, yields_bind, yields_gives, yields_passed, yields_either, yields_before, yields_next, yields_unless, then_any}
+use Rattle.markdown_model.proofs.NoLinkInConstructs.{Yields, yields_bind, yields_gives, yields_passed, yields_either, then_any}
 use Rattle.markdown_model.proofs.OneLineReadings.{IsOneCode, one-one}
 use Rattle.markdown_model_laws.proofs.ReferenceTrees.{is_free, IsReference, HasReferences}
 use Rattle.markdown_model_laws.proofs.ReferenceRows.{row, free-leaf, free-linked_leaf, free-linked, free-group, free-string, free-lines, free-line_leaves}
+use Rattle.markdown_model_laws.proofs.AfterLabelTrees.{PassesAfterLabels, of_after_label}
 
 abbrev pub Refers : Reading Forest → Type 0
 Refers a = Yields HasReferences a
@@ -40,12 +40,7 @@ record ArePassed (p : Code → Bool) (cs : List Code) : Type 0 where
 
 some-passed : (p : Code → Bool) → Yields (ArePassed p) (some p)
 unfolding some
-some-passed p = record { at = λ cs. by_first (span p cs).0 (span p cs).1 (span-all p cs) }
-  where
-    by_first : (front back : List Code) → list_all p front ≡ true →
-        PassesValue (ArePassed p) (elim (is_empty front) as (λ _. Option (List Code × List Code)) [ true ↦ None | false ↦ Some (front, back) ])
-    by_first [] back h = tt
-    by_first (c ∷ front) back h = record { some = λ e. cc; all = h }
+some-passed p = grind (arith, span-all)
 
 abbrev row_of : Parts → Forest
 row_of p =
@@ -64,31 +59,16 @@ parts front number x value back =
 
 named-right : (front value back : List Code) → IsOneCode front → ArePassed is_alphanumeric value → IsOneCode back →
     AreRight (parts front [] [] value back)
-named-right [] value back f v b = absurd f
-named-right (c ∷ cs) [] back f v b = absurd (v.some refl)
-named-right (c ∷ cs) (d ∷ ds) [] f v b = absurd b
-named-right (c ∷ cs) (d ∷ ds) (e ∷ es) f v b =
-    inl (record { front = c ∷ cs; value = d ∷ ds; back = e ∷ es; row = refl; letters = v.all })
+named-right front value back h0 h1 h2 = grind (arith, row)
 
 decimal-right : (front number value back : List Code) → IsOneCode front → IsOneCode number → ArePassed is_digit value →
     nat_le (length value) 7 ≡ true → IsOneCode back → AreRight (parts front number [] value back)
-decimal-right [] number value back f n v l b = absurd f
-decimal-right (c ∷ cs) [] value back f n v l b = absurd n
-decimal-right (c ∷ cs) (m ∷ ms) [] back f n v l b = absurd (v.some refl)
-decimal-right (c ∷ cs) (m ∷ ms) (d ∷ ds) [] f n v l b = absurd b
-decimal-right (c ∷ cs) (m ∷ ms) (d ∷ ds) (e ∷ es) f n v l b =
-    inr (inl (record { front = c ∷ cs; number = m ∷ ms; value = d ∷ ds; back = e ∷ es; row = refl; some = v.some; few = leb-true (length (d ∷ ds)) 7 l; digits = v.all }))
+decimal-right front number value back h0 h1 h2 h3 h4 = grind (arith, row, leb-true)
 
 hexadecimal-right : (front number x value back : List Code) → IsOneCode front → IsOneCode number → IsOneCode x →
     ArePassed is_hex_digit value → nat_le (length value) 6 ≡ true → IsOneCode back →
     AreRight (parts front number x value back)
-hexadecimal-right [] number x value back f n k v l b = absurd f
-hexadecimal-right (c ∷ cs) [] x value back f n k v l b = absurd n
-hexadecimal-right (c ∷ cs) (m ∷ ms) [] value back f n k v l b = absurd k
-hexadecimal-right (c ∷ cs) (m ∷ ms) (x ∷ xs) [] back f n k v l b = absurd (v.some refl)
-hexadecimal-right (c ∷ cs) (m ∷ ms) (x ∷ xs) (d ∷ ds) [] f n k v l b = absurd b
-hexadecimal-right (c ∷ cs) (m ∷ ms) (x ∷ xs) (d ∷ ds) (e ∷ es) f n k v l b =
-    inr (inr (record { front = c ∷ cs; number = m ∷ ms; x = x ∷ xs; value = d ∷ ds; back = e ∷ es; row = refl; some = v.some; few = leb-true (length (d ∷ ds)) 6 l; digits = v.all }))
+hexadecimal-right front number x value back h0 h1 h2 h3 h4 h5 = grind (arith, row, leb-true)
 
 named-read : (table : Table) → Yields AreRight (named_parts table)
 unfolding named_parts
@@ -188,102 +168,34 @@ module _ (bytes : List ℕ) (end : ℕ) (previous : Option Code) where
 
 -- What follows a label.
 
-refers_optional : (a : Reading Forest) → Refers a → Refers (optional_tree a)
-unfolding optional_tree
-refers_optional a h = yields_either _ _ _ h (yields_gives _ _ tt)
+front-group : (name marker : Name) (front : List Code) (f : Forest) → is_free name ≡ true → is_free marker ≡ true → HasReferences f →
+    HasReferences (group name (leaf marker front ⊕ f))
+front-group name marker front f h k l = free-group name _ h (row (leaf marker front) f (free-leaf marker front k) l)
 
-refers_spacing : (link : Option Content) → Refers (space_or_tab_eol link)
-unfolding space_or_tab_eol spaces_across spaces_on_line
-refers_spacing link = yields_either _ _ _
-    (then_any _ _ _ λ front. then_any _ _ _ λ ending. then_any _ _ _ λ back. yields_gives _ _
-    (row (linked_leaf N.SpaceOrTab link front) _ (free-linked_leaf N.SpaceOrTab link front refl) (row (linked_leaf N.LineEnding link ending) _ (free-linked_leaf N.LineEnding link ending refl) (free-linked_leaf N.SpaceOrTab link back refl))))
-    (then_any _ _ _ λ blank. yields_gives _ _ (free-linked_leaf N.SpaceOrTab link blank refl))
-
-record AreFreeStrings (names : StringNames) : Type 0 where
-  whole : is_free names.whole ≡ true
-  marker : is_free names.marker ≡ true
-  text : is_free names.text ≡ true
-
-between-references : (names : StringNames) (front text back : List Code) → AreFreeStrings names →
-    HasReferences (between_markers names front text back)
-between-references names front text back n =
-    free-group names.whole _ n.whole (row (leaf names.marker front) _ (free-leaf names.marker front n.marker)
-    (row (string_group names.text (lines N.Data (Some Content.String) text)) _ (free-string names.text _ n.text (free-lines N.Data (Some Content.String) text refl)) (free-leaf names.marker back n.marker)))
-
-refers_label : (characters : Bool) → Refers (label characters reference_names)
-unfolding label
-refers_label characters =
-    then_any _ _ _ λ front. then_any _ _ _ λ text. yields_passed _ _ _ (yields_passed _ _ _ (then_any _ _ _ λ back. yields_passed _ _ _
-    (yields_gives _ _ (between-references reference_names front text back (record { whole = refl; marker = refl; text = refl })))))
-
-refers_title_between : (both : Bool) (opener closer : ℕ) → Refers (title_between both opener closer title_names)
-unfolding title_between
-refers_title_between both opener closer =
-    then_any _ _ _ λ front. then_any _ _ _ λ text. then_any _ _ _ λ back. yields_passed _ _ _
-    (yields_gives _ _ (between-references title_names front text back (record { whole = refl; marker = refl; text = refl })))
-
-refers_title : (both : Bool) → Refers (title both title_names)
-unfolding title
-refers_title both =
-    yields_either _ _ _ (refers_title_between _ _ _) (yields_either _ _ _ (refers_title_between _ _ _) (refers_title_between _ _ _))
-
-refers_literal_destination : Refers (literal_destination resource_names)
-unfolding literal_destination
-refers_literal_destination =
-    then_any _ _ _ λ front. then_any _ _ _ λ text. then_any _ _ _ λ back. yields_gives _ _
-    (free-group N.ResourceDestination (group N.ResourceDestinationLiteral (leaf N.ResourceDestinationLiteralMarker front ⊕ string_group N.ResourceDestinationString (linked N.Data text) ⊕ leaf N.ResourceDestinationLiteralMarker back)) refl
-    (free-group N.ResourceDestinationLiteral (leaf N.ResourceDestinationLiteralMarker front ⊕ string_group N.ResourceDestinationString (linked N.Data text) ⊕ leaf N.ResourceDestinationLiteralMarker back) refl
-    (row (leaf N.ResourceDestinationLiteralMarker front) (string_group N.ResourceDestinationString (linked N.Data text) ⊕ leaf N.ResourceDestinationLiteralMarker back) (free-leaf N.ResourceDestinationLiteralMarker front refl)
-    (row (string_group N.ResourceDestinationString (linked N.Data text)) (leaf N.ResourceDestinationLiteralMarker back) (free-string N.ResourceDestinationString (linked N.Data text) refl (free-linked N.Data text refl)) (free-leaf N.ResourceDestinationLiteralMarker back refl)))))
-
-refers_raw_destination : (max : ℕ) → Refers (raw_destination max resource_names)
-unfolding raw_destination
-refers_raw_destination max =
-    then_any _ _ _ λ text. yields_passed _ _ _ (yields_gives _ _
-    (free-group N.ResourceDestination (group N.ResourceDestinationRaw (group N.ResourceDestinationString (linked N.Data text))) refl
-    (free-group N.ResourceDestinationRaw (group N.ResourceDestinationString (linked N.Data text)) refl (free-group N.ResourceDestinationString (linked N.Data text) refl (free-linked N.Data text refl)))))
-
-refers_destination : (max : ℕ) → Refers (destination max resource_names)
-unfolding destination
-refers_destination max = yields_next _ _ _ _ refers_literal_destination (refers_raw_destination max)
-
-refers_spaced_title : (both : Bool) → Refers (spaced_title both)
-unfolding spaced_title
-refers_spaced_title both =
-    yields_bind HasReferences _ _ _ (yields_before _ _ _ (refers_spacing None)) λ space h. yields_bind HasReferences _ _ _ (refers_title both) λ text k.
-    yields_bind HasReferences _ _ _ (refers_optional _ (refers_spacing None)) λ back l. yields_gives _ _ (row space _ h (row text back k l))
-
-refers_destination_and_title : (both : Bool) → Refers (destination_and_title both)
-unfolding destination_and_title
-refers_destination_and_title both =
-    yields_bind HasReferences _ _ _ (refers_destination 32) λ target h.
-    yields_bind HasReferences _ _ _ (yields_either _ _ _ (refers_spaced_title both) (refers_optional _ (refers_spacing None))) λ after k. yields_gives _ _ (row target after h k)
-
-refers_resource : (both : Bool) → Refers (resource both)
-unfolding resource
-refers_resource both =
-    then_any _ _ _ λ front. yields_bind HasReferences _ _ _ (refers_optional _ (refers_spacing None)) λ space h.
-    yields_bind HasReferences _ _ _ (yields_next _ _ _ _ (yields_gives _ _ tt) (refers_destination_and_title both)) λ inside k. then_any _ _ _ λ back. yields_gives _ _
-    (free-group N.Resource _ refl (row (leaf N.ResourceMarker front) _ (free-leaf N.ResourceMarker front refl) (row space _ h (row inside _ k (free-leaf N.ResourceMarker back refl)))))
-
-refers_full_reference : (s : Setting) → Refers (full_reference s)
-unfolding full_reference
-refers_full_reference s = yields_bind HasReferences _ _ _ (refers_label _) λ tree h. yields_passed _ _ _ (yields_gives _ _ h)
-
-refers_collapsed_reference : Refers collapsed_reference
-unfolding collapsed_reference
-refers_collapsed_reference =
-    then_any _ _ _ λ front. then_any _ _ _ λ back. yields_gives _ _
-    (free-group N.Reference _ refl (row (leaf N.ReferenceMarker front) _ (free-leaf N.ReferenceMarker front refl) (free-leaf N.ReferenceMarker back refl)))
-
-refers_shortcut : (defined : Bool) → Refers (shortcut defined)
-unfolding shortcut
-refers_shortcut defined = yields_passed _ _ _ (yields_gives _ _ tt)
+text-references : (name : Name) (cs : List Code) → is_free name ≡ true →
+    HasReferences (string_group name (lines N.Data (Some Content.String) cs))
+text-references name cs h = free-string name _ h (free-lines N.Data (Some Content.String) cs refl)
 
 pub refers_after_label : (s : Setting) (defined : Bool) → Refers (after_label s defined)
-unfolding after_label reference_after_label shortcut_before_bracket
-refers_after_label s defined =
-    yields_next _ _ _ _ (yields_either _ _ _ (refers_resource _) (refers_shortcut defined))
-    (yields_next _ _ _ _
-    (yields_either _ _ _ (refers_full_reference s) (yields_either _ _ _ (yields_passed _ _ _ refers_collapsed_reference) (yields_unless _ _ _ (refers_shortcut _))))
-    (refers_shortcut defined))
+refers_after_label s defined = of_after_label HasReferences after_labels s defined
+  where
+    after_labels : PassesAfterLabels HasReferences
+    after_labels = record {
+      none = tt;
+      rows = row;
+      space = λ cs. free-linked_leaf N.SpaceOrTab None cs refl;
+      ending = λ cs. free-linked_leaf N.LineEnding None cs refl;
+      label = λ front f e h. front-group N.Reference N.ReferenceMarker front f refl refl h;
+      label_text = λ cs. text-references N.ReferenceString cs refl;
+      label_end = λ cs. free-leaf N.ReferenceMarker cs refl;
+      titled = λ front f e h. front-group N.ResourceTitle N.ResourceTitleMarker front f refl refl h;
+      title_text = λ cs. text-references N.ResourceTitleString cs refl;
+      title_end = λ cs. free-leaf N.ResourceTitleMarker cs refl;
+      literal = λ front f e h. front-group N.ResourceDestinationLiteral N.ResourceDestinationLiteralMarker front f refl refl h;
+      literal_text = λ cs. free-string N.ResourceDestinationString (linked N.Data cs) refl (free-linked N.Data cs refl);
+      literal_end = λ cs. free-leaf N.ResourceDestinationLiteralMarker cs refl;
+      raw = λ cs e. free-group N.ResourceDestinationRaw (group N.ResourceDestinationString (linked N.Data cs)) refl (free-group N.ResourceDestinationString (linked N.Data cs) refl (free-linked N.Data cs refl));
+      target = λ f e h. free-group N.ResourceDestination f refl h;
+      whole = λ front f e h. front-group N.Resource N.ResourceMarker front f refl refl h;
+      whole_end = λ cs. free-leaf N.ResourceMarker cs refl;
+    }

@@ -1,14 +1,14 @@
 -- The tree of labels of a content has references as they are read.
-use Rattle.std.proofs.Common.{◌≡◌, ℕ, Bool, true, List, [], ◌∷◌, length, take, drop, Option, Some, None, refl}
+use Rattle.std.proofs.Common.{◌≡◌, ℕ, Bool, true, List, [], ◌∷◌, Option, Some, None, refl, arith}
 use Rattle.markdown_event.specs.declared.event.Name.TheVariants as N
 use Rattle.markdown_content.specs.declared.label_kind.LabelKind.{LabelKind}
-use Rattle.markdown_content.specs.Codes.{Code, stop_of, document_start}
-use Rattle.markdown_content.specs.Tree.{Forest, leaf, group, text_group, start_of, ◌⊕◌}
+use Rattle.markdown_content.specs.Codes.{Code}
+use Rattle.markdown_content.specs.Tree.{Forest, leaf}
 use Rattle.markdown_model.specs.Grammar.{Reading, either}
 use Rattle.markdown_model.specs.Setting.{Setting, within}
 use Rattle.markdown_model.specs.LabelEnd.{Element, plain, starts, ends, label_before, label_end}
 use Rattle.markdown_model.specs.Elements.{as_plain, switched, line_ending, data_code, attention_run, label_start_image, gfm_label_start_footnote, label_start_link, code_text, math_text, tries, first_check, text_element, string_element, text_choice, string_choice, elements_of, string_elements_of}
-use Rattle.markdown_model.specs.Passes.{start_marker, start_tree, label_name, label_group, labels_of}
+use Rattle.markdown_model.specs.Passes.{start_tree, label_name, label_group, labels_of}
 use Rattle.markdown_model.proofs.ElementCases.{AllAre, all_are, outcome_yields}
 use Rattle.markdown_model.proofs.LabelTreeFacts.{labels-have}
 use Rattle.markdown_model.proofs.NoLinkInConstructs.{PassesValue, Yields, yields_bind, yields_gives, yields_passed, yields_either, then_any}
@@ -85,19 +85,7 @@ module _ (s : Setting) (end : ℕ) (earlier : List Element) (previous : Option C
   rows-have H r = search (r.ending, r.on, r.own, r.both, r.image, r.footnote, r.link, r.stars, r.underscores, r.tildes, r.last, refers_constructs) parts 20 depth 30 fits 5000
 
   each-has : EachRow HaveReferences (tries s end earlier previous)
-  each-has = rows-have HaveReferences (record {
-    ending = ending;
-    on = on;
-    own = own;
-    both = both;
-    image = image-read;
-    footnote = footnote-read;
-    link = link-read;
-    stars = run-read _;
-    underscores = run-read _;
-    tildes = run-read _;
-    last = end-read s earlier;
-  })
+  each-has = rows-have HaveReferences (grind (arith, ending, on, own, both, image-read, footnote-read, link-read, run-read, end-read))
 
   text-has : (cs : List Code) → PassesValue ElementHasReferences (text_element s end earlier previous cs)
   unfolding text_element first_check
@@ -113,33 +101,14 @@ string-has s =
 -- Labels.
 
 start-has : (kind : LabelKind) (cs : List Code) → HasReferences (start_tree kind cs)
-start-has LabelKind.Image cs =
-    free-group N.LabelImage _ refl (row (leaf N.LabelImageMarker (take 1 cs)) (leaf N.LabelMarker (drop 1 cs)) (free-leaf N.LabelImageMarker (take 1 cs) refl) (free-leaf N.LabelMarker (drop 1 cs) refl))
-start-has LabelKind.GfmFootnote cs =
-    free-group N.GfmFootnoteCallLabel _ refl (row (leaf N.LabelMarker (take 1 cs)) (leaf N.GfmFootnoteCallMarker (drop 1 cs)) (free-leaf N.LabelMarker (take 1 cs) refl) (free-leaf N.GfmFootnoteCallMarker (drop 1 cs) refl))
-start-has LabelKind.Link cs = free-group N.LabelLink _ refl (free-leaf N.LabelMarker cs refl)
-start-has LabelKind.GfmUndefinedFootnote cs = free-group N.LabelLink _ refl (free-leaf N.LabelMarker cs refl)
+start-has kind cs = grind (arith, free-group, row, free-leaf)
 
 name-free : (kind : LabelKind) → is_free (label_name kind) ≡ true
-name-free LabelKind.Image = refl
-name-free LabelKind.GfmFootnote = refl
-name-free LabelKind.Link = refl
-name-free LabelKind.GfmUndefinedFootnote = refl
+name-free kind = grind arith
 
 label-has : (kind : LabelKind) (marker : List Code) (inside : Forest) (back : List Code) (tail : Forest) →
     HasReferences inside → HasReferences tail → HasReferences (label_group kind marker inside back tail)
-label-has kind marker inside back tail h k =
-    let front : List Code = start_marker kind marker in
-    let caret : List Code = drop (length front) marker in
-    let text : Forest = text_group N.LabelText (stop_of document_start front) (start_of back) (leaf N.Data caret ⊕ inside) in
-    let close : Forest = group N.LabelEnd (leaf N.LabelMarker back) in
-    let label : Forest = start_tree kind front ⊕ text ⊕ close in
-    free-group (label_name kind) (group N.Label label ⊕ tail) (name-free kind)
-    (row (group N.Label label) tail
-    (free-group N.Label label refl
-    (row (start_tree kind front) (text ⊕ close) (start-has kind front)
-    (row text close (free-between N.LabelText (stop_of document_start front) (start_of back) (leaf N.Data caret ⊕ inside) refl (row (leaf N.Data caret) inside (free-leaf N.Data caret refl) h)) (free-group N.LabelEnd _ refl (free-leaf N.LabelMarker back refl)))))
-    k)
+label-has kind marker inside back tail h k = grind (arith, free-group, name-free, row, start-has, free-between, free-leaf)
 
 labels-refer : (es : List Element) → AllAre ElementHasReferences es → HasReferences (labels_of es)
 labels-refer es h =

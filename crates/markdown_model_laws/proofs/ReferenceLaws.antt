@@ -1,6 +1,5 @@
 -- What is lent for the value of a reference is decodable.
-use Rattle.std.proofs.Common.{◌≡◌, ◌≢◌, ℕ, true, List, [], ◌∷◌, ◌++◌, map, refl, sym, ap, subst, inl, inr, append_assoc, append-nil}
-use Rattle.std.specs.Str.{IsUtf8}
+use Rattle.std.proofs.Common.{◌≡◌, ◌≢◌, ℕ, true, List, [], ◌∷◌, ◌++◌, map, refl, sym, ap, subst, inl, inr, append_assoc, append-nil, arith}
 use Rattle.std.proofs.lemmas.Bool.{both_ways}
 use Rattle.markdown_content.specs.Codes.{Code, document_start, stop_of}
 use Rattle.markdown_content.specs.Content.{content_of}
@@ -32,13 +31,7 @@ module _ (bytes : List ℕ) where
   -- what stands for a marker, and behind another than `&` for a number
   fits : (marker : ℕ) (cs : List Code) → AreDocumentCodes bytes cs → AreLetters cs → IsReferenceMarker marker
       → (marker ≢ 38 → IsNumber (radix_of marker) (values_of cs)) → IsDecodable marker (lent_of cs)
-  fits marker cs part h known number =
-      let same : lent_of cs ≡ values_of cs = spelled cs part h in
-      record {
-        known = known;
-        text = subst IsUtf8 (sym same) (letters-text cs h);
-        number = λ off. subst (IsNumber (radix_of marker)) (sym same) (number off);
-      }
+  fits marker cs part h known number = grind (arith, spelled, letters-text)
 
   named-fits : (cs : List Code) → AreDocumentCodes bytes cs → AreLetters cs → IsDecodable 38 (lent_of cs)
   named-fits cs part h = fits 38 cs part h (inl refl) (λ off. absurd (off refl))
@@ -100,8 +93,7 @@ module _ (bytes : List ℕ) where
 
   rest-leaves : (a b : Point) (inside rest : Forest) → HasLeaves bytes (reference_group a b rest inside) → HasLeaves bytes rest
   rest-leaves a b empty rest l = l.1
-  rest-leaves a b (leaf_then m k cs more) rest l = l.1
-  rest-leaves a b (group_then m c d inner more) rest l = l.1
+  rest-leaves a b inside rest l = l.1
 
   reference-goes : (a b : Point) (inside rest : Forest) → KeepsGood rest → IsReference inside → HasReferences rest →
       HasLeaves bytes (reference_group a b rest inside) → (ss : List Span) → Good ss → Good (leaves_of (reference_group a b rest inside) ++ ss)

@@ -1,5 +1,5 @@
 -- The inline tree of each content has references as they are read.
-use Rattle.std.proofs.Common.{◌≡◌, ℕ, suc, Bool, true, false, ◌&&◌, ◌||◌, List, None, refl, ap, ◌∙◌, inl, inr}
+use Rattle.std.proofs.Common.{◌≡◌, ℕ, suc, Bool, true, false, ◌&&◌, ◌||◌, List, None, refl, arith}
 use Rattle.markdown_event.specs.declared.event.Name.TheVariants as N
 use Rattle.markdown_content.specs.Codes.{Code}
 use Rattle.markdown_content.specs.Tree.{Forest, empty, leaf_then, group_then, leaf, leaf_codes}
@@ -23,12 +23,7 @@ reference-kept : (f : Forest → Forest) → ((front value back : List Code) →
     → ((front number value back : List Code) → f (decimal_row front number value back) ≡ decimal_row front number value back)
     → ((front number x value back : List Code) → f (hexadecimal_row front number x value back) ≡ hexadecimal_row front number x value back)
     → (t : Forest) → IsReference t → IsReference (f t)
-reference-kept f n d x t (inl h) =
-    inl (record { front = h.front; value = h.value; back = h.back; row = ap f h.row ∙ n h.front h.value h.back; letters = h.letters })
-reference-kept f n d x t (inr (inl h)) =
-    inr (inl (record { front = h.front; number = h.number; value = h.value; back = h.back; row = ap f h.row ∙ d h.front h.number h.value h.back; some = h.some; few = h.few; digits = h.digits }))
-reference-kept f n d x t (inr (inr h)) =
-    inr (inr (record { front = h.front; number = h.number; x = h.x; value = h.value; back = h.back; row = ap f h.row ∙ x h.front h.number h.x h.value h.back; some = h.some; few = h.few; digits = h.digits }))
+reference-kept f x1 x2 x t x5 = grind (arith, row)
 
 -- Pairs.
 
@@ -39,11 +34,7 @@ abbrev WordHasReferences : List Token → Type 0
 WordHasReferences w = HasWord HasReferences Any data-has w
 
 assembled-refers : (w : List Token) → WordHasReferences w → HasReferences (assembled w)
-assembled-refers w h =
-    assembled-has HasReferences Any data-has tt row
-    (λ m n cs _. free-leaf _ cs (pair-named (λ names. is_free names.1 ≡ true) refl refl refl m n))
-    (λ m n a b f k. free-between _ a b f (pair-named (λ names. is_free names.0 ≡ true) refl refl refl m n) k)
-    (λ m n a b f k. free-between _ a b f (pair-named (λ names. is_free names.2 ≡ true) refl refl refl m n) k) w h
+assembled-refers w h = grind (arith, assembled-has, row, free-leaf, pair-named, free-between)
 
 module _ (s : Setting) (pairs_of : List Run → List Pair) where
   abbrev inner : Forest → Forest

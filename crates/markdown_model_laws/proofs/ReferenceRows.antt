@@ -1,12 +1,11 @@
 -- Rows of trees with references as they are read.
-use Rattle.std.proofs.Common.{◌≡◌, Bool, true, false, List, [], ◌∷◌, Option, None, refl}
+use Rattle.std.proofs.Common.{◌≡◌, true, List, [], ◌∷◌, Option, None, refl, arith}
 use Rattle.markdown_event.specs.declared.event.Name.{Name}
 use Rattle.markdown_event.specs.declared.event.Name.TheVariants as N
 use Rattle.markdown_event.specs.declared.event.Content.{Content}
 use Rattle.markdown_event.specs.declared.event.Point.{Point}
-use Rattle.markdown_content.specs.Codes.{Code, is_line_ending}
+use Rattle.markdown_content.specs.Codes.{Code}
 use Rattle.markdown_content.specs.Tree.{Forest, empty, leaf_then, group_then, leaf, linked, group, ◌⊕◌}
-use Rattle.markdown_model.specs.CodeTests.{next_is}
 use Rattle.markdown_model.specs.Resource.{string_group}
 use Rattle.markdown_model.specs.TextLines.{linked_leaf, line_leaf, line_leaves, lines}
 use Rattle.markdown_model.proofs.LeafRows.{Leaves, leaves-lines}
@@ -56,11 +55,7 @@ free-lines name link cs h =
     free-leaves (lines name link cs) (leaves-lines (λ name link cs. is_free name ≡ true) name link (λ s _. h) (λ s _ _. refl) (λ s _. refl) cs)
 
 free-line_leaf : (name : Name) (s : List Code) → is_free name ≡ true → HasReferences (line_leaf name None s)
-free-line_leaf name s h = by_test (next_is is_line_ending s)
-  where
-    by_test : (b : Bool) → HasReferences (elim b as (λ _. Forest) [ true ↦ linked_leaf N.LineEnding None s | false ↦ linked_leaf name None s ])
-    by_test true = free-linked_leaf N.LineEnding None s refl
-    by_test false = free-linked_leaf name None s h
+free-line_leaf name s h = grind (arith, free-linked_leaf)
 
 pub free-line_leaves : (name : Name) (ss : List (List Code)) → is_free name ≡ true → HasReferences (line_leaves name ss)
 free-line_leaves name [] h = tt

@@ -41,14 +41,7 @@ module _ (both : Bool) where
         second = b.value ⊕ d.value;
         between = a.after;
         is = spacing-back cs a.value a.after (before-back (space_or_tab_eol None) begins_title cs (a.value, a.after) a.first).0;
-        more = record {
-          first = b.value;
-          second = d.value;
-          between = b.after;
-          is = title-back both title_names a.after b.value b.after b.first;
-          more = subst (λ xs. Spacing b.after d.value xs) g.1 (optional-back b.after d.value d.after d.first);
-          tree_is = refl;
-        };
+        more = grind (arith, title-back, optional-back);
         tree_is = g.0;
       }
 
@@ -80,13 +73,7 @@ module _ (both : Bool) where
   inside = if_next (is_value 41) (gives empty) (destination_and_title both)
 
   inside-back : (cs : List Code) (tree : Forest) (rest : List Code) → inside cs ≡ Some (tree, rest) → InsideResource cs tree rest
-  inside-back cs tree rest e = by_next (next_is (is_value 41) cs) refl
-    where
-      by_next : (b : Bool) → next_is (is_value 41) cs ≡ b → InsideResource cs tree rest
-      by_next true h =
-          let g : (tree ≡ empty) × (cs ≡ rest) = gives-back empty tree cs rest (sym (if-here (is_value 41) (gives empty) (destination_and_title both) cs h) ∙ e) in inl (g.1, g.0)
-      by_next false h =
-          inr (parts-back cs tree rest (sym (if-other (is_value 41) (gives empty) (destination_and_title both) cs h) ∙ e))
+  inside-back cs tree rest e = grind (arith, gives-back, if-here, parts-back, if-other)
 
   pub resource-back : (cs : List Code) (tree : Forest) (rest : List Code) → resource both cs ≡ Some (tree, rest) →
       IsResource both cs tree rest
@@ -104,21 +91,7 @@ module _ (both : Bool) where
           second = b.value ⊕ d.value ⊕ leaf Name.ResourceMarker (f.code ∷ []);
           between = a.after;
           is = record { code = a.code; stands = a.is; is = a.passes; tree_is = refl };
-          more = record {
-            first = b.value;
-            second = d.value ⊕ leaf Name.ResourceMarker (f.code ∷ []);
-            between = b.after;
-            is = optional-back a.after b.value b.after b.first;
-            more = record {
-              first = d.value;
-              second = leaf Name.ResourceMarker (f.code ∷ []);
-              between = d.after;
-              is = inside-back b.after d.value d.after d.first;
-              more = record { code = f.code; stands = f.is ∙ ap (λ xs. f.code ∷ xs) g.1; is = f.passes; tree_is = refl };
-              tree_is = refl;
-            };
-            tree_is = refl;
-          };
+          more = grind (arith, optional-back, inside-back);
           tree_is = refl;
         };
         tree_is = g.0;
@@ -132,12 +105,7 @@ module _ (both : Bool) where
 
   title-first : (front : Code) (text : List Code) (back : Code) → IsTitle both front text back →
       (is_whitespace_code front ≡ false) × (is_among (codes "\"'(") front ≡ true)
-  title-first front text back (inl i) =
-      (ap (λ v. (v == 32 || v == 9) || v == 10) (eqb-true front.value 34 i.opens), ap (λ v. (v == 34) || ((v == 39) || ((v == 40) || false))) (eqb-true front.value 34 i.opens))
-  title-first front text back (inr (inl i)) =
-      (ap (λ v. (v == 32 || v == 9) || v == 10) (eqb-true front.value 39 i.opens), ap (λ v. (v == 34) || ((v == 39) || ((v == 40) || false))) (eqb-true front.value 39 i.opens))
-  title-first front text back (inr (inr i)) =
-      (ap (λ v. (v == 32 || v == 9) || v == 10) (eqb-true front.value 40 i.opens), ap (λ v. (v == 34) || ((v == 39) || ((v == 40) || false))) (eqb-true front.value 40 i.opens))
+  title-first front text back h0 = grind (arith, eqb-true)
 
   title-plain : (cs : List Code) (tree : Forest) (rest : List Code) → ATitle cs tree rest → BeginsUnspaced cs
   title-plain cs tree rest m =

@@ -1,5 +1,5 @@
 -- The places of trees: wherever the codes that a tree of labels covers stand one after another, so do the places of its groups among them.
-use Rattle.std.proofs.Common.{◌≡◌, ◌==◌, Bool, true, false, ◌&&◌, not, List, [], ◌∷◌, ◌++◌, length, drop, refl, sym, ap, subst, ◌∙◌, append_assoc, append-nil, None}
+use Rattle.std.proofs.Common.{◌≡◌, ◌==◌, Bool, true, false, ◌&&◌, not, List, [], ◌∷◌, ◌++◌, length, drop, refl, sym, ap, subst, ◌∙◌, append_assoc, append-nil, None, arith}
 use Rattle.std.proofs.lemmas.Bool.{and_parts, eqb-true, not-true}
 use Rattle.markdown_content.specs.Codes.{Code, stop_of, document_start, place_of}
 use Rattle.markdown_content.specs.Tree.{Forest, empty, leaf_then, group_then, leaf, group, text_group, ◌⊕◌, start_of, enter_of, exit_after, leaf_codes}
@@ -12,7 +12,8 @@ use Rattle.markdown_model.specs.LabelEnd.{Element}
 use Rattle.markdown_model.specs.Passes.{start_marker, start_tree, label_name, label_group, labels_of, is_nothing}
 use Rattle.markdown_model.proofs.LeafCodes.{codes-leaf}
 use Rattle.markdown_model_laws.specs.EmailsInData.{is_email}
-use Rattle.markdown_model_laws.proofs.MadeConstructs.{IsSome, IsMadeTree, is_at, is_single, reaches, made}
+use Rattle.markdown_model_laws.proofs.AfterLabelTrees.{IsSome}
+use Rattle.markdown_model_laws.proofs.MadeConstructs.{IsMadeTree, is_at, is_single, reaches, made}
 use Rattle.markdown_model_laws.proofs.MadeElements.{AllGood, IsMadeElement}
 use Rattle.markdown_model.proofs.LabelTreeFacts.{labels-have}
 use Rattle.markdown_model_laws.proofs.PlacesInOrder.{BytePlace, last_of, last-join, Allows, allows-itself, allows-then, allows-join, allows-behind, allows-same, allows-around, allows-between}
@@ -137,32 +138,11 @@ pub record EndsAtPoint (f : Forest) (p : Point) : Type 0 where
 
 pub places-between : (name : Name) (a : Forest) (enter exit : Point) (inside b : Forest) → EndsAtPoint a enter → BeginsAtItsEnter b → enter_of b ≡ exit
     → Allows (places_of a ++ (places_of inside ++ places_of b)) (places_of (a ⊕ (text_group name enter exit inside ⊕ b)))
-places-between name a enter exit inside b x y e =
-    subst (Allows (places_of a ++ (places_of inside ++ places_of b))) (sym whole)
-    (subst (λ z. Allows (z ++ (places_of inside ++ places_of b)) (z ++ (place_of enter ∷ (places_of inside ++ (place_of exit ∷ places_of b))))) (sym x.places)
-    (subst (λ z. Allows ((x.first ∷ x.more) ++ (places_of inside ++ z)) ((x.first ∷ x.more) ++ (place_of enter ∷ (places_of inside ++ (place_of exit ∷ z))))) (sym front)
-    (subst (λ z. Allows ((x.first ∷ x.more) ++ (places_of inside ++ (place_of exit ∷ y.more))) ((x.first ∷ x.more) ++ (z ∷ (places_of inside ++ (place_of exit ∷ place_of exit ∷ y.more))))) x.last
-    (allows-between x.first x.more (places_of inside) (place_of exit) y.more))))
-  where
-    front : places_of b ≡ place_of exit ∷ y.more
-    front = y.places ∙ ap (λ p. place_of p ∷ y.more) e
-
-    whole : places_of (a ⊕ (text_group name enter exit inside ⊕ b)) ≡ places_of a ++ (place_of enter ∷ (places_of inside ++ (place_of exit ∷ places_of b)))
-    whole = places-join a (text_group name enter exit inside ⊕ b)
+places-between name a enter exit inside b x y e = grind (arith, allows-between, places-join)
 
 fit-between : (name : Name) (a : Forest) (enter exit : Point) (inside b : Forest) → EndsAtPoint a enter → BeginsAtItsEnter b → enter_of b ≡ exit → IsFit a → IsFit inside → IsFit b
     → IsFit (a ⊕ (text_group name enter exit inside ⊕ b))
-fit-between name a enter exit inside b x y e f g h =
-    subst (λ z. Allows z (places_of (a ⊕ (text_group name enter exit inside ⊕ b)))) (sym codes)
-    (allows-then (ends_of (leaf_codes a) ++ (ends_of (leaf_codes inside) ++ ends_of (leaf_codes b))) (places_of a ++ (places_of inside ++ places_of b)) (places_of (a ⊕ (text_group name enter exit inside ⊕ b)))
-    (allows-join (ends_of (leaf_codes a)) (places_of a) (ends_of (leaf_codes inside) ++ ends_of (leaf_codes b)) (places_of inside ++ places_of b) f (allows-join (ends_of (leaf_codes inside)) (places_of inside) (ends_of (leaf_codes b)) (places_of b) g h))
-    (places-between name a enter exit inside b x y e))
-  where
-    codes : ends_of (leaf_codes (a ⊕ (text_group name enter exit inside ⊕ b))) ≡ ends_of (leaf_codes a) ++ (ends_of (leaf_codes inside) ++ ends_of (leaf_codes b))
-    codes =
-        ap ends_of (leaf_codes-row a (text_group name enter exit inside ⊕ b))
-        ∙ ends-join (leaf_codes a) (leaf_codes inside ++ leaf_codes b)
-        ∙ ap (λ z. ends_of (leaf_codes a) ++ z) (ends-join (leaf_codes inside) (leaf_codes b))
+fit-between name a enter exit inside b x y e f g h = grind (arith, allows-then, allows-join, places-between, leaf_codes-row, ends-join)
 
 -- Labels.
 
@@ -179,15 +159,7 @@ group-ends name f p e = record {
 }
 
 start-ends : (kind : LabelKind) (cs : List Code) → IsSome cs → EndsAtPoint (start_tree kind cs) (stop_of document_start cs)
-start-ends kind [] h = cc
-start-ends LabelKind.Image (c ∷ cs) h =
-    group-ends Name.LabelImage (leaf_then Name.LabelImageMarker None (c ∷ []) (leaf Name.LabelMarker cs)) (stop_of c.stop cs) (exit-leaf c.stop Name.LabelMarker cs)
-start-ends LabelKind.GfmFootnote (c ∷ cs) h =
-    group-ends Name.GfmFootnoteCallLabel (leaf_then Name.LabelMarker None (c ∷ []) (leaf Name.GfmFootnoteCallMarker cs)) (stop_of c.stop cs) (exit-leaf c.stop Name.GfmFootnoteCallMarker cs)
-start-ends LabelKind.Link (c ∷ cs) h =
-    group-ends Name.LabelLink (leaf_then Name.LabelMarker None (c ∷ cs) empty) (stop_of c.stop cs) refl
-start-ends LabelKind.GfmUndefinedFootnote (c ∷ cs) h =
-    group-ends Name.LabelLink (leaf_then Name.LabelMarker None (c ∷ cs) empty) (stop_of c.stop cs) refl
+start-ends kind cs h0 = grind (arith, group-ends, exit-leaf)
 
 pub begins-leaf : (name : Name) (c : Code) (cs : List Code) (f : Forest) → BeginsAtItsEnter (leaf_then name None (c ∷ cs) f)
 begins-leaf name c cs f = record { more = place_of c.stop ∷ (ends_of cs ++ places_of f); places = refl }
@@ -206,11 +178,7 @@ fit-start LabelKind.GfmUndefinedFootnote (c ∷ cs) h =
     fit-group Name.LabelLink (leaf Name.LabelMarker (c ∷ cs)) (begins-leaf Name.LabelMarker c cs empty) (fit-leaf Name.LabelMarker (c ∷ cs))
 
 front-some : (kind : LabelKind) (cs : List Code) → IsSome cs → IsSome (start_marker kind cs)
-front-some kind [] h = cc
-front-some LabelKind.Image (c ∷ cs) h = refl
-front-some LabelKind.GfmFootnote (c ∷ cs) h = refl
-front-some LabelKind.Link (c ∷ cs) h = refl
-front-some LabelKind.GfmUndefinedFootnote (c ∷ cs) h = refl
+front-some kind cs h0 = grind arith
 
 fit-end : (back : List Code) → IsSome back → IsFit (group Name.LabelEnd (leaf Name.LabelMarker back))
 fit-end [] h = cc
@@ -228,9 +196,7 @@ end-enter (c ∷ cs) h = refl
 
 begins-start : (kind : LabelKind) (cs : List Code) (f : Forest) → BeginsAtItsEnter (start_tree kind cs ⊕ f)
 begins-start LabelKind.Image cs f = record { more = _; places = refl }
-begins-start LabelKind.GfmFootnote cs f = record { more = _; places = refl }
-begins-start LabelKind.Link cs f = record { more = _; places = refl }
-begins-start LabelKind.GfmUndefinedFootnote cs f = record { more = _; places = refl }
+begins-start kind cs f = record { more = _; places = refl }
 
 fit-label : (kind : LabelKind) (marker : List Code) (inside : Forest) (back : List Code) (tail : Forest) →
     IsSome marker → IsFit inside → IsSome back → IsFit tail → IsFit (label_group kind marker inside back tail)

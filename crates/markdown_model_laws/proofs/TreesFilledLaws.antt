@@ -1,5 +1,5 @@
 -- Nothing in the inline tree is empty but the texts of labels.
-use Rattle.std.proofs.Common.{◌≡◌, Bool, true, false, ◌&&◌, ◌||◌, List, [], ◌∷◌, ◌++◌, length, refl, sym, ap, ◌∙◌, None, subst}
+use Rattle.std.proofs.Common.{◌≡◌, Bool, true, false, ◌&&◌, ◌||◌, List, [], ◌∷◌, ◌++◌, length, refl, sym, ap, ◌∙◌, None, subst, arith}
 use Rattle.std.proofs.lemmas.Bool.{both_ways}
 use Rattle.markdown_event.specs.declared.event.Name.{Name}
 use Rattle.markdown_content.specs.Codes.{Code}
@@ -32,10 +32,7 @@ nothing-data_onto cs rest = refl
 
 nothing-merged : (f : Forest) → is_nothing (merged f) ≡ is_nothing f
 unfolding merged
-nothing-merged empty = refl
-nothing-merged (leaf_then Name.Data None cs rest) = nothing-data_onto cs (merged rest)
-nothing-merged (leaf_then name link cs rest) = refl
-nothing-merged (group_then name enter exit inside rest) = refl
+nothing-merged f = grind (arith, nothing-data_onto)
 
 filled-merged : (f : Forest) → IsFilled f → IsFilled (merged f)
 filled-merged f h =
@@ -51,7 +48,6 @@ nothing-before (group_then name enter exit inside rest) f h = h
 nothing-trimmed : (hard : HardBreaks) (front whole : Bool) (f : Forest) → IsFilled f → is_nothing (trimmed hard front whole f) ≡ true →
     is_nothing f ≡ true
 unfolding trimmed
-nothing-trimmed hard front whole empty h e = refl
 nothing-trimmed hard front whole (leaf_then Name.Data None cs rest) h e =
     absurd (both_ways (is_empty cs) h.0 (ap is_empty (sym (codes-trimmed_data front back (breaks_where hard (begins_line_ending rest)) cs) ∙ nothing-codes piece (nothing-before piece (trimmed hard false whole rest) e))))
   where
@@ -60,9 +56,7 @@ nothing-trimmed hard front whole (leaf_then Name.Data None cs rest) h e =
 
     piece : Forest
     piece = trimmed_data front back (breaks_where hard (begins_line_ending rest)) cs
-nothing-trimmed hard front whole (leaf_then Name.LineEnding link cs rest) h e = cc
-nothing-trimmed hard front whole (leaf_then name link cs rest) h e = cc
-nothing-trimmed hard front whole (group_then name enter exit inside rest) h e = cc
+nothing-trimmed hard front whole f h e = cc
 
 filled-trimmed : (hard : HardBreaks) (front whole : Bool) (f : Forest) → IsFilled f → IsFilled (trimmed hard front whole f)
 filled-trimmed hard front whole f h =
@@ -73,12 +67,9 @@ filled-trimmed hard front whole f h =
 
 nothing-mailed : (f : Forest) → IsFilled f → is_nothing (with_emails_apart f) ≡ true → is_nothing f ≡ true
 unfolding with_emails_apart with_emails
-nothing-mailed empty h e = refl
 nothing-mailed (leaf_then Name.Data None cs rest) h e =
     absurd (both_ways (is_nothing (email_leaves (length cs) [] cs ⊕ with_emails_apart rest)) (emails-begin (length cs) [] cs (with_emails_apart rest) h.0).1 e)
-nothing-mailed (leaf_then name link cs rest) h e = cc
-nothing-mailed (group_then Name.Link enter exit inside rest) h e = cc
-nothing-mailed (group_then name enter exit inside rest) h e = cc
+nothing-mailed f h e = grind arith
 
 filled-mailed : (f : Forest) → IsFilled f → IsFilled (with_emails_apart f)
 filled-mailed f h =

@@ -1,5 +1,5 @@
 -- Whitespace between the parts of a resource: where its reading holds.
-use Rattle.std.proofs.Common.{◌≡◌, ◌==◌, ◌⊎◌, inl, inr, ◌+◌, ◌<◌, ◌||◌, not, Bool, true, false, Option, Some, None, List, [], ◌∷◌, ◌++◌, length, refl, sym, ap, subst, ◌∙◌, length-append, arith}
+use Rattle.std.proofs.Common.{◌≡◌, ◌==◌, ◌⊎◌, inl, inr, ◌+◌, ◌<◌, ◌||◌, not, Bool, true, false, Option, Some, None, List, [], ◌∷◌, ◌++◌, length, refl, sym, ap, ◌∙◌, length-append, arith}
 use Rattle.std.proofs.lemmas.Bool.{eqb-true, or_parts}
 use Rattle.std.specs.List.{list_all}
 use Rattle.markdown_content.specs.Codes.{Code, is_line_ending, is_blank}
@@ -181,18 +181,7 @@ line-read (c ∷ front) rest h p =
 
 pub spacing-read : (cs : List Code) (tree : Forest) (rest : List Code) → Spacing cs tree rest → BeginsUnspaced rest →
     Read cs tree rest
-spacing-read cs tree rest s p = by_lines s.up_to_one
-  where
-    by_lines : (((s.ending ≡ []) × (s.back ≡ [])) ⊎ ((e : Code) × (s.ending ≡ e ∷ []) × (is_line_ending e ≡ true))) →
-        Read cs tree rest
-    by_lines (inl h) =
-        let whole : s.front ++ rest ≡ cs = sym (s.stands ∙ (λ i. s.front ++ (h.0 i ++ (h.1 i ++ rest)))) in
-        let same : linked_leaf Name.SpaceOrTab None s.front ⊕ empty ≡ tree = sym (s.tree_is ∙ (λ i. linked_leaf Name.SpaceOrTab None s.front ⊕ linked_leaf Name.LineEnding None (h.0 i) ⊕ linked_leaf Name.SpaceOrTab None (h.1 i))) in
-        subst (λ xs. Read xs tree rest) whole (subst (λ t. Read (s.front ++ rest) t rest) same (line-read s.front rest s.front_blank p))
-    by_lines (inr h) =
-        let whole : s.front ++ (h.0 ∷ (s.back ++ rest)) ≡ cs = sym (s.stands ∙ (λ i. s.front ++ (h.1 i ++ (s.back ++ rest)))) in
-        let same : linked_leaf Name.SpaceOrTab None s.front ⊕ linked_leaf Name.LineEnding None (h.0 ∷ []) ⊕ linked_leaf Name.SpaceOrTab None s.back ≡ tree = sym (s.tree_is ∙ (λ i. linked_leaf Name.SpaceOrTab None s.front ⊕ linked_leaf Name.LineEnding None (h.1 i) ⊕ linked_leaf Name.SpaceOrTab None s.back)) in
-        subst (λ xs. Read xs tree rest) whole (subst (λ t. Read (s.front ++ (h.0 ∷ (s.back ++ rest))) t rest) same (ending-read s.front h.0 s.back rest s.front_blank h.2 s.back_blank p))
+spacing-read cs tree rest s p = grind (arith, line-read, ending-read)
 
 pub optional-found : (cs : List Code) (tree : Forest) (rest : List Code) → Spacing cs tree rest → BeginsUnspaced rest →
     optional_tree (space_or_tab_eol None) cs ≡ Some (tree, rest)

@@ -14,7 +14,7 @@ use Rattle.markdown_passes.specs.MergedEvents.{is_enter, is_data, opens_data}
 use Rattle.markdown_passes.specs.TrimmedData.{between, IsStretch}
 use Rattle.markdown_passes.specs.TrimmedEvents.{FirstDataHasPlaces, HasPlaces}
 use Rattle.markdown_passes.proofs.DataSearch.{BeginsNone, event-at}
-use Rattle.markdown_passes.proofs.TrimEdits.{head-drop, closes-first, next-within, stretch-first, places-on, places-pass, places-drop, opens-unlinked}
+use Rattle.markdown_passes.proofs.TrimEdits.{head-drop, closes-first, next-within, stretch-first, places-drop, opens-unlinked}
 use Rattle.markdown_passes.specs.EmailEdits.{begins_signed, links_after, links_past, may_mail, mail, mail_first, mails}
 use Rattle.markdown_passes.specs.EmailScan.{has_sign, mail_events}
 use Rattle.markdown_passes.proofs.UnlinkedLeaves.{plain-emails, plain-unlinked}
@@ -37,10 +37,6 @@ mails-more bytes i links more es e old new all l h c g k =
 
 -- Where no data holds an `@`.
 
--- no edit is made of these events, whatever their numbers and the links around them
-abbrev pub MailsNone : List ℕ → List Event → Type 0
-MailsNone bytes es = (n links : ℕ) → mails bytes n links es ≡ []
-
 unsigned-first : (bytes : List ℕ) (n links : ℕ) (es : List Event) → begins_signed bytes es ≡ false → mail_first bytes n links es ≡ []
 unsigned-first bytes n links [] h = refl
 unsigned-first bytes n links (e ∷ []) h = refl
@@ -53,49 +49,6 @@ unsigned-first bytes n links (e ∷ x ∷ es) h = off (links == 0) (opens_data e
 none-first : (bytes : List ℕ) (e : Event) (es : List Event) → opens_data e ≡ false → begins_signed bytes (e ∷ es) ≡ false
 none-first bytes e [] h = refl
 none-first bytes e (x ∷ es) h = ap (λ b. b && has_sign bytes e.point x.point) h
-
-mails-none : (bytes : List ℕ) (i : ℕ) (es : List Event) → i < length es → begins_signed bytes (drop i es) ≡ false →
-    MailsNone bytes (drop (i + 1) es) → MailsNone bytes (drop i es)
-mails-none bytes i es l h rest n links =
-    let at = event-at i es l in
-    let split : drop i es ≡ at.0 ∷ drop (i + 1) es = head-drop i es at.0 l at.1 in
-    ap (mails bytes n links) split
-    ∙ ap (λ xs. xs ++ mails bytes (suc n) (links_after links at.0) (drop (i + 1) es)) (unsigned-first bytes n links (at.0 ∷ drop (i + 1) es) (ap (begins_signed bytes) (sym split) ∙ h))
-    ∙ rest (suc n) (links_after links at.0)
-
-mails-pass : (bytes : List ℕ) (d i k : ℕ) (es : List Event) → k ≡ i + d → k ≤ length es → BeginsNone es i k →
-    MailsNone bytes (drop k es) → MailsNone bytes (drop i es)
-mails-pass bytes zero i k es h l none rest =
-    let same : k ≡ i = omega (arith, h) in subst (λ n. MailsNone bytes (drop n es)) same rest
-mails-pass bytes (suc d) i k es h l none rest =
-    let there : i < length es = omega (arith, h, l) in
-    let at = event-at i es there in
-    let first : begins_signed bytes (drop i es) ≡ false = ap (begins_signed bytes) (head-drop i es at.0 there at.1) ∙ none-first bytes at.0 (drop (i + 1) es) (ap opens_data at.1 ∙ none i at.0 (omega arith) (omega (arith, h))) in
-    mails-none bytes i es there first (mails-pass bytes d (i + 1) k es (omega (arith, h)) l (λ j e low high. none j e (omega (arith, low)) high) rest)
-
--- the events before this one make no edit
-pub record Searched (bytes : List ℕ) (es : List Event) (i : ℕ) : Type 0 where
-  pub within : i ≤ length es
-  pub places : HasPlaces bytes (drop i es)
-  pub none : MailsNone bytes (drop i es) → MailsNone bytes es
-
-pub searched-start : (bytes : List ℕ) (es : List Event) (k : ℕ) → k ≤ length es → BeginsNone es 0 k → HasPlaces bytes es → Searched bytes es k
-searched-start bytes es k l none p = record {
-  within = l;
-  places = places-pass bytes k 0 k es (omega arith) l p;
-  none = mails-pass bytes k 0 k es (omega arith) l none;
-}
-
-pub searched-next : (bytes : List ℕ) (es : List Event) (i k : ℕ) → i < length es → begins_signed bytes (drop i es) ≡ false → i + 1 ≤ k →
-    k ≤ length es → BeginsNone es (i + 1) k → Searched bytes es i → Searched bytes es k
-searched-next bytes es i k here h l within none s = record {
-  within = within;
-  places = places-pass bytes (k - (i + 1)) (i + 1) k es (omega (arith, l)) within (places-on bytes i es here s.places);
-  none = λ rest. s.none (mails-none bytes i es here h (mails-pass bytes (k - (i + 1)) (i + 1) k es (omega (arith, l)) within none rest));
-}
-
-pub searched-end : (bytes : List ℕ) (es : List Event) (i : ℕ) → length es ≤ i → Searched bytes es i → mails bytes 0 0 es ≡ []
-searched-end bytes es i l s = s.none (λ n links. ap (mails bytes n links) (drop_all i es l)) 0 0
 
 -- From one data with an `@` to the next.
 

@@ -5,7 +5,6 @@ use Rattle.markdown_engine_events.proofs.EventChainLemmas.{length-chained}
 use Rattle.markdown_event.specs.declared.event.Event.{Event}
 use Rattle.markdown_event.specs.declared.event.Link.{Link}
 use Rattle.markdown_passes.specs.MergedEvents.{is_data, is_enter, opens_data, closes_data}
-use Rattle.markdown_passes.specs.TrimmedEvents.{opens_ending, closes_ending}
 
 pub lent-length : (es items : List Event) → items ≡ chained es → length items ≡ length es
 lent-length es items h = ap length h ∙ length-chained 0 es
@@ -16,9 +15,6 @@ pub record Seen (es : List Event) (i : ℕ) (x : Event) : Type 0 where
   pub at : event ≡ get_or es i event
   pub opens : opens_data x ≡ opens_data event
   pub closes : closes_data x ≡ closes_data event
-  pub opens_line : opens_ending x ≡ opens_ending event
-  pub closes_line : closes_ending x ≡ closes_ending event
-  pub point : x.point ≡ event.point
 
 has-next : (k : Option ℕ) (l : Option Link) → has_link (next_link k l) ≡ has_link l
 has-next k None = refl
@@ -30,9 +26,6 @@ seen-first k e x es h = record {
   at = refl;
   opens = ap opens_data h ∙ ap (λ b. is_enter e.kind && (is_data e.name && not b)) (has-next k e.link);
   closes = ap closes_data h ∙ ap (λ b. not (is_enter e.kind) && (is_data e.name && not b)) (has-next k e.link);
-  opens_line = ap opens_ending h;
-  closes_line = ap closes_ending h;
-  point = ap (λ (y : Event). y.point) h;
 }
 
 seen-more : (i : ℕ) (e x : Event) (es : List Event) → Seen es i x → Seen (e ∷ es) (suc i) x
@@ -41,9 +34,6 @@ seen-more i e x es s = record {
   at = s.at;
   opens = s.opens;
   closes = s.closes;
-  opens_line = s.opens_line;
-  closes_line = s.closes_line;
-  point = s.point;
 }
 
 seen-from : (n i : ℕ) (es : List Event) (x : Event) → i < length es → x ≡ get_or (chained_from n es) i x → Seen es i x

@@ -8,10 +8,7 @@ pub mod EmailAtSign
 pub mod AtSignSearch
 pub mod EmailEditLemmas
 pub mod EmailPassLaw
-pub mod SettledEvents
 pub mod ClearBytes
-pub mod StillEvents
-pub mod StillTrees
 pub mod DataSearch
 pub mod LentEvents
 pub mod MergeEdits

@@ -5,6 +5,6 @@ pub mod TrimmedData
 pub mod TrimmedEvents
 -- What serves proofs: what functions and proofs promise each other.
 pub mod EmailScan
-pub mod OpenData
+pub mod ClearStretch
 pub mod EmailEdits
 pub mod DataOnLines

@@ -27,11 +27,11 @@ ghost use Rattle.markdown_model.specs.Passes.{with_emails_apart};
 ghost use Rattle.markdown_passes.specs.MergedEvents.{opens_data};
 ghost use Rattle.markdown_passes.specs.TrimmedEvents.{FirstDataHasPlaces, HasPlaces, HasParts};
 ghost use Rattle.markdown_passes.specs.EmailEdits.{begins_signed, links_after, links_past, mail_first, mails};
-ghost use Rattle.markdown_passes.specs.OpenData.{IsClear};
+ghost use Rattle.markdown_passes.specs.ClearStretch.{IsClear};
 
+use crate::clear::{self, Clear, clear_at_first};
 use crate::literal::{has_sign, mailed_data};
 use crate::partial_data::{next_data, opens_data};
-use crate::settled::{self, Clear, clear_at_first};
 use markdown_engine::tokenizer::Tokenizer;
 use markdown_engine_events::events::Events;
 use markdown_engine_events::util::edit_map::EditMap;
@@ -79,21 +79,7 @@ fn mail_first(
     Ok(())
 }
 
-// Whether data that begins at this event has an `@`.
-pub(crate) fn begins_signed(bytes: &[u8], events: &Events, index: usize) -> bool
-    requires fits { length bytes.now ≤ document_limit }
-    requires within { index < length events.now }
-    requires counted { length events.now < 2 ^ 64 }
-    requires places { FirstDataHasPlaces bytes.now (drop index events.now) }
-    requires opens { (e : Event) → opens_data (slice_index_or events.now index e) ≡ true }
-    ensures { result ≡ begins_signed bytes.now (drop index events.now) }
-{
-    let enter = events.bare_at(index);
-    let exit = events.bare_at(index + 1);
-    has_sign(bytes, enter.point, exit.point)
-}
-
-// The same, where the bytes up to the next `@` may have been looked through before.
+// Whether data that begins at this event has an `@`. The bytes up to the next `@` may have been looked through before.
 fn is_signed(bytes: &[u8], events: &Events, clear: &mut Clear, index: usize) -> bool
     requires fits { length bytes.now ≤ document_limit }
     requires clear { IsClear bytes.now clear.old }
@@ -106,7 +92,7 @@ fn is_signed(bytes: &[u8], events: &Events, clear: &mut Clear, index: usize) -> 
 {
     let enter = events.bare_at(index);
     let exit = events.bare_at(index + 1);
-    settled::has_sign(bytes, clear, enter.point, exit.point)
+    clear::has_sign(bytes, clear, enter.point, exit.point)
 }
 
 // The number of the first data with an `@` from an event on, or how many events there are.

@@ -1,9 +1,8 @@
-//! The passes over data, which merge neighbours, set whitespace apart, and set email literals apart; and a walk that merges data, and says whether the
-//! others find anything.
+//! The passes over data, which merge neighbours, set whitespace apart, and set email literals apart.
 #![tactic(auto)]
 
+mod clear;
 pub mod email;
 mod literal;
 pub mod partial_data;
 pub mod partial_whitespace;
-pub mod settled;

@@ -33,7 +33,7 @@ pub fn opens_data(event: &Event) -> bool
 
 // How many events there are, by the list in which they are lent.
 #[inline(always)]
-pub(crate) fn lent_len(events: &Events, items: &EventSlice) -> usize
+fn lent_len(events: &Events, items: &EventSlice) -> usize
     requires lent { items.now ≡ chained events.now }
     ensures { result ≡ length events.now }
 {
@@ -81,7 +81,7 @@ fn next_of_few(events: &Events, items: &EventSlice, from: usize) -> usize
 
 // As `next_data`, where the events are lent already: in which form the list stands is then looked up once for many calls.
 #[inline(always)]
-pub(crate) fn next_lent(events: &Events, items: &EventSlice, from: usize) -> usize
+fn next_lent(events: &Events, items: &EventSlice, from: usize) -> usize
     requires lent { items.now ≡ chained events.now }
     requires order { from ≤ length events.now }
     ensures from { from ≤ result }
@@ -143,7 +143,7 @@ fn is_joint(events: &Events, items: &EventSlice, index: usize) -> bool
 
 // As `mark`, where the events are lent already.
 #[inline(always)]
-pub(crate) fn mark_lent(
+fn mark_lent(
     events: &Events,
     items: &EventSlice,
     map: &mut EditMap,
@@ -180,11 +180,12 @@ fn mark_joints(events: &Events, map: &mut EditMap) -> Result<(), AllocError>
     requires { map.old ≡ [] }
     ensures { OnOk result (map.new ≡ joints 0 events.now) }
 {
-    let count = events.len();
-    let mut index = next_data(events, 0);
+    let lent = events.as_slice();
+    let count = lent_len(events, &lent);
+    let mut index = next_lent(events, &lent, 0);
     while index < count {
-        mark(events, map, index)?;
-        index = next_data(events, index + 1);
+        mark_lent(events, &lent, map, index)?;
+        index = next_lent(events, &lent, index + 1);
     }
     Ok(())
 }

@@ -96,7 +96,7 @@ fn ends_blank(bytes: &[u8], from: Point, to: Point) -> bool
 }
 
 // Whether a stretch loses codes, where blank ones go in front, at its back, or both.
-pub(crate) fn loses_blank(bytes: &[u8], front: bool, back: bool, from: Point, to: Point) -> bool
+fn loses_blank(bytes: &[u8], front: bool, back: bool, from: Point, to: Point) -> bool
     requires stretch { IsStretch bytes.now from to }
     ensures { result ≡ loses front back bytes.now from to }
 {
@@ -264,14 +264,14 @@ fn trimmed_data(
 }
 
 // Whether this is the Enter of a line ending. The name is looked at first, since most events have another.
-pub(crate) fn opens_ending(event: &Event) -> bool
+fn opens_ending(event: &Event) -> bool
     ensures { result ≡ opens_ending event.now }
 {
     matches!(event.name, Name::LineEnding) && matches!(event.kind, Kind::Enter)
 }
 
 // Whether this is the Exit of a line ending. The name is looked at first, since most events have another.
-pub(crate) fn closes_ending(event: &Event) -> bool
+fn closes_ending(event: &Event) -> bool
     ensures { result ≡ closes_ending event.now }
 {
     matches!(event.name, Name::LineEnding) && matches!(event.kind, Kind::Exit)

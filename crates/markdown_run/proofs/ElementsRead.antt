@@ -56,6 +56,7 @@ use Rattle.markdown_run_text.proofs.TextDataElements.{text-single}
 use Rattle.markdown_run_text.specs.TextStops.{reader_stops, text_stops}
 use Rattle.markdown_run.specs.ElementsOfText.{indexed, data_stops, MayTry, IsReady, FinishesAt, EndsByData, LeadsTo, PassesSome, ReachesData, ReadsElement}
 use Rattle.markdown_run.specs.Layer.{inline, text-within}
+use Rattle.markdown_run.proofs.RunConstructLemmas.{ready-tried}
 use Rattle.markdown_run.specs.RunConstruct.{Asks, IsConstruct, EndsBy, ConstructEnds}
 use Rattle.markdown_run_text.specs.ReaderEnds.{ReadsOrStays}
 use Rattle.markdown_run.proofs.IndexedRows.{advances-indexed, mark-indexed, row-alone}
@@ -180,11 +181,11 @@ module _ (T : Tokenizer) (v : ℕ) (r : IsReady T) (here : current_of T ≡ Some
 
   pub sole-asks : (name : StateName) → sole_try v ≡ Some name → IsConstruct name T
   sole-asks name e =
-      asks-by (tried_reading name) (subst (λ (o : Option StateName). SoleOrAlone inline T o) e sole-here)
+      asks-by (tried_reading name) refl (subst (λ (o : Option StateName). SoleOrAlone inline T o) e sole-here)
     where
-      asks-by : (o : Option (Tokenizer → TreeReading)) → SoleBy T (states_and_called (words_in inline) name) o → Asks o name T
-      asks-by None h = absurd h
-      asks-by (Some reading) h = subst (λ (w : StateWords). w.ready T) (sym (text-within name)) h.ready
+      asks-by : (o : Option (Tokenizer → TreeReading)) → tried_reading name ≡ o → SoleBy T (states_and_called (words_in inline) name) o → Asks o name T
+      asks-by None k h = absurd h
+      asks-by (Some reading) k h = ready-tried name T reading k (subst (λ (w : StateWords). w.ready T) (sym (text-within name)) h.ready)
 
   pub sole-ends : (name : StateName) (U : Tokenizer) (ok : Bool) → sole_try v ≡ Some name → ConstructEnds name T ok U →
       ReadsElement T ok U

@@ -22,16 +22,15 @@ use Rattle.markdown_model.specs.Setting.{Setting}
 use Rattle.markdown_run_text.specs.OpenStarts.{brackets_of}
 use Rattle.markdown_run_text.specs.Row.{row_has_run}
 use Rattle.markdown_run_text.specs.RunOverElements.{Finishes}
-use Rattle.markdown_run_text.specs.ContentPasses.{resolves_of}
+use Rattle.markdown_run_text.specs.ContentPasses.{may_resolve_of, resolves_of}
 use Rattle.markdown_run_text.specs.RunSetting.{text_setting_of}
 use Rattle.markdown_run_text.specs.TextContent.{text_passed, text_choice_of}
 use Rattle.markdown_run_text.proofs.RowTreeFacts.{grouped-runless}
-use Rattle.markdown_run.specs.RunWithPasses.{may_end_of}
 use Rattle.markdown_run.proofs.PassesAfterRun.{text_finish, text-trims, IsGiven}
 use Rattle.markdown_run.proofs.FoundTexts.{found-good, found-pairs, found-probed, found-still}
 use Rattle.markdown_run.proofs.TextTree.{text-finished}
 use Rattle.markdown_run.proofs.TreesWithoutRuns.{probes-none}
-use Rattle.markdown_run.proofs.WholeRun.{StartsContent, AreFresh, IsRowRead, finished-may-end, finished-left, finished-events, finished-probes, finished-elements}
+use Rattle.markdown_run.proofs.WholeRun.{StartsContent, AreFresh, IsRowRead, finished-may, finished-left, finished-events, finished-probes, finished-elements}
 
 -- from M on, with these scratch fields, the elements of the text are read up to U; the fields say whether the text is the first of a list item
 module _ (p : ParseState) (pieces : List Piece) (first : Bool) (content : IsContent p.bytes.now pieces) (s : TokenizeState) (fresh : AreFresh s) (told : s.document_at_first_paragraph_of_list_item ≡ first) (M U : Tokenizer) (start : StartsContent p pieces s M) (E : Finishes (text_choice_of M) text_passed M U) where
@@ -66,8 +65,8 @@ module _ (p : ParseState) (pieces : List Piece) (first : Bool) (content : IsCont
   good : row_has_run E.row ≡ true → IsGood p.bytes.now label_row
   good e = found-good setting all_codes E.row found singles
 
-  pub read-may : MayResolve may_end_of resolves_of U.resolvers (unregistered U)
-  read-may = finished-may-end R.Text text_finish text-trims (text_choice_of M) p pieces content setting Is s fresh M U start E good
+  pub read-may : MayResolve may_resolve_of resolves_of U.resolvers (unregistered U)
+  read-may = finished-may R.Text text_finish text-trims (text_choice_of M) p pieces content setting Is s fresh M U start E good
 
   module _ (V : Tokenizer) (r : Resolves resolves_of U.resolvers (unregistered U) V) where
     -- the looks that pairing took are within the bounds of the content's tree of labels

@@ -23,4 +23,3 @@ pub mod ReadyTexts
 pub mod ElementsRead
 pub mod TextEnds
 pub mod PlainEnds
-pub mod MergedEnds

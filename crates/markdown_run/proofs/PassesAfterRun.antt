@@ -32,7 +32,6 @@ use Rattle.markdown_passes.proofs.TrimPassLaw.{places-of}
 use Rattle.markdown_run_text.specs.RowStart.{passes_of}
 use Rattle.markdown_run_text.specs.RowTreeNames.{HasRowLines, IsRunless}
 use Rattle.markdown_run_text.specs.ContentPasses.{MayPair, PairsRuns, MergesData, MayFinish, mailed_where, may_resolve_of, resolves_of}
-use Rattle.markdown_run.specs.RunWithPasses.{may_end_of, MayMerge}
 use Rattle.markdown_run.proofs.DataInDocument.{parts-of, HasLines-merged, HasLines-HasData}
 use Rattle.markdown_run.proofs.PairsKeepLines.{HasLines-paired}
 use Rattle.markdown_run.proofs.TreesWithoutRuns.{paired-runless, unprobed}
@@ -43,15 +42,6 @@ abbrev pub passes_first : Bool → List ResolveName → List ResolveName
 passes_first true ns = R.Attention ∷ ns
 passes_first false ns = ns
 
--- what a text asks of its passes is what each asks, and more
-pub may-weaker : (ns : List ResolveName) (T : Tokenizer) → MayResolve may_end_of resolves_of ns T → MayResolve may_resolve_of resolves_of ns T
-may-weaker [] T h = tt
-may-weaker (R.Data ∷ ns) T h = (h.0.map, λ U l. may-weaker ns U (h.1 U l))
-may-weaker (R.Label ∷ ns) T h = (h.0, λ U l. may-weaker ns U (h.1 U l))
-may-weaker (R.Attention ∷ ns) T h = (h.0, λ U l. may-weaker ns U (h.1 U l))
-may-weaker (R.String ∷ ns) T h = (h.0, λ U l. may-weaker ns U (h.1 U l))
-may-weaker (R.Text ∷ ns) T h = (h.0, λ U l. may-weaker ns U (h.1 U l))
-
 -- and before these the pass of labels if it is
 abbrev pub labels_first : Bool → List ResolveName → List ResolveName
 labels_first true ns = R.Label ∷ ns
@@ -59,7 +49,7 @@ labels_first false ns = ns
 
 -- the last pass, and what it leaves of a tree whose data is part of the document
 pub record IsTrimming (last : ResolveName) (finish : ParseState → Forest → Forest) : Type 0 where
-  pub may : (T : Tokenizer) → MayFinish T → may_end_of last T
+  pub may : (T : Tokenizer) → MayFinish T → may_resolve_of last T
   pub same : (T U : Tokenizer) → resolves_of last T U → U ≡ record T { events = U.events }
   pub leaves : (T U : Tokenizer) (t : Forest) → resolves_of last T U → HasParts T.parse_state.now.bytes.now t →
       T.events ≡ appended_from 0 None t → U.events ≡ appended_from 0 None (finish T.parse_state.now t)
@@ -152,22 +142,11 @@ may-finish p pieces tree X V h m =
       tree = (merged tree, (merged-there p pieces tree X V h k.input, k.events));
     }
 
--- its data is part of the document before it is merged too
-may-merge : (p : ParseState) (pieces : List Piece) (tree : Forest) (X : Tokenizer) → HasTreeEvents p pieces tree X → MayMerge X
-may-merge p pieces tree X h =
-    let there : HasParts X.parse_state.now.bytes.now tree =
-    subst (λ (x : ParseState). HasParts x.bytes.now tree) (sym h.input) (parts-of p.bytes.now pieces tree h.content h.codes h.has_lines) in
-    record {
-      map = h.map;
-      fits = subst (λ (x : ParseState). length x.bytes.now ≤ document_limit) (sym h.input) h.content.fits;
-      tree = (tree, (there, (merged-there p pieces tree X X h h.input, h.events)));
-    }
-
 -- the passes may be run
 pub passes-may : (p : ParseState) (pieces : List Piece) (tree : Forest) (last : ResolveName) (finish : ParseState → Forest → Forest) (X : Tokenizer) →
-    IsTrimming last finish → HasTreeEvents p pieces tree X → MayResolve may_end_of resolves_of (R.Data ∷ last ∷ []) X
+    IsTrimming last finish → HasTreeEvents p pieces tree X → MayResolve may_resolve_of resolves_of (R.Data ∷ last ∷ []) X
 passes-may p pieces tree last finish X t h =
-    (may-merge p pieces tree X h, λ V m. (t.may V (may-finish p pieces tree X V h m), λ W l. tt))
+    (h.map, λ V m. (t.may V (may-finish p pieces tree X V h m), λ W l. tt))
 
 -- what they leave
 pub passes-leave : (p : ParseState) (pieces : List Piece) (tree : Forest) (last : ResolveName) (finish : ParseState → Forest → Forest) (X V : Tokenizer) →
@@ -247,7 +226,7 @@ pub record IsResolved (s : Setting) (finish : Forest → Forest) (tree : Forest)
 -- the passes behind that of labels: those of runs, if a run stands somewhere, of data and of the whole
 module _ (p : ParseState) (pieces : List Piece) (tree : Forest) (s : Setting) (given : IsGiven s p) (last : ResolveName) (finish : ParseState → Forest → Forest) (X : Tokenizer) (t : IsTrimming last finish) (read : HasTreeEvents p pieces tree X) where
   pub first-may : (b : Bool) → (b ≡ true → IsGood p.bytes.now tree) →
-      MayResolve may_end_of resolves_of (passes_first b (R.Data ∷ last ∷ [])) X
+      MayResolve may_resolve_of resolves_of (passes_first b (R.Data ∷ last ∷ [])) X
   first-may true good = (
     may-pair p pieces tree X read (good refl),
     λ V m. passes-may p pieces (paired_whole s (pair_list s) tree) last finish V t (paired-read p pieces tree s given X V read (good refl) m),

@@ -8,10 +8,10 @@ use Rattle.markdown_engine.specs.PassesInOrder.{MayResolve, unregistered}
 use Rattle.markdown_event.specs.declared.resolve.ResolveName.{ResolveName}
 use Rattle.markdown_event.specs.declared.resolve.ResolveName.TheVariants as R
 use Rattle.markdown_engine.specs.declared.tokenizer.Tokenizer.{Tokenizer}
-use Rattle.markdown_run_text.specs.ContentPasses.{FinishesText, MayFinish, MergesData, resolves_of}
+use Rattle.markdown_run_text.specs.ContentPasses.{may_resolve_of, FinishesText, MayFinish, MergesData, resolves_of}
 use Rattle.markdown_run_text.specs.TextContent.{text_passed}
 use Rattle.markdown_run.specs.ElementsOfText.{forgotten}
-use Rattle.markdown_run.specs.RunWithPasses.{may_end_of, IsFoundBehind, MayFinishPlain, MayMerge}
+use Rattle.markdown_run.specs.RunWithPasses.{IsFoundBehind, MayFinishPlain}
 use Rattle.markdown_run.specs.declared.run.ListRun.{ListRun}
 
 -- both hold of what a call leaves
@@ -38,9 +38,9 @@ may-finish : (T : Tokenizer) → MayFinish (forgotten T) → MayFinish T
 unfolding scratched
 may-finish T m = record { map = m.map; fits = m.fits; tree = m.tree }
 
-pub plain-merge : (T : Tokenizer) → MayFinishPlain T → MayMerge T
+pub plain-merge : (T : Tokenizer) → MayFinishPlain T → T.map ≡ []
 unfolding scratched
-plain-merge T may = record { map = may.0.map; fits = may.0.fits; tree = may.0.tree }
+plain-merge T may = may.0
 
 pub plain-may : (T U : Tokenizer) → MayFinishPlain T → MergesData T U → MayFinish U
 plain-may T U may m = may-finish U (may.1 (forgotten U) (merges-forgotten T U m)).0
@@ -54,13 +54,13 @@ unfolding scratched bare
 forgotten-bare T none = ap (λ (names : List ResolveName). record (forgotten T) { resolvers = names }) none
 
 pub plain-passes : (T : Tokenizer) → T.resolvers ≡ [] →
-    MayResolve may_end_of resolves_of (text_passed (forgotten T)).resolvers (unregistered (text_passed (forgotten T))) → MayFinishPlain T
+    MayResolve may_resolve_of resolves_of (text_passed (forgotten T)).resolvers (unregistered (text_passed (forgotten T))) → MayFinishPlain T
 unfolding registered unregistered bare
 plain-passes T none may =
-    subst (λ (x : Tokenizer). MayResolve may_end_of resolves_of (R.Data ∷ R.Text ∷ []) x) (sym (forgotten-bare T none)) (of-bare (subst (λ (x : Tokenizer). MayResolve may_end_of resolves_of (text_passed x).resolvers (unregistered (text_passed x))) (forgotten-bare T none) may))
+    subst (λ (x : Tokenizer). MayResolve may_resolve_of resolves_of (R.Data ∷ R.Text ∷ []) x) (sym (forgotten-bare T none)) (of-bare (subst (λ (x : Tokenizer). MayResolve may_resolve_of resolves_of (text_passed x).resolvers (unregistered (text_passed x))) (forgotten-bare T none) may))
   where
-    of-bare : MayResolve may_end_of resolves_of (text_passed (bare T)).resolvers (unregistered (text_passed (bare T)))
-        → MayResolve may_end_of resolves_of (R.Data ∷ R.Text ∷ []) (bare T)
+    of-bare : MayResolve may_resolve_of resolves_of (text_passed (bare T)).resolvers (unregistered (text_passed (bare T)))
+        → MayResolve may_resolve_of resolves_of (R.Data ∷ R.Text ∷ []) (bare T)
     of-bare h = h
 
 pub plain-found : (T U V : Tokenizer) (run : ListRun) → T.resolvers ≡ [] → MergesData T U → FinishesText U V →

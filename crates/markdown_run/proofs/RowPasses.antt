@@ -22,8 +22,7 @@ use Rattle.markdown_run_text.proofs.RowTreeFacts.{grouped-lines, grouped-codes, 
 use Rattle.markdown_run_text.proofs.RowScratch.{past-rest, row-content}
 use Rattle.markdown_run_text.proofs.RowWithoutLabels.{flat-grouped}
 use Rattle.markdown_run_text.specs.RowTreeNames.{IsRunless}
-use Rattle.markdown_run_text.specs.ContentPasses.{GroupsLabels, resolves_of}
-use Rattle.markdown_run.specs.RunWithPasses.{may_end_of}
+use Rattle.markdown_run_text.specs.ContentPasses.{may_resolve_of, GroupsLabels, resolves_of}
 use Rattle.markdown_run.proofs.PassesAfterRun.{passes_first, labels_first, IsTrimming, HasTreeEvents, IsGiven, IsRunStart, IsResolved, codes-ahead, first-may, first-leaves, codes-read}
 use Rattle.markdown_content.specs.Content.{content_of}
 
@@ -108,15 +107,15 @@ module _ (p : ParseState) (pieces : List Piece) (s : Setting) (given : IsGiven s
   unfolding unregistered
   grouped-probes Y g = ap (λ (x : Tokenizer). x.tokenize_state.probes) g.same ∙ probes
 
-  labels-may : (a : Bool) → row_registers row ≡ a → MayResolve may_end_of resolves_of (labels_first a Others) X
+  labels-may : (a : Bool) → row_registers row ≡ a → MayResolve may_resolve_of resolves_of (labels_first a Others) X
   labels-may true e =
       (may-group, λ Y g. first-may p pieces tree s given last finish Y t (read-grouped Y g) (row_has_run row) good)
   labels-may false e = first-may p pieces tree s given last finish X t (read-plain e) (row_has_run row) good
 
   -- after the run the passes may be run
-  pub row-may : MayResolve may_end_of resolves_of U.resolvers (unregistered U)
+  pub row-may : MayResolve may_resolve_of resolves_of U.resolvers (unregistered U)
   unfolding unregistered
-  row-may = subst (λ (x : Tokenizer). MayResolve may_end_of resolves_of x.resolvers (unregistered x)) (sym left-is) (labels-may (row_registers row) refl)
+  row-may = subst (λ (x : Tokenizer). MayResolve may_resolve_of resolves_of x.resolvers (unregistered x)) (sym left-is) (labels-may (row_registers row) refl)
 
   labels-leave : (a : Bool) → row_registers row ≡ a → (V : Tokenizer) →
       Resolves resolves_of (labels_first a Others) X V → IsResolved s (finish p) tree V

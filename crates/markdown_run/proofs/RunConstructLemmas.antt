@@ -9,6 +9,8 @@ use Rattle.markdown_event.specs.declared.state.State.TheVariants as State
 use Rattle.markdown_event.specs.declared.state.StateName.{StateName}
 use Rattle.markdown_event.specs.declared.state.StateName.TheVariants.{AttentionStart, DataStart, DestinationStart, LabelStart, TitleStart, GfmLabelStartFootnoteStart}
 use Rattle.markdown_event.specs.declared.state.StateName.TheVariants.{LabelEndStart, LabelStartImageStart, LabelStartLinkStart, SpaceOrTabStart, SpaceOrTabEolStart}
+use Rattle.markdown_event.specs.declared.state.StateName.TheVariants.{AutolinkStart, CharacterEscapeStart, CharacterReferenceStart, HardBreakEscapeStart, HtmlTextStart, RawTextStart}
+use Rattle.markdown_event.specs.declared.state.StateName.TheVariants.{GfmAutolinkLiteralProtocolStart, GfmAutolinkLiteralWwwStart, GfmTaskListItemCheckStart}
 use Rattle.markdown_engine.specs.declared.tokenizer.TokenizeState.{TokenizeState}
 use Rattle.markdown_engine.specs.declared.tokenizer.Tokenizer.{Tokenizer}
 use Rattle.markdown_engine.proofs.ReadingSequences.{scratched-same}
@@ -21,7 +23,7 @@ use Rattle.markdown_model.specs.LabelEnd.{Element}
 use Rattle.markdown_run_text.specs.ReaderEnds.{ReadsOrStays, BeginsOrStays}
 use Rattle.markdown_run_text.specs.Row.{past_mark}
 use Rattle.markdown_run_text.specs.TextContent.{tried_reading}
-use Rattle.markdown_run.specs.RunConstruct.{IsConstruct, OtherAsks, Asks, chain_before, fields_after, start_reading, EndsOrLoses, OtherEnds, EndsBy, ConstructEnds}
+use Rattle.markdown_run.specs.RunConstruct.{IsConstruct, OtherAsks, TriedAsks, Asks, chain_before, fields_after, start_reading, EndsOrLoses, OtherEnds, EndsBy, ConstructEnds}
 use Rattle.markdown_run_text.proofs.LabelStartConstructs.{image-begins, link-begins, footnote-begins, image-not, link-not, footnote-not}
 use Rattle.markdown_run.specs.Layer.{ends_of, ready_of}
 
@@ -74,9 +76,35 @@ other-ready GfmLabelStartFootnoteStart T c = c
 other-ready LabelEndStart T c = c
 other-ready _ T c = absurd c
 
+tried-ready : (name : StateName) (T : Tokenizer) → TriedAsks name T → ready_of name T
+tried-ready CharacterEscapeStart T c = c
+tried-ready CharacterReferenceStart T c = c
+tried-ready HardBreakEscapeStart T c = c
+tried-ready AutolinkStart T c = c
+tried-ready HtmlTextStart T c = c
+tried-ready RawTextStart T c = c
+tried-ready GfmTaskListItemCheckStart T c = c
+tried-ready GfmAutolinkLiteralProtocolStart T c = c
+tried-ready GfmAutolinkLiteralWwwStart T c = c
+tried-ready _ T c = absurd c
+
+-- and the other way round
+pub ready-tried : (name : StateName) (T : Tokenizer) (reading : Tokenizer → TreeReading) → tried_reading name ≡ Some reading → ready_of name T →
+    TriedAsks name T
+ready-tried CharacterEscapeStart T reading e c = c
+ready-tried CharacterReferenceStart T reading e c = c
+ready-tried HardBreakEscapeStart T reading e c = c
+ready-tried AutolinkStart T reading e c = c
+ready-tried HtmlTextStart T reading e c = c
+ready-tried RawTextStart T reading e c = c
+ready-tried GfmTaskListItemCheckStart T reading e c = c
+ready-tried GfmAutolinkLiteralProtocolStart T reading e c = c
+ready-tried GfmAutolinkLiteralWwwStart T reading e c = c
+ready-tried _ T reading e c = cc
+
 asks-ready : (o : Option (Tokenizer → TreeReading)) (name : StateName) (T : Tokenizer) → Asks o name T → ready_of name T
 asks-ready None name T c = other-ready name T c
-asks-ready (Some reading) name T c = c
+asks-ready (Some reading) name T c = tried-ready name T c
 
 pub construct-ready : (name : StateName) (T : Tokenizer) → IsConstruct name T → ready_of name T
 construct-ready name T c = asks-ready (tried_reading name) name T c

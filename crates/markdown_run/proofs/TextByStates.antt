@@ -17,7 +17,6 @@ use Rattle.markdown_run_text.specs.ContentPasses.{may_resolve_of, resolves_of}
 use Rattle.markdown_run_text.specs.RunSetting.{text_setting_of}
 use Rattle.markdown_run_text.specs.TextContent.{marked_fields, text_choice_of, text_marked, text_passed, start_ends}
 use Rattle.markdown_run.proofs.FinishedTexts.{read-may, read-probes, read-no-probes, read-events}
-use Rattle.markdown_run.proofs.PassesAfterRun.{may-weaker}
 use Rattle.markdown_run.proofs.TextRun.{text_fields, text_start}
 use Rattle.markdown_run.proofs.WholeRun.{StartsContent, start-with, AreFresh}
 
@@ -48,7 +47,7 @@ module _ (p : ParseState) (pieces : List Piece) (first : Bool) (content : IsCont
   -- however the states end
   module _ (ok : Bool) (k : start_ends T ok U) where
     pub states-may : MayResolve may_resolve_of resolves_of U.resolvers (unregistered U)
-    states-may = may-weaker U.resolvers (unregistered U) (read-may p pieces first content Fields F refl M U S (ended ok k))
+    states-may = read-may p pieces first content Fields F refl M U S (ended ok k)
 
     module _ (V : Tokenizer) (r : Resolves resolves_of U.resolvers (unregistered U) V) where
       abbrev setting : Setting

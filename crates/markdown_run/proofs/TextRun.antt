@@ -24,8 +24,7 @@ use Rattle.markdown_partial.specs.PartialSpaceOrTab as PartialSpaceOrTab
 use Rattle.markdown_model.specs.InlineTree.{text_events, label_tree}
 use Rattle.markdown_model.specs.Setting.{Setting}
 use Rattle.markdown_run_text.specs.RunOverElements.{Finishes}
-use Rattle.markdown_run_text.specs.ContentPasses.{resolves_of}
-use Rattle.markdown_run.specs.RunWithPasses.{may_end_of}
+use Rattle.markdown_run_text.specs.ContentPasses.{may_resolve_of, resolves_of}
 use Rattle.markdown_run_text.specs.RunSetting.{text_setting_of}
 use Rattle.markdown_run_text.specs.TextContent.{TextStartReady, named_fields, text_passed, text_choice_of}
 use Rattle.markdown_run.specs.ElementsOfText.{KnowsNothing, text_named, with_indexes}
@@ -144,7 +143,7 @@ module _ (p : ParseState) (pieces : List Piece) (lent : Option Names) (first : B
   F = fresh-fields lent first T.cursor T.parse_state.now
 
   module _ (E : Finishes (text_choice_of M) text_passed M U) where
-    pub text-may : MayResolve may_end_of resolves_of U.resolvers (unregistered U)
+    pub text-may : MayResolve may_resolve_of resolves_of U.resolvers (unregistered U)
     text-may = read-may p pieces first content Fields F refl M U S E
 
     module _ (V : Tokenizer) (r : Resolves resolves_of U.resolvers (unregistered U) V) where

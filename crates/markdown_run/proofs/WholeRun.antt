@@ -40,8 +40,7 @@ use Rattle.markdown_run_text.specs.Row.{Row, row_has_run, IsRowAt, split_row, ro
 use Rattle.markdown_run_text.proofs.RowElements.{grouped-alike}
 use Rattle.markdown_run_text.proofs.RowTreeFacts.{grouped-lines, codes-labels}
 use Rattle.markdown_run_text.specs.ContentPasses.{may_resolve_of, resolves_of}
-use Rattle.markdown_run.specs.RunWithPasses.{may_end_of}
-use Rattle.markdown_run.proofs.PassesAfterRun.{may-weaker, codes-read}
+use Rattle.markdown_run.proofs.PassesAfterRun.{codes-read}
 use Rattle.markdown_run.proofs.DataInDocument.{HasLines-HasCodes}
 use Rattle.markdown_run.proofs.PassesAfterRun.{IsTrimming, IsRunStart, IsGiven, IsResolved, codes-ahead}
 use Rattle.markdown_run.proofs.ProbeBoundsOfCutData.{probes-alike}
@@ -166,12 +165,9 @@ module _ (last : ResolveName) (finish : ParseState → Forest → Forest) (trims
       }
 
   module _ (good : row_has_run k.row ≡ true → IsGood p.bytes.now Grouped) where
-    pub finished-may-end : MayResolve may_end_of resolves_of U.resolvers (unregistered U)
-    finished-may-end =
-        row-may p pieces setting is_given k.row last finish T U trims begins (fresh-start p pieces s T fresh start) is_row k.whole good k.left
-
     pub finished-may : MayResolve may_resolve_of resolves_of U.resolvers (unregistered U)
-    finished-may = may-weaker U.resolvers (unregistered U) finished-may-end
+    finished-may =
+        row-may p pieces setting is_given k.row last finish T U trims begins (fresh-start p pieces s T fresh start) is_row k.whole good k.left
 
     pub finished-left : (V : Tokenizer) → Resolves resolves_of U.resolvers (unregistered U) V →
         IsResolved setting (finish p) Grouped V

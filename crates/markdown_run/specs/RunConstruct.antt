@@ -9,17 +9,23 @@ use Rattle.markdown_event.specs.declared.resolve.ResolveName.TheVariants as R
 use Rattle.markdown_event.specs.declared.state.StateName.{StateName}
 use Rattle.markdown_event.specs.declared.state.StateName.TheVariants.{AttentionStart, DataStart, DestinationStart, LabelStart, TitleStart, GfmLabelStartFootnoteStart}
 use Rattle.markdown_event.specs.declared.state.StateName.TheVariants.{LabelEndStart, LabelStartImageStart, LabelStartLinkStart, SpaceOrTabStart, SpaceOrTabEolStart}
+use Rattle.markdown_event.specs.declared.state.StateName.TheVariants.{AutolinkStart, CharacterEscapeStart, CharacterReferenceStart, HardBreakEscapeStart, HtmlTextStart, RawTextStart}
+use Rattle.markdown_event.specs.declared.state.StateName.TheVariants.{GfmAutolinkLiteralProtocolStart, GfmAutolinkLiteralWwwStart, GfmTaskListItemCheckStart}
 use Rattle.markdown_content.specs.declared.label_kind.LabelKind.{LabelKind}
 use Rattle.markdown_engine.specs.declared.tokenizer.TokenizeState.{TokenizeState}
 use Rattle.markdown_engine.specs.declared.tokenizer.Tokenizer.{Tokenizer}
 use Rattle.markdown_attention.specs.Attention as Attention
 use Rattle.markdown_label.specs.LabelEnd as LabelEnd
+use Rattle.markdown_leaf.specs.CharacterReference as CharacterReference
+use Rattle.markdown_leaf.specs.RawText as RawText
+use Rattle.markdown_leaf_gfm.specs.GfmAutolinkLiteral as GfmAutolinkLiteral
+use Rattle.markdown_leaf_gfm.specs.GfmTaskListItemCheck as GfmTaskListItemCheck
+use Rattle.markdown_leaf_html.specs.HtmlText as HtmlText
 use Rattle.markdown_model.specs.Grammar.{Reading}
 use Rattle.markdown_label.specs.LabelEnd.{last_start, lost_fields}
 use Rattle.markdown_label_names.specs.LabelSetting.{setting_in}
 use Rattle.markdown_run_text.specs.ReaderEnds.{options_here, ReadsOrStays, BeginsOrStays}
 use Rattle.markdown_run_text.specs.TextContent.{tried_reading}
-use Rattle.markdown_run.specs.Layer.{ready_of}
 use Rattle.markdown_model.specs.LabelEnd.{Element}
 use Rattle.markdown_model.specs.TextLines.{data_up_to}
 use Rattle.markdown_partial.specs.LinkedText.{rules_in}
@@ -56,9 +62,21 @@ OtherAsks SpaceOrTabStart T = PartialSpaceOrTab.SpaceOrTabStartReady T
 OtherAsks SpaceOrTabEolStart T = PartialSpaceOrTabEol.SpaceOrTabEolStartReady T
 OtherAsks _ T = ⊥
 
+abbrev pub TriedAsks : StateName → Tokenizer → Type 0
+TriedAsks CharacterEscapeStart T = Unit {0}
+TriedAsks CharacterReferenceStart T = CharacterReference.IsAtRest T
+TriedAsks HardBreakEscapeStart T = Unit {0}
+TriedAsks AutolinkStart T = T.tokenize_state.size ≡ 0
+TriedAsks HtmlTextStart T = HtmlText.HtmlStartReady T
+TriedAsks RawTextStart T = RawText.RawTextStartReady T
+TriedAsks GfmTaskListItemCheckStart T = GfmTaskListItemCheck.MayLook T
+TriedAsks GfmAutolinkLiteralProtocolStart T = GfmAutolinkLiteral.LiteralStartReady T
+TriedAsks GfmAutolinkLiteralWwwStart T = GfmAutolinkLiteral.LiteralStartReady T
+TriedAsks _ T = ⊥
+
 abbrev pub Asks : Option (Tokenizer → TreeReading) → StateName → Tokenizer → Type 0
 Asks None name T = OtherAsks name T
-Asks (Some reading) name T = ready_of name T
+Asks (Some reading) name T = TriedAsks name T
 
 abbrev pub IsConstruct : StateName → Tokenizer → Type 0
 IsConstruct name T = Asks (tried_reading name) name T

@@ -1,22 +1,16 @@
 -- Whole runs: the states from one on, and then the passes that they registered.
-use Rattle.std.specs.Prelude.{◌≡◌, ◌≤◌, ◌∷◌, [], Bool, None, length}
+use Rattle.std.specs.Prelude.{◌≡◌, ◌∷◌, [], Bool}
 use Rattle.markdown_engine_events.specs.EventChains.{chained}
 use Rattle.std.specs.Borrow.{Bor}
 use Rattle.std.specs.declared.alloc.Global.{Global}
 use Rattle.markdown_engine.specs.RestingFields.{at_rest}
 use Rattle.markdown_engine.specs.RunStart.{begun_at}
-use Rattle.markdown_content.specs.Content.{document_limit}
 use Rattle.markdown_content.specs.Place.{Place}
-use Rattle.markdown_content.specs.Tree.{Forest}
-use Rattle.markdown_engine.specs.PastTree.{appended_from}
 use Rattle.markdown_content.specs.declared.parser.ParseState.{ParseState}
 use Rattle.markdown_engine.specs.PassesInOrder.{MayResolve, Resolves, unregistered}
-use Rattle.markdown_event.specs.declared.resolve.ResolveName.{ResolveName}
 use Rattle.markdown_event.specs.declared.resolve.ResolveName.TheVariants as R
 use Rattle.markdown_event.specs.declared.state.StateName.{StateName}
 use Rattle.markdown_engine.specs.declared.tokenizer.Tokenizer.{Tokenizer}
-use Rattle.markdown_model.specs.Passes.{merged}
-use Rattle.markdown_passes.specs.TrimmedEvents.{HasParts}
 use Rattle.markdown_run_text.specs.ContentPasses.{may_resolve_of, resolves_of}
 use Rattle.markdown_run.specs.ElementsOfText.{FinishesAt, forgotten, text_named}
 use Rattle.markdown_run.specs.Layer.{ends_of}
@@ -42,20 +36,8 @@ pub record IsFoundFrom (name : StateName) (T : Tokenizer) (run : ListRun) : Type
 
 -- the same of a text whose elements are read from T on
 
--- no edit is left, the document has at most so many bytes, and the events are those of a tree whose data is part of the document, before it is
--- merged and behind that
-pub record MayMerge (T : Tokenizer) : Type 0 where
-  pub map : T.map ≡ []
-  pub fits : length T.parse_state.now.bytes.now ≤ document_limit
-  pub tree : (t : Forest) × (HasParts T.parse_state.now.bytes.now t × (HasParts T.parse_state.now.bytes.now (merged t) × (T.events ≡ appended_from 0 None t)))
-
--- where the passes of a text are called, the data is part of the document already where it is merged
-abbrev pub may_end_of : ResolveName → Tokenizer → Type 0
-may_end_of R.Data T = MayMerge T
-may_end_of n T = may_resolve_of n T
-
 abbrev pub MayPassText : Tokenizer → Type 0
-MayPassText T = (left : Tokenizer) → FinishesAt (text_named T) left → MayResolve may_end_of resolves_of left.resolvers (unregistered left)
+MayPassText T = (left : Tokenizer) → FinishesAt (text_named T) left → MayResolve may_resolve_of resolves_of left.resolvers (unregistered left)
 
 -- at the start of a text, where nothing is known of the names
 abbrev pub begun_text : Global → Bor ParseState → Place → Bool → Tokenizer
@@ -69,4 +51,4 @@ pub record IsFoundInText (T : Tokenizer) (run : ListRun) : Type 0 where
 
 -- the passes that end a text may be called behind elements that have registered none, whatever is known of the content
 abbrev pub MayFinishPlain : Tokenizer → Type 0
-MayFinishPlain T = MayResolve may_end_of resolves_of (R.Data ∷ R.Text ∷ []) (forgotten T)
+MayFinishPlain T = MayResolve may_resolve_of resolves_of (R.Data ∷ R.Text ∷ []) (forgotten T)

@@ -11,9 +11,9 @@
 //!     [             the states of `gfm_label_start_footnote` where a `^` follows, then the reader `label_start_link`
 //!     !             the reader `label_start_image`
 //!     \             the reader `character_escape`, then the states of `hard_break_escape`
-//!     <             the readers `autolink` and `html_text`, then the states of `html_text`
+//!     <             the states of `autolink`, then those of `html_text`
 //!     ]             the reader `label_end`, then its states
-//!     &             the reader `character_reference`, then its states
+//!     &             the states of `character_reference`
 //!     H, h, W, w    the states of `gfm_autolink_literal`, where literals are on and their word stands
 //!     any other     nothing; it is data
 //!
@@ -61,12 +61,12 @@ use markdown_engine::tokenizer::Tokenizer;
 use markdown_event::resolve::ResolveName;
 use markdown_event::state::StateName;
 use markdown_leaf_gfm::gfm_autolink_literal;
-use markdown_leaf_html::html_text as html_states;
+use markdown_leaf_html::html_text;
 use markdown_notes::run_index::RunIndex;
 use markdown_notes::sequence_index::SequenceIndex;
 use markdown_run_text::readers::{
-    attention, autolink, character_escape, character_reference, html_text, label_end,
-    label_start_image, label_start_link, partial_data, raw_text,
+    attention, character_escape, label_end, label_start_image, label_start_link, partial_data,
+    raw_text,
 };
 use markdown_run_text::text;
 use std::alloc::AllocError;
@@ -102,7 +102,7 @@ fn comes_next(tokenizer: &Tokenizer, byte: u8) -> bool
     }
 }
 
-// Tries an autolink, then a plain tag, and then other HTML, unless it is known that this does not end, and answers whether one is read.
+// Tries an autolink, and then HTML, unless it is known that this does not end, and answers whether one is read.
 //
 //     > | <ftp:x> <b> <!-- c -->
 //         ^^^^^^^ ^^^ ^^^^^^^^^^
@@ -112,15 +112,11 @@ fn read_angle(tokenizer: &mut Tokenizer) -> Result<bool, AllocError>
     ensures reads { IfOk result (λ ok. ReadsElement tokenizer.old ok tokenizer.new) }
     ensures err { OnErr result (IsTrue tokenizer.new.failed) }
 {
-    let held = autolink::read(tokenizer)?;
+    let held = construct(StateName::AutolinkStart, tokenizer)?;
     if held {
         return Ok(true);
     }
-    let held = html_text::read(tokenizer)?;
-    if held {
-        return Ok(true);
-    }
-    if html_states::is_ruled_out(tokenizer) {
+    if html_text::is_ruled_out(tokenizer) {
         return Ok(false);
     }
     construct(StateName::HtmlTextStart, tokenizer)
@@ -279,23 +275,6 @@ fn read_sole(tokenizer: &mut Tokenizer, byte: u8) -> Result<bool, AllocError>
     }
 }
 
-// Tries a character reference, by its reader and then by its states, and answers whether one is read.
-//
-//     > | a &amp; b
-//           ^^^^^
-fn read_ampersand(tokenizer: &mut Tokenizer) -> Result<bool, AllocError>
-    requires ready { IsReady tokenizer.old }
-    requires here { current_of tokenizer.old ≡ Some (byte "&") }
-    ensures reads { IfOk result (λ ok. ReadsElement tokenizer.old ok tokenizer.new) }
-    ensures err { OnErr result (IsTrue tokenizer.new.failed) }
-{
-    let held = character_reference::read(tokenizer)?;
-    if held {
-        return Ok(true);
-    }
-    read_sole(tokenizer, b'&')
-}
-
 // Tries what may begin with the byte at hand, which is given, and answers whether it does.
 //
 //     > | a *b* [c](d)
@@ -315,7 +294,6 @@ fn read_construct(tokenizer: &mut Tokenizer, byte: u8) -> Result<bool, AllocErro
         b'\\' => read_backslash(tokenizer),
         b'<' => read_angle(tokenizer),
         b']' => read_end(tokenizer),
-        b'&' => read_ampersand(tokenizer),
         b'W' | b'w' => read_www(tokenizer, byte),
         _ => read_sole(tokenizer, byte),
     }

@@ -24,15 +24,13 @@
 //!       EmphasisSequence 4-5
 //!
 //! Definition: `text_events` and `string_events` in `markdown_model/specs/InlineTree.antt`.
-ghost use Rattle.std.specs.Prelude.{◌≡◌, ◌-◌, false, [], take, drop, map, length, IfOk, IsErr, OnErr, OnOk, IsTrue};
+ghost use Rattle.std.specs.Prelude.{◌≡◌, ◌-◌, false, [], take, drop, map, length, IfOk, IsErr, OnErr, IsTrue};
 ghost use Rattle.std.specs.List.{All};
 ghost use Rattle.markdown_run.specs.RunConstruct.{IsConstruct, ConstructEnds};
 ghost use Rattle.markdown_run.specs.Layer.{ready_of};
-ghost use Rattle.markdown_run.specs.RunWithPasses.{may_end_of, MayFinishPlain, MayMerge, MayPass, IsFoundFrom, MayPassText, IsFoundInText, IsFoundBehind, begun_text};
+ghost use Rattle.markdown_run.specs.RunWithPasses.{MayFinishPlain, MayPass, IsFoundFrom, MayPassText, IsFoundInText, IsFoundBehind, begun_text};
 ghost use Rattle.markdown_run.specs.ElementsOfText.{KnowsNothing, forgotten};
 ghost use Rattle.markdown_engine_events.specs.EventChains.{chained};
-ghost use Rattle.markdown_engine.specs.PassesInOrder.{MayResolve, Resolves, unregistered};
-ghost use Rattle.markdown_run_text.specs.ContentPasses.{may_resolve_of, resolves_of, FinishesText, MergesData};
 ghost use Rattle.markdown_run_text.specs.TextContent.{TextStartReady, text_passed};
 ghost use Rattle.markdown_content.specs.Content.{IsContent, IsTextContent, content_of};
 ghost use Rattle.markdown_run_text.specs.RunSetting.{setting_of, text_setting_of};
@@ -43,7 +41,7 @@ ghost use Rattle.markdown_model.specs.InlineTree.{label_tree, string_events, tex
 pub use crate::by_states::text_by_states;
 use crate::elements::{end_text, read_text};
 use crate::state::Inline;
-use crate::{resolve, text};
+use crate::text;
 pub use markdown_content::content::{is_content, is_text};
 use markdown_content::cursor::Cursor;
 use markdown_content::parser::ParseState;
@@ -52,10 +50,8 @@ use markdown_engine::tokenizer::Tokenizer;
 use markdown_engine_events::event_list::EventList;
 use markdown_engine_events::events::Events;
 use markdown_event::event::Event;
-use markdown_event::resolve::ResolveName;
-use markdown_event::seq::Seq;
 use markdown_event::state::StateName;
-use markdown_passes::{partial_data, settled};
+use markdown_passes::partial_data;
 use std::alloc::{AllocError, Global};
 use std::mem;
 
@@ -109,81 +105,18 @@ fn found_in(tokenizer: &mut Tokenizer) -> ListRun
     }
 }
 
-// Merges neighbouring data, which is what the pass `Data` does, and answers whether the pass `Text` is known to find nothing then. Where autolink literals
-// are on, one walk does both: `settled::merge_and_tell`. Otherwise nothing is told, and `partial_data::resolve` merges.
-fn merge_data(tokenizer: &mut Tokenizer) -> Result<bool, AllocError>
-    requires { MayMerge tokenizer.old }
-    ensures merges { OnOk result (MergesData tokenizer.old tokenizer.new) }
-    ensures settled { IfOk result (λ settled. IsTrue settled → FinishesText tokenizer.new tokenizer.new) }
-{
-    let emails = tokenizer
-        .parse_state
-        .options
-        .constructs
-        .gfm_autolink_literal;
-    if !emails {
-        partial_data::resolve(tokenizer)?;
-        return Ok(false);
-    }
-    let bytes = tokenizer.parse_state.bytes;
-    let settled = settled::merge_and_tell(bytes, &mut tokenizer.events, &mut tokenizer.map)?;
-    Ok(settled)
-}
-
-// Calls the pass of this name behind a text, and answers whether the pass `Text` is known to find nothing then. `settled` says that it is known before.
-//
-// Each name means what it means in `resolve::call`, with two exceptions:
-//
-// - `Data` is `merge_data`, which may tell something of `Text` as well.
-// - `Text` is left out where it is known that it finds nothing.
-fn pass_of_text(
-    name: ResolveName,
-    tokenizer: &mut Tokenizer,
-    settled: bool,
-) -> Result<bool, AllocError>
-    requires may { may_end_of name tokenizer.old }
-    requires settled { IsTrue settled → FinishesText tokenizer.old tokenizer.old }
-    ensures ok { OnOk result (resolves_of name tokenizer.old tokenizer.new) }
-    ensures settled { IfOk result (λ settled. IsTrue settled → FinishesText tokenizer.new tokenizer.new) }
-{
-    if name == ResolveName::Data {
-        return merge_data(tokenizer);
-    }
-    if settled && name == ResolveName::Text {
-        return Ok(true);
-    }
-    resolve::call(name, tokenizer)?;
-    Ok(false)
-}
-
-// Calls the passes of a text that are registered, in order, after which none is registered. It answers nothing. What `Data` and `Text` mean here,
-// `pass_of_text` says.
-#[tactic(auto, unfolding(markdown_engine::specs::PassesInOrder::unregistered))]
-fn resolve_text(tokenizer: &mut Tokenizer) -> Result<(), AllocError>
-    requires { MayResolve may_end_of resolves_of tokenizer.old.resolvers (unregistered tokenizer.old) }
-    ensures { OnOk result (Resolves resolves_of tokenizer.old.resolvers (unregistered tokenizer.old) tokenizer.new) }
-{
-    let names = mem::replace(&mut tokenizer.resolvers, Seq::new(tokenizer.alloc));
-    let mut settled = false;
-    for name in names.as_slice() {
-        settled = pass_of_text(*name, tokenizer, settled)?;
-    }
-    Ok(())
-}
-
 // Runs the passes of a text that has registered none, `Data` and `Text`, and takes what is found out of the tokenizer. They are called at once and not
 // registered, so that no list is made for them; and what is known of the content, at which they do not look, need not be forgotten.
 //
 //     > | plain text
 //                   ^
+#[inline(never)]
 fn finish_plain(tokenizer: &mut Tokenizer) -> Result<ListRun, AllocError>
     requires none { tokenizer.old.resolvers ≡ [] }
     requires passes { MayFinishPlain tokenizer.old }
     ensures { IfOk result (λ run. IsFoundBehind (text_passed (forgotten tokenizer.old)) run) }
 {
-    if merge_data(tokenizer)? {
-        return Ok(found_in(tokenizer));
-    }
+    partial_data::resolve(tokenizer)?;
     text::resolve(tokenizer)?;
     Ok(found_in(tokenizer))
 }
@@ -236,7 +169,7 @@ pub fn text_through(tokenizer: &mut Tokenizer) -> Result<ListRun, AllocError>
         return finish_plain(tokenizer);
     }
     end_text(tokenizer)?;
-    resolve_text(tokenizer)?;
+    tokenizer.resolve_all::<Inline>()?;
     Ok(found_in(tokenizer))
 }
 

@@ -11,7 +11,6 @@ ghost use Rattle.markdown_run_text.specs.ContentPasses.{MayFinish, FinishesText}
 
 use markdown_engine::tokenizer::Tokenizer;
 use markdown_engine_events::subtokenize::Subresult;
-use markdown_passes::settled::is_settled;
 use markdown_passes::{email, partial_whitespace};
 pub use markdown_run_text::text::{
     before, before_data, before_hard_break_escape, before_html, before_label_start_link, start,
@@ -29,16 +28,12 @@ pub fn resolve(tokenizer: &mut Tokenizer) -> Result<Option<Subresult>, AllocErro
     ensures ok { IfOk result (λ _. FinishesText tokenizer.old tokenizer.new) }
     ensures err { OnErr result (IsTrue tokenizer.new.failed) }
 {
-    let bytes = tokenizer.parse_state.bytes;
     let hard_break = tokenizer.parse_state.options.constructs.hard_break_trailing;
     let emails = tokenizer
         .parse_state
         .options
         .constructs
         .gfm_autolink_literal;
-    if emails && is_settled(bytes, &tokenizer.events, true) {
-        return Ok(None);
-    }
     partial_whitespace::resolve_whitespace(tokenizer, hard_break, true)?;
     if emails {
         email::resolve(tokenizer)?;

@@ -52,10 +52,4 @@ pub mod LabelEndReads
 pub mod PlainResourceReads
 pub mod PlainReferenceReads
 pub mod PlainSpanReads
-pub mod AutolinkNames
-pub mod AutolinkReads
-pub mod TagSteps
-pub mod TagReads
-pub mod BytesOfReferences
-pub mod ReferenceReads
 pub mod TextsBetween

@@ -19,6 +19,3 @@ pub mod RowStart
 pub mod CutData
 pub mod TryTable
 pub mod PlainSpan
-pub mod AutolinkPlaces
-pub mod PlainTag
-pub mod ReferencePassed

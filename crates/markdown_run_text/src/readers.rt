@@ -10,11 +10,8 @@
 #![tactic(auto)]
 
 pub mod attention;
-pub mod autolink;
 pub mod character_escape;
-pub mod character_reference;
 mod events;
-pub mod html_text;
 pub mod label_end;
 mod label_end_reference;
 pub mod label_start_image;

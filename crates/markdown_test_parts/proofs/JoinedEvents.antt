@@ -60,7 +60,7 @@ runs-leaf bytes name from to a l w f m =
         }),
         ((λ o. cc), tt),
       );
-      ends = ((λ o. (refl, (refl, further from to l))), ((λ o. cc), tt));
+      ends = ((λ o. (refl, (refl, further from to l, o))), ((λ o. cc), tt));
       room = ((λ o. (f, omega (arith, f))), ((λ o. cc), tt));
     }
 

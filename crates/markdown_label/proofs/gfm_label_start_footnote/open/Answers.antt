@@ -9,15 +9,3 @@ use Rattle.markdown_label.proofs.gfm_label_start_footnote.open.Goals as goal
 pub keep_start-requires-clause-within : goal.keep_start-requires-clause-within
 keep_start-requires-clause-within c =
     subst (λ (T : Tokenizer). 6 ≤ length T.events) (sym c.in_ok-close-in-Some-eq94.ensures.ok) (long-footnote c.args.tokenizer.now c.requires.begun)
-
-pub returns-in_ok-keep_start-in-Some-eq94-clause-ok : goal.returns-in_ok-keep_start-in-Some-eq94-clause-ok
-unfolding scratched
-returns-in_ok-keep_start-in-Some-eq94-clause-ok c = grind (arith, law_rules)
-
-pub returns-in_default-clause-ok : goal.returns-in_default-clause-ok
-unfolding scratched
-returns-in_default-clause-ok c = grind (arith, law_rules)
-
-pub returns-in_default-2-clause-ok : goal.returns-in_default-2-clause-ok
-unfolding scratched
-returns-in_default-2-clause-ok c = grind (arith, law_rules)

@@ -9,11 +9,3 @@ use Rattle.markdown_label.proofs.label_start_link.start.Goals as goal
 pub keep_start-requires-clause-within : goal.keep_start-requires-clause-within
 keep_start-requires-clause-within c =
     subst (λ (T : Tokenizer). 4 ≤ length T.events) (sym c.in_ok-whole_of_one.ensures.ok) (long-link c.args.tokenizer.now)
-
-pub returns-in_ok-keep_start-clause-ok : goal.returns-in_ok-keep_start-clause-ok
-unfolding scratched
-returns-in_ok-keep_start-clause-ok c = grind (arith, law_rules)
-
-pub returns-else-tokenizer-clause-ok : goal.returns-else-tokenizer-clause-ok
-unfolding scratched
-returns-else-tokenizer-clause-ok c = grind (arith, law_rules)

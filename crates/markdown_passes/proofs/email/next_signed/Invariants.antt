@@ -1,7 +1,7 @@
 use Rattle.std.proofs.Common.{◌≡◌, ◌-◌, ◌<◌, ◌≤◌, length, drop, get_or, true}
 use Rattle.markdown_event.specs.declared.event.Event.{Event}
 use Rattle.markdown_passes.specs.MergedEvents.{opens_data}
-use Rattle.markdown_passes.specs.OpenData.{IsClear}
+use Rattle.markdown_passes.specs.ClearStretch.{IsClear}
 use Rattle.markdown_passes.specs.TrimmedEvents.{HasPlaces}
 use Rattle.markdown_passes.proofs.EmailEditLemmas.{SignsNone}
 use Rattle.markdown_passes.proofs.email.next_signed.Given as goal

@@ -18,8 +18,8 @@ pub finish_plain-requires-clause-passes : goal.finish_plain-requires-clause-pass
 finish_plain-requires-clause-passes c =
     plain-passes c.read_text.new.tokenizer (finish_plain-requires-clause-none c) (c.requires.passes (text_passed (forgotten c.read_text.new.tokenizer)) (behind-room c.make_room.ensures c.in_ok-read_text.ensures.ok))
 
-pub resolve_text-requires : goal.resolve_text-requires
-resolve_text-requires c =
+pub resolve_all-requires : goal.resolve_all-requires
+resolve_all-requires c =
     c.requires.passes c.end_text.new.tokenizer (subst (λ (x : Tokenizer). FinishesAt (text_named c.args.tokenizer.now) x) (sym c.in_ok-end_text.ensures.ok) (behind-room c.make_room.ensures c.in_ok-read_text.ensures.ok))
 
 pub returns-then-is_empty : goal.returns-then-is_empty
@@ -32,8 +32,8 @@ returns c =
       left = c.end_text.new.tokenizer;
       ends = subst (λ (x : Tokenizer). FinishesAt (text_named c.args.tokenizer.now) x) (sym c.in_ok-end_text.ensures.ok) (behind-room c.make_room.ensures c.in_ok-read_text.ensures.ok);
       found = record {
-        passed = c.resolve_text.new.tokenizer;
-        resolves = c.in_ok-resolve_text.ensures;
+        passed = c.resolve_all.new.self;
+        resolves = c.in_ok-resolve_all.ensures.ok;
         events = c.found_in.ensures.events;
         probes = c.found_in.ensures.probes;
       };

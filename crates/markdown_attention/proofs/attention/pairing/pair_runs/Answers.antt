@@ -54,11 +54,6 @@ marks_six : (c : After-index-marks-at) → length c.loop-closer.marks ≡ length
 marks_six c =
     let a = c.loop-closer.invariant.heads_length in let b = c.loop-closer.invariant.marks_length in omega arith
 
--- the run in turn has the text that it began with
-text_is : (c : After-index-marks-at) → c.in-Some.closer.text ≡ (run_at c.args.runs.now.list c.loop-closer.runs.turn).text
-text_is c =
-    ap (λ (r : Sequence). r.text) (c.in-Some.ensures.run ∙ c.loop-closer.invariant.inv.stands.stands c.loop-closer.runs.turn (here c))
-
 line_is : (c : After-index-marks-at) → c.line_of-line.result ≡ line_in c.in_ok-found.found.of_rows c.in_ok-found.found.count (row_of c.in-Some.closer.text)
 line_is c =
     let some : 0 < get_or c.in_ok-found.found.of_rows (row_of c.in-Some.closer.text) 0 = omega (arith, c.line_of-line.ensures) in

@@ -1,9 +1,0 @@
--- By the laws of the operations.
-use Rattle.std.proofs.Common.{arith}
-use Rattle.markdown_engine.specs.Operations.{scratched, attempted, frame_of}
-use Rattle.markdown_engine.proofs.OperationFields.{law_rules}
-use Rattle.markdown_label.proofs.label_end.reference_not_full.Goals as goal
-
-pub returns-clause-ok : goal.returns-clause-ok
-unfolding scratched attempted frame_of
-returns-clause-ok c = grind (arith, law_rules)

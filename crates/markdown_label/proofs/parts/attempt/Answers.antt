@@ -1,9 +1,0 @@
--- By the laws of the operations.
-use Rattle.std.proofs.Common.{arith}
-use Rattle.markdown_engine.specs.Operations.{attempted, frame_of}
-use Rattle.markdown_engine.proofs.OperationFields.{law_rules}
-use Rattle.markdown_label.proofs.parts.attempt.Goals as goal
-
-pub returns-clause-ok : goal.returns-clause-ok
-unfolding attempted frame_of
-returns-clause-ok c = grind (arith, law_rules)
