@@ -8,4 +8,5 @@ mod Leaves
 mod MetDefinitions
 mod Noted
 mod Targets
+mod Written
 mod WrittenContents

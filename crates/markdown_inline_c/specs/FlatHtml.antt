@@ -1,6 +1,6 @@
 -- What a caller in C hands in beside an input, and the HTML that it gets.
-use Rattle.std.specs.Prelude.{◌≡◌, ◌⊎◌, ℕ, ◌<◌, ◌≤◌, Bool, ◌==◌, if◌then◌else◌, List, [], ◌∷◌, length, Option, None, Some}
-use Rattle.std.specs.List.{All}
+use Rattle.std.specs.Prelude.{◌≡◌, ◌⊎◌, ℕ, ◌<◌, ◌≤◌, Bool, ◌==◌, if◌then◌else◌, IsTrue, List, [], ◌∷◌, length, Option, None, Some}
+use Rattle.std.specs.List.{All, list_all}
 use Rattle.markdown_content.specs.CommonMark.{rules_of}
 use Rattle.markdown_content.specs.Content.{content_of}
 use Rattle.markdown_content.specs.DefaultOptions.{has_option, options_of}
@@ -19,9 +19,13 @@ use Rattle.markdown_inline_c.specs.declared.flat.Range.{Range}
 
 -- What may be written, each by a bit.
 
--- each bit is one of what may be written
-abbrev pub AreKnownForHtml : ℕ → Type 0
-AreKnownForHtml options = options < 4
+-- the reserved words of targets are 0
+abbrev pub reserve_nothing : List FlatTarget → Bool
+reserve_nothing targets = list_all (λ t. t.reserved == 0) targets
+
+-- each bit is one of what may be written, and the reserved words of targets are 0
+abbrev pub AreKnownForHtml : ℕ → List FlatTarget → Type 0
+AreKnownForHtml options targets = (options < 4) × IsTrue (reserve_nothing targets)
 
 abbrev pub html_options_of : ℕ → HtmlOptions
 html_options_of o = record { raw_html = has_option o 0x1; any_link = has_option o 0x2; line_ends = LineEnds.Kept }
@@ -92,7 +96,7 @@ IsBroughtWithin i targets options limit = IsWithinLimit limit (brought (own_page
 
 -- an input that can be written as HTML
 pub record IsHtmlInput (i : Input) (targets : List FlatTarget) (options limit : ℕ) : Type 0 where
-  pub options_known : AreKnownForHtml options
+  pub options_known : AreKnownForHtml options targets
   pub is_text : IsTextInput i
   pub are_targets : AreTargets i targets
   pub within_limit : IsBroughtWithin i targets options limit

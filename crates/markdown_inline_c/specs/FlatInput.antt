@@ -1,5 +1,5 @@
 -- What a caller in C hands in.
-use Rattle.std.specs.Prelude.{ℕ, ◌≤◌, Bool, false, List, [], map, length, slice_range, IsUtf8}
+use Rattle.std.specs.Prelude.{◌≡◌, ℕ, ◌≤◌, Bool, false, List, [], map, length, slice_range, IsUtf8}
 use Rattle.std.specs.List.{All}
 use Rattle.markdown_content.specs.CommonMark.{rules_of}
 use Rattle.markdown_content.specs.Content.{IsContent, IsTextContent}
@@ -64,13 +64,17 @@ text_setting i = record (string_setting i) {
   first_of_item = has_option i.options 0x10_0000;
 }
 
+-- each bit is one of an option, and the reserved word is 0
+abbrev pub AreInputOptions : Input → Type 0
+AreInputOptions i = AreKnown i.options × (i.reserved ≡ 0)
+
 -- an input that can be read as a string
 pub record IsStringInput (i : Input) : Type 0 where
-  pub options : AreKnown i.options
+  pub options : AreInputOptions i
   pub pieces : IsContent i.bytes.now (pieces_of i.pieces.now)
 
 -- an input that can be read as a text
 pub record IsTextInput (i : Input) : Type 0 where
-  pub options : AreKnown i.options
+  pub options : AreInputOptions i
   pub pieces : IsTextContent i.bytes.now (pieces_of i.pieces.now)
   pub labels : AreLabels i

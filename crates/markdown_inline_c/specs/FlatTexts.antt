@@ -1,5 +1,6 @@
 -- What a caller in C hands in to read many contents of one document, and what it gets.
-use Rattle.std.specs.Prelude.{ℕ, ◌≤◌, Bool, false, not, ◌==◌, List, [], length, slice_range}
+use Rattle.std.specs.Prelude.{ℕ, ◌≤◌, Bool, false, not, ◌==◌, IsTrue, List, [], length, slice_range}
+use Rattle.std.specs.List.{list_all}
 use Rattle.markdown_content.specs.Content.{IsContent, IsTextContent, content_of}
 use Rattle.markdown_content.specs.DefaultOptions.{options_of}
 use Rattle.markdown_content.specs.declared.configuration.ParseOptions.{ParseOptions}
@@ -7,7 +8,7 @@ use Rattle.markdown_content.specs.declared.parser.Piece.{Piece}
 use Rattle.markdown_event.specs.declared.event.Event.{Event}
 use Rattle.markdown_model.specs.InlineTree.{text_events}
 use Rattle.markdown_model.specs.Setting.{Setting, references_of, within}
-use Rattle.markdown_inline_c.specs.FlatInput.{identifiers, pieces_of, replaces_nul}
+use Rattle.markdown_inline_c.specs.FlatInput.{AreInputOptions, identifiers, pieces_of, replaces_nul}
 use Rattle.markdown_inline_c.specs.declared.flat.FlatContent.{FlatContent}
 use Rattle.markdown_inline_c.specs.declared.flat.FlatPiece.{FlatPiece}
 use Rattle.markdown_inline_c.specs.declared.flat.Input.{Input}
@@ -27,6 +28,14 @@ IsContentAt bytes pieces c = IsAmong pieces c × IsContent bytes (pieces_at piec
 
 abbrev pub IsTextAt : List ℕ → List FlatPiece → FlatContent → Type 0
 IsTextAt bytes pieces c = IsAmong pieces c × IsTextContent bytes (pieces_at pieces c)
+
+-- the reserved words of contents are 0
+abbrev pub reserve_nothing : List FlatContent → Bool
+reserve_nothing contents = list_all (λ c. c.reserved == 0) contents
+
+-- each option is known, and each reserved word of the input and of contents is 0
+abbrev pub AreTextsOptions : Input → List FlatContent → Type 0
+AreTextsOptions i contents = AreInputOptions i × IsTrue (reserve_nothing contents)
 
 -- Their events.
 

@@ -10,6 +10,7 @@ pub mod FlatStrings
 pub mod FlatHtmls
 pub mod References
 pub mod Statuses
+pub mod WholeHtml
 pub mod Answers
 pub mod Refusals
 pub mod Many

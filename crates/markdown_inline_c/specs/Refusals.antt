@@ -1,12 +1,15 @@
 -- What is wrong with an input that is refused, and which part of it is to blame.
 use Rattle.std.specs.Prelude.{◌≡◌, ◌⊎◌, ℕ, ◌+◌, List, ◌∷◌, ◌++◌, length, None, Some}
 use Rattle.std.specs.List.{All}
-use Rattle.markdown_content.specs.DefaultOptions.{AreKnown}
+use Rattle.std.specs.Str.Lossy.{utf8_valid_len}
 use Rattle.markdown_content.specs.KnownPlaces.{IsDocument}
 use Rattle.markdown_inline_c.specs.FlatHtml.{AreKnownForHtml, AreTargets, IsTarget}
 use Rattle.markdown_inline_c.specs.FlatInput.{AreLabels, IsLabelRange}
+use Rattle.markdown_inline_c.specs.FlatStrings.{AreStringOptions}
+use Rattle.markdown_inline_c.specs.FlatTexts.{AreTextsOptions}
 use Rattle.markdown_inline_c.specs.Statuses.{IsDocumentFault}
 use Rattle.markdown_inline_c.specs.declared.fault.Fault.{Fault}
+use Rattle.markdown_inline_c.specs.declared.flat.FlatContent.{FlatContent}
 use Rattle.markdown_inline_c.specs.declared.flat.FlatTarget.{FlatTarget}
 use Rattle.markdown_inline_c.specs.declared.flat.Input.{Input}
 use Rattle.markdown_inline_c.specs.declared.refusal.Refusal.{Refusal}
@@ -18,6 +21,11 @@ blames_none fault = record { fault = fault; at = None }
 abbrev pub blames : Fault → ℕ → Refusal
 blames Fault.Memory number = blames_none Fault.Memory
 blames fault number = record { fault = fault; at = Some number }
+
+-- the refusal of a document, by the number of its first byte that is not UTF-8
+abbrev pub blames_byte : List ℕ → Fault → Refusal
+blames_byte bytes Fault.NotUtf8 = blames Fault.NotUtf8 (utf8_valid_len bytes)
+blames_byte bytes fault = blames_none fault
 
 -- one of a list, by its number: the first of which this does not hold
 pub record IsFirstOther {X : Type 0} (P : X → Type 0) (xs : List X) (number : ℕ) : Type 0 where
@@ -35,9 +43,9 @@ pub record IsFirstBlamed {X : Type 0} (P : X → Type 0) (before : ℕ) (xs : Li
   pub first : IsFirstOther P xs number
   pub refusal_is : refusal ≡ blames fault (before + number)
 
--- of a document
+-- of a document: of bytes that are not UTF-8 the first is blamed, by the length of the longest front that is UTF-8
 abbrev pub IsDocumentRefused : List ℕ → Refusal → Type 0
-IsDocumentRefused bytes r = IsDocumentFault bytes r.fault × (r.at ≡ None)
+IsDocumentRefused bytes r = IsDocumentFault bytes r.fault × (r ≡ blames_byte bytes r.fault)
 
 -- of labels, where footnotes are counted behind the definitions
 abbrev pub AreLabelsRefused : Input → Refusal → Type 0
@@ -65,20 +73,20 @@ IsInputRefused options_known i r =
     ⊎ (options_known × (IsDocumentRefused i.bytes.now r
     ⊎ (IsDocument i.bytes.now × AreLabelsRefused i r)))
 
--- of options alone
-abbrev pub AreOptionsRefused : ℕ → Refusal → Type 0
-AreOptionsRefused options r = (r ≡ blames_none Fault.UnknownOption) × (AreKnown options → ⊥)
+-- of the options of strings
+abbrev pub AreOptionsRefused : (options string_options : ℕ) → Refusal → Type 0
+AreOptionsRefused options string_options r = (r ≡ blames_none Fault.UnknownOption) × (AreStringOptions options string_options → ⊥)
 
--- the options of an input and those of HTML
-abbrev pub AreAllKnown : Input → ℕ → Type 0
-AreAllKnown i options = AreKnown i.options × AreKnownForHtml options
+-- the options of an input and those of HTML, and the reserved words
+abbrev pub AreAllKnown : Input → List FlatTarget → List FlatContent → ℕ → Type 0
+AreAllKnown i targets contents options = AreTextsOptions i contents × AreKnownForHtml options targets
 
 -- an input with targets, that is to be written as HTML
-pub record IsReadyForHtml (i : Input) (targets : List FlatTarget) (options : ℕ) : Type 0 where
-  pub input : IsReady (AreAllKnown i options) i
+pub record IsReadyForHtml (i : Input) (targets : List FlatTarget) (contents : List FlatContent) (options : ℕ) : Type 0 where
+  pub input : IsReady (AreAllKnown i targets contents options) i
   pub each_target : AreTargets i targets
 
-abbrev pub IsHtmlInputRefused : Input → List FlatTarget → ℕ → Refusal → Type 0
-IsHtmlInputRefused i targets options r =
-    IsInputRefused (AreAllKnown i options) i r
-    ⊎ (IsReady (AreAllKnown i options) i × AreTargetsRefused i targets r)
+abbrev pub IsHtmlInputRefused : Input → List FlatTarget → List FlatContent → ℕ → Refusal → Type 0
+IsHtmlInputRefused i targets contents options r =
+    IsInputRefused (AreAllKnown i targets contents options) i r
+    ⊎ (IsReady (AreAllKnown i targets contents options) i × AreTargetsRefused i targets r)

@@ -5,7 +5,7 @@ use Rattle.markdown_content.specs.Content.{document_limit, IsContent, IsTextCont
 use Rattle.markdown_content.specs.DefaultOptions.{AreKnown}
 use Rattle.markdown_content.specs.declared.parser.Piece.{Piece}
 use Rattle.markdown_inline_c.specs.FlatHtml.{AreKnownForHtml, AreTargets, IsBroughtWithin}
-use Rattle.markdown_inline_c.specs.FlatInput.{AreLabels, IsTextInput, pieces_of}
+use Rattle.markdown_inline_c.specs.FlatInput.{AreInputOptions, AreLabels, IsTextInput, pieces_of}
 use Rattle.markdown_inline_c.specs.FlatTexts.{IsContentAt, IsTextAt}
 use Rattle.markdown_inline_c.specs.References.{decoding_by, reference_value}
 use Rattle.markdown_inline_c.specs.declared.fault.Fault.{Fault}
@@ -45,14 +45,14 @@ IsPiecesFault bytes pieces fault = IsContentFault bytes pieces fault
 
 -- of an input that is to be read as a string
 abbrev pub IsStringFault : Input → Fault → Type 0
-IsStringFault i Fault.UnknownOption = AreKnown i.options → ⊥
-IsStringFault i fault = AreKnown i.options × IsContentFault i.bytes.now (pieces_of i.pieces.now) fault
+IsStringFault i Fault.UnknownOption = AreInputOptions i → ⊥
+IsStringFault i fault = AreInputOptions i × IsContentFault i.bytes.now (pieces_of i.pieces.now) fault
 
 -- of an input that is to be read as a text
 abbrev pub IsTextFault : Input → Fault → Type 0
-IsTextFault i Fault.UnknownOption = AreKnown i.options → ⊥
-IsTextFault i Fault.Definition = AreKnown i.options × (IsTextContent i.bytes.now (pieces_of i.pieces.now) × (AreLabels i → ⊥))
-IsTextFault i fault = AreKnown i.options × IsPiecesFault i.bytes.now (pieces_of i.pieces.now) fault
+IsTextFault i Fault.UnknownOption = AreInputOptions i → ⊥
+IsTextFault i Fault.Definition = AreInputOptions i × (IsTextContent i.bytes.now (pieces_of i.pieces.now) × (AreLabels i → ⊥))
+IsTextFault i fault = AreInputOptions i × IsPiecesFault i.bytes.now (pieces_of i.pieces.now) fault
 
 -- of a label
 abbrev pub IsLabelFault : List ℕ → Fault → Type 0
@@ -78,8 +78,8 @@ IsLimitFault i targets options limit fault = (fault ≡ Fault.Memory) ⊎ ((faul
 -- of an input that is to be written as HTML: of what may be written, then of the text, then of where its definitions lead, then of what they bring
 abbrev pub IsHtmlFault : Input → List FlatTarget → (options limit : ℕ) → Fault → Type 0
 IsHtmlFault i targets options limit fault =
-    ((fault ≡ Fault.UnknownOption) × (AreKnownForHtml options → ⊥))
-    ⊎ (AreKnownForHtml options × (IsTextFault i fault ⊎ (IsTextInput i × (IsTargetsFault i targets fault ⊎ (AreTargets i targets × IsLimitFault i targets options limit fault)))))
+    ((fault ≡ Fault.UnknownOption) × (AreKnownForHtml options targets → ⊥))
+    ⊎ (AreKnownForHtml options targets × (IsTextFault i fault ⊎ (IsTextInput i × (IsTargetsFault i targets fault ⊎ (AreTargets i targets × IsLimitFault i targets options limit fault)))))
 
 -- of one of many contents
 abbrev pub IsContentAtFault : List ℕ → List FlatPiece → FlatContent → Fault → Type 0

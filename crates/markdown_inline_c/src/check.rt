@@ -3,10 +3,12 @@
 ghost use Rattle.std.specs.Prelude.{◌≡◌, ◌⊎◌, ◌≤◌, IfErr, IfOk, IsUtf8, length};
 ghost use Rattle.markdown_content.specs.Content.{document_limit, IsContent, IsTextContent};
 ghost use Rattle.markdown_inline_c.specs.FlatInput.{pieces_of, pieces_listed};
-ghost use Rattle.markdown_inline_c.specs.Statuses.{IsDocumentFault, IsContentFault, IsPiecesFault};
+ghost use Rattle.markdown_inline_c.specs.Refusals.{IsDocumentRefused};
+ghost use Rattle.markdown_inline_c.specs.Statuses.{IsContentFault, IsPiecesFault};
 
 use crate::fault::Fault;
 use crate::flat::{FlatPiece, piece_of};
+use crate::refusal::Refusal;
 use markdown_content::content::DOCUMENT_LIMIT;
 use markdown_content::parser::Piece;
 use markdown_run::run;
@@ -43,18 +45,18 @@ impl Pieces {
     }
 }
 
-/// Whether it can be a document, or else why not.
-pub fn check_document(bytes: &[u8]) -> Result<(), Fault>
+/// Whether it can be a document, or else why not. Of bytes that are not UTF-8 the first is to blame.
+pub fn check_document(bytes: &[u8]) -> Result<(), Refusal>
     ensures ok { IfOk result (λ _. IsUtf8 bytes.now × (length bytes.now ≤ document_limit)) }
-    ensures err { IfErr result (IsDocumentFault bytes.now) }
+    ensures err { IfErr result (IsDocumentRefused bytes.now) }
 {
     if bytes.len() > DOCUMENT_LIMIT {
-        return Err(Fault::TooLong);
+        return Err(Refusal::from(Fault::TooLong));
     }
-    if str::from_utf8(bytes).is_err() {
-        return Err(Fault::NotUtf8);
+    match str::from_utf8(bytes) {
+        Ok(_) => Ok(()),
+        Err(error) => Err(Refusal::of(Fault::NotUtf8, error.valid_up_to())),
     }
-    Ok(())
 }
 
 /// Whether the pieces are a content of the document, or else why not.
@@ -65,8 +67,10 @@ pub fn check_content(bytes: &[u8], pieces: &[Piece]) -> Result<(), Fault>
     if run::is_content(bytes, pieces) {
         return Ok(());
     }
-    check_document(bytes)?;
-    Err(Fault::NoContent)
+    match check_document(bytes) {
+        Ok(()) => Err(Fault::NoContent),
+        Err(refusal) => Err(refusal.fault),
+    }
 }
 
 /// Whether the pieces are a text of the document, or else why not.

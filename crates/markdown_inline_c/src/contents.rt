@@ -2,20 +2,21 @@
 
 ghost use Rattle.std.specs.Prelude.{◌≡◌, ◌⊎◌, ◌+◌, ◌<◌, ◌^◌, IfErr, IfOk, MatchOption, length, map, string_bytes};
 ghost use Rattle.std.specs.List.{All};
+ghost use Rattle.markdown_content.specs.DefaultOptions.{options_of};
 ghost use Rattle.markdown_content.specs.KnownPlaces.{IsDocument};
 ghost use Rattle.markdown_innermost.specs.InnermostEvents.{innermost, IsSpanInOrder};
 ghost use Rattle.markdown_run_text.specs.RunSetting.{setting_of};
 ghost use Rattle.markdown_inline_c.specs.FlatInput.{AreLabels, IsLabelRange, identifiers};
-ghost use Rattle.markdown_inline_c.specs.FlatTexts.{IsAmong, IsTextAt, pieces_at, setting_by, text_at};
+ghost use Rattle.markdown_inline_c.specs.FlatTexts.{AreTextsOptions, IsAmong, IsTextAt, pieces_at, reserve_nothing, setting_by, text_at};
 ghost use Rattle.markdown_inline_c.specs.FlatInput.{pieces_listed};
 ghost use Rattle.markdown_inline_c.specs.Refusals.{AreLabelsRefused, IsDocumentRefused, IsFirstBlamed, IsFirstOther};
 ghost use Rattle.markdown_inline_c.specs.Statuses.{IsContentAtFault};
-ghost use Rattle.markdown_inline_c.specs.declared.fault.Fault.TheVariants.{Definition, Memory, NoContent};
+ghost use Rattle.markdown_inline_c.specs.declared.fault.Fault.TheVariants.{Definition, Memory, NoContent, UnknownOption};
 
 use crate::check::{Pieces, check_document};
 use crate::fault::Fault;
 use crate::flat::{FlatContent, FlatPiece, Input, Range};
-use crate::input::{identifiers_of, text_of};
+use crate::input::{identifiers_of, input_options, text_of};
 use crate::refusal::Refusal;
 use markdown_content::configuration::ParseOptions;
 use markdown_content::parser::{ParseState, Piece};
@@ -68,6 +69,24 @@ impl<'a> Contents<'a> {
         }
         Ok(found.text_list(alloc, content.first_of_item != 0)?)
     }
+}
+
+// Whether the reserved words of contents are 0.
+fn reserve_nothing(contents: &[FlatContent]) -> bool
+    ensures { result ≡ reserve_nothing contents.now }
+{
+    contents.iter().all(|content| content.reserved == 0)
+}
+
+/// What is asked for of contents of an input, if each bit is one of an option, and if the reserved words of the input and of the contents are 0.
+pub fn texts_options(input: &Input, contents: &[FlatContent]) -> Result<ParseOptions, Fault>
+    ensures ok { IfOk result (λ found. AreTextsOptions input.now contents.now × (found ≡ options_of input.now.options)) }
+    ensures err { IfErr result (λ fault. (fault ≡ UnknownOption) × (AreTextsOptions input.now contents.now → ⊥)) }
+{
+    if !reserve_nothing(contents) {
+        return Err(Fault::UnknownOption);
+    }
+    input_options(input)
 }
 
 // The number of the first range that is no text of the labels.

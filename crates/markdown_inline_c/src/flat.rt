@@ -49,6 +49,8 @@ pub struct Input<'a> {
     /// What is looked for, each option by a bit: from the lowest the constructs in the order of `Constructs`, the four settings in that of
     /// `ParseOptions`, and whether the text is the first of a list item.
     pub options: u32,
+    /// Nothing: it has to be 0.
+    pub reserved: u32,
 }
 
 /// The beginning or the end of something in a document.
@@ -136,6 +138,8 @@ pub struct FlatTarget {
     pub title: Range,
     /// 0 where it has no title.
     pub has_title: u32,
+    /// Nothing: it has to be 0.
+    pub reserved: u32,
 }
 
 /// One of many contents of a document.
@@ -146,6 +150,8 @@ pub struct FlatContent {
     pub pieces: Range,
     /// 0 where it is not the first of a list item.
     pub first_of_item: u32,
+    /// Nothing: it has to be 0.
+    pub reserved: u32,
 }
 
 pub(crate) fn piece_of(piece: FlatPiece) -> Piece

@@ -1,7 +1,6 @@
 //! The forms in which events cross to C.
 
-ghost use Rattle.std.specs.Prelude.{◌≡◌, List, IfOk, IsFalse, IsTrue, None, OnOk, Some, false, map, slice_get, string_bytes};
-ghost use Rattle.std.specs.List.{All};
+ghost use Rattle.std.specs.Prelude.{◌≡◌, List, IfOk, IsTrue, None, OnOk, Some, map, slice_get, string_bytes};
 ghost use Rattle.markdown_content.specs.Content.{IsContent, content_of};
 ghost use Rattle.markdown_tree.specs.LabelsView.{given_of};
 ghost use Rattle.markdown_tree.specs.Referred.{met};
@@ -109,30 +108,45 @@ fn refers(event: &Event) -> bool
     }
 }
 
-// Whether one of the events may refer to a definition.
-fn one_refers(events: &EventSlice) -> bool
-    ensures { IsFalse result → All (λ e. refers e ≡ false) events.now }
+// Has a tree know all its nodes where a reference begins inside an image: images stand in one another to any depth, and each would be walked again.
+// `inside` is where the last image ends that stands in no other.
+fn know_inside(
+    alloc: Global,
+    tree: &mut Tree,
+    inside: &mut usize,
+    number: usize,
+    event: &Event,
+) -> Result<(), AllocError>
+    ensures { tree.new ≡ tree.old }
 {
-    for number in 0..events.len() {
-        if refers(&events.at(number)) {
-            return true;
+    if number < *inside {
+        return tree.index(alloc);
+    }
+    if let Name::Image = event.name {
+        if let Some(image) = tree.node(number) {
+            *inside = image.exit;
         }
     }
-    false
+    Ok(())
 }
 
 // The definition that the event of a number refers to.
+#[inline(always)]
 fn referred(
+    alloc: Global,
     labels: &Labels,
-    tree: &Tree,
+    tree: &mut Tree,
+    inside: &mut usize,
     number: usize,
     event: &Event,
 ) -> Result<Option<usize>, AllocError>
     requires content { IsContent labels.now.bytes.now labels.now.pieces.now }
-    requires event { slice_get tree.now number ≡ Some event.now }
-    ensures { IfOk result (λ found. found ≡ met (given_of labels.now) tree.now number) }
+    requires event { slice_get tree.old number ≡ Some event.now }
+    ensures found { IfOk result (λ found. found ≡ met (given_of labels.now) tree.old number) }
+    ensures tree { tree.new ≡ tree.old }
 {
     if refers(event) {
+        know_inside(alloc, tree, inside, number, event)?;
         labels.met(tree, number)
     } else {
         Ok(None)
@@ -163,10 +177,12 @@ fn all_met(
     requires { IsContent labels.now.bytes.now labels.now.pieces.now }
     ensures { IfOk result (λ found. AreAllMet (met (given_of labels.now) events.now) events.now found.items) }
 {
-    let tree = Tree::new(alloc, events)?;
+    let mut tree = Tree::over(events);
     let mut found = Vec::new(alloc);
+    let mut inside = 0;
     for number in 0..events.len() {
-        let met = referred(labels, &tree, number, &events.at(number))?;
+        let event = events.at(number);
+        let met = referred(alloc, labels, &mut tree, &mut inside, number, &event)?;
         add_met(&mut found, number, met)?;
     }
     Ok(found)
@@ -179,8 +195,8 @@ fn none_defined(labels: &Labels) -> bool
     labels.definitions.is_empty() && labels.footnotes.is_empty()
 }
 
-// The same, by a tree only where there may be some.
-#[tactic(auto, using(crate::proofs::MetDefinitions::none_given, crate::proofs::MetDefinitions::none_refer))]
+// The same, where there may be definitions.
+#[tactic(auto, using(crate::proofs::MetDefinitions::none_given))]
 fn met_in(
     alloc: Global,
     labels: &Labels,
@@ -190,9 +206,6 @@ fn met_in(
     ensures { IfOk result (λ found. AreAllMet (met (given_of labels.now) events.now) events.now found.items) }
 {
     if none_defined(labels) {
-        return Ok(Vec::new(alloc));
-    }
-    if !one_refers(events) {
         return Ok(Vec::new(alloc));
     }
     all_met(alloc, labels, events)

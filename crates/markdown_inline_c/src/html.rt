@@ -8,7 +8,7 @@ ghost use Rattle.markdown_content.specs.Tree.{Forest, events_of};
 ghost use Rattle.markdown_html.specs.Brought.{brought};
 ghost use Rattle.markdown_html.specs.DefinitionView.{defined_of};
 ghost use Rattle.markdown_html.specs.View.{page_from};
-ghost use Rattle.markdown_inline_c.specs.FlatHtml.{AreKnownForHtml, AreTargets, IsHtmlInput, IsTarget, IsTitleRange, IsWithinLimit, defined_at, defined_by, html_of, html_options_of, title_of};
+ghost use Rattle.markdown_inline_c.specs.FlatHtml.{AreKnownForHtml, AreTargets, IsHtmlInput, IsTarget, IsTitleRange, IsWithinLimit, defined_at, defined_by, html_of, html_options_of, reserve_nothing, title_of};
 ghost use Rattle.markdown_inline_c.specs.FlatInput.{IsLabelRange, range_bytes, replaces_nul};
 ghost use Rattle.markdown_inline_c.specs.Statuses.{IsHtmlFault, IsTargetsFault};
 ghost use Rattle.markdown_inline_c.specs.declared.fault.Fault.TheVariants.{Definition as NoDefinition, Memory, References, UnknownOption};
@@ -31,12 +31,19 @@ use std::alloc::{AllocError, Global};
 // The lowest number with a bit that says nothing of HTML.
 const UNKNOWN_OPTION: u32 = 0x4;
 
-// What the bits let be written, if each bit is known.
-pub(crate) fn known_options(options: u32) -> Result<HtmlOptions, Fault>
-    ensures ok { IfOk result (λ found. AreKnownForHtml options × (found ≡ html_options_of options)) }
-    ensures err { IfErr result (λ fault. (fault ≡ UnknownOption) × (AreKnownForHtml options → ⊥)) }
+// Whether the reserved words of targets are 0.
+fn reserve_nothing(targets: &[FlatTarget]) -> bool
+    ensures { result ≡ reserve_nothing targets.now }
 {
-    if options >= UNKNOWN_OPTION {
+    targets.iter().all(|target| target.reserved == 0)
+}
+
+// What the bits let be written, if each bit is known, and if the reserved words of targets are 0.
+pub(crate) fn known_options(options: u32, targets: &[FlatTarget]) -> Result<HtmlOptions, Fault>
+    ensures ok { IfOk result (λ found. AreKnownForHtml options targets.now × (found ≡ html_options_of options)) }
+    ensures err { IfErr result (λ fault. (fault ≡ UnknownOption) × (AreKnownForHtml options targets.now → ⊥)) }
+{
+    if options >= UNKNOWN_OPTION || !reserve_nothing(targets) {
         return Err(Fault::UnknownOption);
     }
     Ok(HtmlOptions {
@@ -199,7 +206,7 @@ pub fn html(
     ensures input { IfOk result (λ _. IsHtmlInput input.now targets.now options limit) }
     ensures err { IfErr result (IsHtmlFault input.now targets.now options limit) }
 {
-    let allowed = known_options(options)?;
+    let allowed = known_options(options, targets)?;
     let run = input::text(alloc, input)?;
     let definitions = definitions(alloc, input, targets)?;
     let options = ParseOptions::of_bits(input.options);

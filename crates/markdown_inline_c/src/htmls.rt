@@ -18,11 +18,11 @@ ghost use Rattle.markdown_inline_c.specs.Refusals.{AreAllKnown, AreTargetsRefuse
 ghost use Rattle.markdown_inline_c.specs.Statuses.{IsContentAtFault};
 ghost use Rattle.markdown_inline_c.specs.declared.fault.Fault.TheVariants.{Memory, References, UnknownOption};
 
-use crate::contents::{Contents, check_input, prepared};
+use crate::contents::{Contents, check_input, prepared, texts_options};
 use crate::fault::Fault;
 use crate::flat::{FlatContent, FlatTarget, Input};
 use crate::html::{self, definitions};
-use crate::input::{self, text_of};
+use crate::input::text_of;
 use crate::outcome::Outcome;
 use crate::refusal::Refusal;
 use markdown_content::configuration::ParseOptions;
@@ -206,15 +206,20 @@ fn check_targets(input: &Input, targets: &[FlatTarget]) -> Result<(), Refusal>
     }
 }
 
-// What is asked for, if each bit is known.
-fn known_options(input: &Input, options: u32) -> Result<(ParseOptions, HtmlOptions), Refusal>
-    ensures known { IfOk result (λ _. AreAllKnown input.now options) }
+// What is asked for, if each bit is known and each reserved word is 0.
+fn known_options(
+    input: &Input,
+    targets: &[FlatTarget],
+    contents: &[FlatContent],
+    options: u32,
+) -> Result<(ParseOptions, HtmlOptions), Refusal>
+    ensures known { IfOk result (λ _. AreAllKnown input.now targets.now contents.now options) }
     ensures ok { IfOk result (λ found. (found.0 ≡ options_of input.now.options) × (found.1 ≡ html_options_of options)) }
-    ensures err { IfErr result (λ r. (r ≡ blames_none UnknownOption) × (AreAllKnown input.now options → ⊥)) }
+    ensures err { IfErr result (λ r. (r ≡ blames_none UnknownOption) × (AreAllKnown input.now targets.now contents.now options → ⊥)) }
 {
     Ok((
-        input::known_options(input.options)?,
-        html::known_options(options)?,
+        texts_options(input, contents)?,
+        html::known_options(options, targets)?,
     ))
 }
 
@@ -244,10 +249,10 @@ pub fn htmls(
     ends: &mut [usize],
     outcome: &mut Outcome,
 ) -> Result<(), Refusal>
-    ensures { let i = input.now in let p = page i targets.now options in let tree = tree_at (many_setting i) i.pieces.now in AreFound (htmls_of i targets.now contents.now options) html.old html.new ends.old ends.new outcome.new (λ read. EndsByInput (IsReadyForHtml i targets.now options) (IsHtmlInputRefused i targets.now options) (AreWritable p i.pieces.now tree limit) (IsHtmlFaultAt p i.pieces.now tree limit) contents.now read result) }
+    ensures { let i = input.now in let p = page i targets.now options in let tree = tree_at (many_setting i) i.pieces.now in AreFound (htmls_of i targets.now contents.now options) html.old html.new ends.old ends.new outcome.new (λ read. EndsByInput (IsReadyForHtml i targets.now contents.now options) (IsHtmlInputRefused i targets.now contents.now options) (AreWritable p i.pieces.now tree limit) (IsHtmlFaultAt p i.pieces.now tree limit) contents.now read result) }
 {
     *outcome = Outcome::nothing();
-    let (asked, allowed) = known_options(input, options)?;
+    let (asked, allowed) = known_options(input, targets, contents, options)?;
     check_input(input)?;
     check_targets(input, targets)?;
     let document = prepared(

@@ -6,7 +6,7 @@ ghost use Rattle.markdown_content.specs.DefaultOptions.{AreKnown, options_of};
 ghost use Rattle.markdown_model.specs.InlineTree.{string_events, text_events};
 ghost use Rattle.markdown_innermost.specs.InnermostEvents.{innermost, IsSpanInOrder};
 ghost use Rattle.markdown_util.specs.Identifier.{identifier_by};
-ghost use Rattle.markdown_inline_c.specs.FlatInput.{identifiers, IsLabelRange, pieces_of, range_bytes, string_setting, text_setting, IsStringInput, IsTextInput};
+ghost use Rattle.markdown_inline_c.specs.FlatInput.{AreInputOptions, identifiers, IsLabelRange, pieces_of, range_bytes, string_setting, text_setting, IsStringInput, IsTextInput};
 ghost use Rattle.markdown_inline_c.specs.Statuses.{IsStringFault, IsTextFault};
 ghost use Rattle.markdown_inline_c.specs.declared.fault.Fault.TheVariants.{Definition, Memory, UnknownOption};
 
@@ -31,6 +31,17 @@ pub(crate) fn known_options(options: u32) -> Result<ParseOptions, Fault>
         return Err(Fault::UnknownOption);
     }
     Ok(ParseOptions::of_bits(options))
+}
+
+// What is asked for of an input, if each bit is one of an option and the reserved word is 0.
+pub(crate) fn input_options(input: &Input) -> Result<ParseOptions, Fault>
+    ensures ok { IfOk result (λ found. AreInputOptions input.now × (found ≡ options_of input.now.options)) }
+    ensures err { IfErr result (λ fault. (fault ≡ UnknownOption) × (AreInputOptions input.now → ⊥)) }
+{
+    if input.reserved != 0 {
+        return Err(Fault::UnknownOption);
+    }
+    known_options(input.options)
 }
 
 // The text of a range, if it is one.
@@ -104,7 +115,7 @@ pub fn string(alloc: Global, input: &Input) -> Result<ListRun, Fault>
     ensures input { IfOk result (λ _. IsStringInput input.now) }
     ensures err { IfErr result (IsStringFault input.now) }
 {
-    let options = known_options(input.options)?;
+    let options = input_options(input)?;
     let pieces = Pieces::new(alloc, input.pieces)?;
     check_content(input.bytes, pieces.as_slice())?;
     let parse_state = ParseState {
@@ -123,7 +134,7 @@ pub fn text(alloc: Global, input: &Input) -> Result<ListRun, Fault>
     ensures places { IfOk result (λ run. All (IsSpanInOrder input.now.bytes.now) (innermost run.events)) }
     ensures err { IfErr result (IsTextFault input.now) }
 {
-    let options = known_options(input.options)?;
+    let options = input_options(input)?;
     let pieces = Pieces::new(alloc, input.pieces)?;
     check_text(input.bytes, pieces.as_slice())?;
     let replaced = options.rules().nul_is_replaced;

@@ -7,7 +7,7 @@
 //! It is that of the first thing that is wrong, in the order 2, 9, 3, 7, 4, 8.
 #![tactic(auto)]
 
-ghost use Rattle.std.specs.Prelude.{◌≡◌, IsUtf8, map};
+ghost use Rattle.std.specs.Prelude.{◌≡◌, ◌∷◌, [], IsUtf8, length, map};
 ghost use Rattle.markdown_model.specs.InlineTree.{string_events, text_events};
 ghost use Rattle.markdown_inline_c.specs.FlatInput.{pieces_of, string_setting, text_setting, IsStringInput, IsTextInput};
 ghost use Rattle.markdown_inline_c.specs.FlatEvents.{flat_event};
@@ -18,6 +18,7 @@ ghost use Rattle.markdown_inline_c.specs.References.{IsReference, reference_text
 ghost use Rattle.markdown_inline_c.specs.Answers.{IsAnswer, IsTested};
 ghost use Rattle.markdown_inline_c.specs.Calls.{AreHtmls, AreStrings, AreTexts};
 ghost use Rattle.markdown_inline_c.specs.Statuses.{IsContentFault, IsHtmlFault, IsPiecesFault, IsLabelFault, IsReferenceFault, IsStringFault, IsTextFault};
+ghost use Rattle.markdown_inline_c.specs.WholeHtml.{IsAnswerOfWhole, IsWhole, whole};
 ghost use Rattle.markdown_util.specs.Identifier.{identifier_of};
 ghost use Rattle.markdown_content.specs.Content.{IsContent, IsTextContent};
 
@@ -176,7 +177,8 @@ pub extern "C" fn markdown_inline_reference(
 /// With status 0 these are all contents. With status 6 all contents are read, and there is not room for all of them. The status is that of the first
 /// thing that is wrong, in the order 2, 9, 3, 8; then that of the first content that is no text, 7 or 4: those before it are read. With status 7
 /// and 4 the outcome blames this content by its number; with status 8 the definition whose label is none, where numbers of footnotes are counted
-/// on behind those of the definitions. Else nothing is to blame, and the number is `usize::MAX`.
+/// on behind those of the definitions; with status 3 the first byte of the document that is not UTF-8. Else nothing is to blame, and the number is
+/// `usize::MAX`.
 #[unsafe(no_mangle)]
 pub extern "C" fn markdown_inline_texts(
     alloc: Global,
@@ -244,10 +246,62 @@ pub extern "C" fn markdown_inline_html(
     )
 }
 
+fn whole_piece(bytes: &[u8]) -> FlatPiece
+    ensures { result ≡ whole (length bytes.now) }
+{
+    FlatPiece {
+        start: 0,
+        start_vs: 0,
+        end: bytes.len(),
+        end_vs: 0,
+    }
+}
+
+// An input of all of these bytes, with no definitions.
+fn whole_input<'a>(bytes: &'a [u8], pieces: &'a [FlatPiece], options: u32) -> Input<'a>
+    requires { pieces.now ≡ whole (length bytes.now) ∷ [] }
+    ensures { IsWhole bytes.entry.now options result }
+{
+    Input {
+        bytes,
+        pieces,
+        labels: b"",
+        definitions: &[],
+        footnotes: &[],
+        options,
+        reserved: 0,
+    }
+}
+
+/// The HTML of all of these bytes as a text, with no definitions: that of an input which has them as one piece.
+///
+/// `options` are those of an input, and `html_options` those of `markdown_inline_html`.
+///
+/// With status 0 the HTML, in UTF-8, stands at the front of `html`, and `count` is how many bytes it has. With status 6 `count` is that too, and
+/// they are more than there is room for. Nothing else is written.
+#[unsafe(no_mangle)]
+pub extern "C" fn markdown_inline_html_of(
+    alloc: Global,
+    bytes: &[u8],
+    options: u32,
+    html_options: u32,
+    html: &mut [u8],
+    count: &mut usize,
+) -> u32
+    ensures { IsAnswerOfWhole bytes.now options html_options html.old html.new count.old count.new result }
+{
+    let pieces = [whole_piece(bytes)];
+    let input = whole_input(bytes, &pieces, options);
+    markdown_inline_html(alloc, &input, &[], html_options, 0, html, count)
+}
+
 /// The texts of strings, one after another, with escaped punctuation in place of its escape, and in place of each character reference its text
-/// (CommonMark 0.31, sections 2.4 and 2.5): of destinations, titles and info strings. All other bytes stay, line endings among them.
+/// (CommonMark 0.31, sections 2.4 and 2.5): of destinations, titles and info strings. All other bytes stay.
 ///
 /// The options are those of an input. They say which names are known, and whether a number stands for a control or a noncharacter.
+///
+/// The bits of `string_options` are 0x1, by which a line feed is written for each line ending (section 2.1), and 0x2, by which U+FFFD is written for NUL
+/// (section 2.3): of the bytes, before escapes and references are resolved.
 ///
 /// A part is a range of the bytes; a string is a range of numbers of parts, whose bytes are one text.
 ///
@@ -257,6 +311,7 @@ pub extern "C" fn markdown_inline_html(
 pub extern "C" fn markdown_inline_strings(
     alloc: Global,
     options: u32,
+    string_options: u32,
     bytes: &[u8],
     parts: &[Range],
     strings: &[Range],
@@ -264,9 +319,19 @@ pub extern "C" fn markdown_inline_strings(
     ends: &mut [usize],
     outcome: &mut Outcome,
 ) -> u32
-    ensures { AreStrings options bytes.now parts.now strings.now texts.old texts.new ends.old ends.new outcome.new result }
+    ensures { AreStrings options string_options bytes.now parts.now strings.now texts.old texts.new ends.old ends.new outcome.new result }
 {
-    let end = strings::strings(alloc, options, bytes, parts, strings, texts, ends, outcome);
+    let end = strings::strings(
+        alloc,
+        options,
+        string_options,
+        bytes,
+        parts,
+        strings,
+        texts,
+        ends,
+        outcome,
+    );
     outcome.ended(end, strings.len())
 }
 

@@ -2,19 +2,17 @@
 
 ghost use Rattle.std.specs.Prelude.{◌≡◌, ◌⊎◌, IfErr, IfOk, map};
 ghost use Rattle.std.specs.List.{All};
-ghost use Rattle.markdown_content.specs.DefaultOptions.{AreKnown};
 ghost use Rattle.markdown_run_text.specs.RunSetting.{setting_of};
-ghost use Rattle.markdown_inline_c.specs.FlatTexts.{IsTextAt, many_setting, setting_at, text_at};
+ghost use Rattle.markdown_inline_c.specs.FlatTexts.{AreTextsOptions, IsTextAt, many_setting, setting_at, text_at};
 ghost use Rattle.markdown_inline_c.specs.Many.{AreFound, EndsBy, EndsByInput};
 ghost use Rattle.markdown_inline_c.specs.Refusals.{IsInputRefused, IsReady};
 ghost use Rattle.markdown_inline_c.specs.Statuses.{IsContentAtFault};
 ghost use Rattle.markdown_inline_c.specs.declared.fault.Fault.TheVariants.{Memory};
 
-use crate::contents::{Contents, check_input, prepared};
+use crate::contents::{Contents, check_input, prepared, texts_options};
 use crate::fault::Fault;
 use crate::flat::{FlatContent, Input};
 use crate::form::Form;
-use crate::input::known_options;
 use crate::outcome::Outcome;
 use crate::refusal::Refusal;
 use std::alloc::Global;
@@ -68,10 +66,10 @@ pub fn texts<F: Form + Drop>(
     ends: &mut [usize],
     outcome: &mut Outcome,
 ) -> Result<(), Refusal>
-    ensures { let i = input.now in AreFound (map (λ c. F.items (setting_at (many_setting i) i.pieces.now c) (text_at (many_setting i) i.pieces.now c)) contents.now) array.old array.new ends.old ends.new outcome.new (λ read. EndsByInput (IsReady (AreKnown i.options) i) (IsInputRefused (AreKnown i.options) i) (All (IsTextAt i.bytes.now i.pieces.now)) (λ before at fault. IsContentAtFault i.bytes.now i.pieces.now at fault) contents.now read result) }
+    ensures { let i = input.now in AreFound (map (λ c. F.items (setting_at (many_setting i) i.pieces.now c) (text_at (many_setting i) i.pieces.now c)) contents.now) array.old array.new ends.old ends.new outcome.new (λ read. EndsByInput (IsReady (AreTextsOptions i contents.now) i) (IsInputRefused (AreTextsOptions i contents.now) i) (All (IsTextAt i.bytes.now i.pieces.now)) (λ before at fault. IsContentAtFault i.bytes.now i.pieces.now at fault) contents.now read result) }
 {
     *outcome = Outcome::nothing();
-    let options = known_options(input.options)?;
+    let options = texts_options(input, contents)?;
     check_input(input)?;
     let document = prepared(
         alloc,

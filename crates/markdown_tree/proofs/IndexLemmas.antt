@@ -73,7 +73,7 @@ parent-read es i n d h = own-enter es n d (enter-within es i n h) ∙ sym (ap (o
 
 -- no Enter stands behind the events
 -- an Exit that is ahead is one of the events
-past-outer : (o : List ℕ) (d : ℕ) → slice_get (outer o) d ≡ slice_get o (suc d)
+pub past-outer : (o : List ℕ) (d : ℕ) → slice_get (outer o) d ≡ slice_get o (suc d)
 past-outer [] d = refl
 past-outer (x ∷ o) d = refl
 

@@ -3,3 +3,4 @@ mod IndexLemmas
 mod ForestNodesLemmas
 mod NumberLemmas
 mod TextLemmas
+mod WalkLemmas

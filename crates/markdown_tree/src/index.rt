@@ -1,7 +1,7 @@
-//! What a tree keeps for each event: which node is open before it, and which Exit comes behind it.
-ghost use Rattle.std.specs.Prelude.{◌≡◌, IfOk, OnOk, slice_get};
-ghost use Rattle.markdown_content.specs.Nesting.{opened};
-ghost use Rattle.markdown_tree.specs.Nodes.{closed};
+//! What a tree knows for each event: which node is open before it, and which Exit comes behind it.
+ghost use Rattle.std.specs.Prelude.{◌≡◌, ◌<◌, IfOk, OnOk, length, slice_get};
+ghost use Rattle.markdown_content.specs.Nesting.{opened, own_enter};
+ghost use Rattle.markdown_tree.specs.Nodes.{closed, own_exit};
 ghost use Rattle.markdown_tree.specs.TreeIndex.{parents_of, exits_of};
 
 use markdown_engine_events::event_list::EventSlice;
@@ -70,4 +70,39 @@ pub(crate) fn exits(alloc: Global, events: &EventSlice) -> Result<Vec<Option<usi
     }
     found.reverse();
     Ok(found)
+}
+
+// For the event of a number the number of the innermost Enter that is open before it.
+#[tactic(auto, using(crate::proofs::WalkLemmas::back_exit, crate::proofs::WalkLemmas::back_enter, crate::proofs::WalkLemmas::at_enter))]
+pub(crate) fn enter_around(events: &EventSlice, number: usize) -> Option<usize>
+    requires { number < length events.now }
+    ensures { result ≡ own_enter events.now number }
+{
+    let mut closed: usize = 0;
+    for index in (0..number).rev() {
+        match events.at(index).kind {
+            Kind::Exit => closed += 1,
+            Kind::Enter if closed == 0 => return Some(index),
+            Kind::Enter => closed -= 1,
+        }
+    }
+    None
+}
+
+// For the event of a number the number of the first Exit behind it that ends no Enter behind it.
+#[tactic(auto, using(crate::proofs::WalkLemmas::over_enter, crate::proofs::WalkLemmas::over_exit, crate::proofs::WalkLemmas::at_exit, crate::proofs::WalkLemmas::no_exit))]
+pub(crate) fn exit_behind(events: &EventSlice, number: usize) -> Option<usize>
+    requires { number < length events.now }
+    ensures { result ≡ own_exit events.now number }
+{
+    let end = events.len();
+    let mut open: usize = 0;
+    for index in number + 1..end {
+        match events.at(index).kind {
+            Kind::Enter => open += 1,
+            Kind::Exit if open == 0 => return Some(index),
+            Kind::Exit => open -= 1,
+        }
+    }
+    None
 }

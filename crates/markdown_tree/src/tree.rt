@@ -2,27 +2,34 @@
 ghost use Rattle.std.specs.Prelude.{◌≡◌, ◌+◌, ◌<◌, IfOk, IfSome, length, slice_get};
 ghost use Rattle.markdown_tree.specs.Nodes.{enter_at, exit_at, node_at, first_child_at, next_sibling_at, parent_at, events_at};
 
-use crate::index::{exits, parents};
+use crate::index::{enter_around, exit_behind, exits, parents};
 use crate::node::Node;
 use markdown_engine_events::event_list::EventSlice;
 use markdown_event::event::{Event, Kind};
 use std::alloc::{AllocError, Global};
 use std::marker::Model;
 
-/// The tree that a list of events is, over the events themselves. It holds four words for each of them.
+// What is kept for each event.
+#[derive(Drop)]
+struct Lists {
+    // The number of the innermost Enter that is open before it.
+    parents: Vec<Option<usize>>,
+    // The number of the first Exit behind it that ends no Enter behind it.
+    exits: Vec<Option<usize>>,
+}
+
+/// The tree that a list of events is, over the events themselves.
 ///
 /// A node is the number of an Enter in the list, from 0. Contracts see the tree as the list of its events.
 #[derive(Drop)]
 pub struct Tree<'a> {
     events: EventSlice<'a>,
-    // For each event the number of the innermost Enter that is open before it.
-    parents: Vec<Option<usize>>,
-    // For each event the number of the first Exit behind it that ends no Enter behind it.
-    exits: Vec<Option<usize>>,
+    // None where each call walks to what it looks for.
+    lists: Option<Lists>,
 }
 
 impl<'a> Model for Tree<'a> {
-    ghost use Rattle.std.specs.Prelude.{◌≡◌, List};
+    ghost use Rattle.std.specs.Prelude.{◌≡◌, IfSome, List};
     ghost use Rattle.markdown_event.specs.declared.event.Event.{Event};
     ghost use Rattle.markdown_tree.specs.TreeIndex.{parents_of, exits_of};
 
@@ -30,23 +37,44 @@ impl<'a> Model for Tree<'a> {
 
     ghost view = { λ t. t.events };
 
-    ghost invariant = { λ t. (t.parents.items ≡ parents_of t.events) × (t.exits.items ≡ exits_of t.events) };
+    ghost invariant = { λ t. IfSome t.lists (λ lists. (lists.parents.items ≡ parents_of t.events) × (lists.exits.items ≡ exits_of t.events)) };
 }
 
 impl<'a> Tree<'a> {
-    /// The tree of these events. Takes memory for four words an event, and at first for one more where nodes stand in one another.
+    /// The tree of these events. Takes no memory, and each call passes the events of the node that it is asked for, and `parent` all those before it,
+    /// until `index` is called.
+    pub fn over(events: &EventSlice<'a>) -> Tree<'a>
+        ensures { result ≡ events.now }
+    {
+        Tree {
+            events: events.slice(0, events.len()),
+            lists: None,
+        }
+    }
+
+    /// The tree of these events, whose calls take constant time: as `over` and `index`.
     ///
     /// The error comes only where memory is refused.
     pub fn new(alloc: Global, events: &EventSlice<'a>) -> Result<Tree<'a>, AllocError>
         ensures { IfOk result (λ tree. tree ≡ events.now) }
     {
-        let parents = parents(alloc, events)?;
-        let exits = exits(alloc, events)?;
-        Ok(Tree {
-            events: events.slice(0, events.len()),
-            parents,
-            exits,
-        })
+        let mut tree = Tree::over(events);
+        tree.index(alloc)?;
+        Ok(tree)
+    }
+
+    /// Has its calls take constant time from now on. Takes memory for four words an event, and at first for one more where nodes stand in one another.
+    ///
+    /// The error comes only where memory is refused.
+    pub fn index(&mut self, alloc: Global) -> Result<(), AllocError>
+        ensures { self.new ≡ self.old }
+    {
+        if self.lists.is_none() {
+            let parents = parents(alloc, &self.events)?;
+            let exits = exits(alloc, &self.events)?;
+            self.lists = Some(Lists { parents, exits });
+        }
+        Ok(())
     }
 
     // The event of this number.
@@ -88,7 +116,10 @@ impl<'a> Tree<'a> {
         ensures within { IfSome result (λ exit. (node < exit) × (exit < length self.now)) }
     {
         let enter = self.enter(node)?;
-        self.exits[enter]
+        match &self.lists {
+            Some(lists) => lists.exits[enter],
+            None => exit_behind(&self.events, enter),
+        }
     }
 
     /// The first node of all.
@@ -129,7 +160,10 @@ impl<'a> Tree<'a> {
         ensures { result ≡ parent_at self.now node }
     {
         let enter = self.enter(node)?;
-        self.parents[enter]
+        match &self.lists {
+            Some(lists) => lists.parents[enter],
+            None => enter_around(&self.events, enter),
+        }
     }
 
     /// The first node inside a node.

@@ -28,7 +28,7 @@ refuses i targets options limit = IsHtmlFaultAt (page i targets options) i.piece
 pub returns-in_err-check_input : goal.returns-in_err-check_input
 returns-in_err-check_input c =
     let i = c.args.input.now in
-    input_refused (IsReadyForHtml i c.args.targets.now c.args.options) (IsHtmlInputRefused i c.args.targets.now c.args.options) (holds i c.args.targets.now c.args.options c.args.limit)
+    input_refused (IsReadyForHtml i c.args.targets.now c.args.contents.now c.args.options) (IsHtmlInputRefused i c.args.targets.now c.args.contents.now c.args.options) (holds i c.args.targets.now c.args.options c.args.limit)
     (refuses i c.args.targets.now c.args.options c.args.limit) c.args.contents.now _ c.args.html.now c.args.ends.now
     c.nothing.result c.from_residual-in_err-check_input.result (ap (λ (o : Outcome). o.done) c.nothing.ensures) (ap (λ (o : Outcome). o.count) c.nothing.ensures)
     (err_and c.from_residual-in_err-check_input.result c.in_err-check_input.field-0.0 _ c.from_residual-in_err-check_input.ensures.1 (inr (inl (inr (c.in_ok-asked.ensures.known, c.in_err-check_input.ensures.err)))))
@@ -36,7 +36,7 @@ returns-in_err-check_input c =
 pub returns-in_err-check_targets : goal.returns-in_err-check_targets
 returns-in_err-check_targets c =
     let i = c.args.input.now in
-    input_refused (IsReadyForHtml i c.args.targets.now c.args.options) (IsHtmlInputRefused i c.args.targets.now c.args.options) (holds i c.args.targets.now c.args.options c.args.limit)
+    input_refused (IsReadyForHtml i c.args.targets.now c.args.contents.now c.args.options) (IsHtmlInputRefused i c.args.targets.now c.args.contents.now c.args.options) (holds i c.args.targets.now c.args.options c.args.limit)
     (refuses i c.args.targets.now c.args.options c.args.limit) c.args.contents.now _ c.args.html.now c.args.ends.now
     c.nothing.result c.from_residual-in_err-check_targets.result (ap (λ (o : Outcome). o.done) c.nothing.ensures) (ap (λ (o : Outcome). o.count) c.nothing.ensures)
     (err_and c.from_residual-in_err-check_targets.result c.in_err-check_targets.field-0.0 _ c.from_residual-in_err-check_targets.ensures.1
@@ -48,7 +48,7 @@ returns-in_err-check_targets c =
 pub returns-in_err-document : goal.returns-in_err-document
 returns-in_err-document c =
     let i = c.args.input.now in
-    input_refused (IsReadyForHtml i c.args.targets.now c.args.options) (IsHtmlInputRefused i c.args.targets.now c.args.options) (holds i c.args.targets.now c.args.options c.args.limit)
+    input_refused (IsReadyForHtml i c.args.targets.now c.args.contents.now c.args.options) (IsHtmlInputRefused i c.args.targets.now c.args.contents.now c.args.options) (holds i c.args.targets.now c.args.options c.args.limit)
     (refuses i c.args.targets.now c.args.options c.args.limit) c.args.contents.now _ c.args.html.now c.args.ends.now
     c.nothing.result c.from_residual-in_err-document.result (ap (λ (o : Outcome). o.done) c.nothing.ensures) (ap (λ (o : Outcome). o.count) c.nothing.ensures)
     (err_and c.from_residual-in_err-document.result (blames_none Fault.Memory) _ c.from_residual-in_err-document.ensures.1 (inl refl))
@@ -56,7 +56,7 @@ returns-in_err-document c =
 pub returns-in_err-definitions : goal.returns-in_err-definitions
 returns-in_err-definitions c =
     let i = c.args.input.now in
-    input_refused (IsReadyForHtml i c.args.targets.now c.args.options) (IsHtmlInputRefused i c.args.targets.now c.args.options) (holds i c.args.targets.now c.args.options c.args.limit)
+    input_refused (IsReadyForHtml i c.args.targets.now c.args.contents.now c.args.options) (IsHtmlInputRefused i c.args.targets.now c.args.contents.now c.args.options) (holds i c.args.targets.now c.args.options c.args.limit)
     (refuses i c.args.targets.now c.args.options c.args.limit) c.args.contents.now _ c.args.html.now c.args.ends.now
     c.nothing.result c.from_residual-in_err-definitions.result (ap (λ (o : Outcome). o.done) c.nothing.ensures) (ap (λ (o : Outcome). o.count) c.nothing.ensures)
     (err_and c.from_residual-in_err-definitions.result c.in_err-definitions.field-0.0 _ c.from_residual-in_err-definitions.ensures.1 (inl c.in_err-definitions.ensures.err))
@@ -80,7 +80,7 @@ returns c =
     AreFound (html_of_each x [] (map (tree_at y pieces) contents)) c.args.html.now c.write_all.new.html c.args.ends.now c.write_all.new.ends c.write_all.new.outcome
     (λ read. EndsBy (AreWritable x pieces (tree_at y pieces) limit) (IsHtmlFaultAt x pieces (tree_at y pieces) limit) contents read c.write_all.result)
     in
-    behind_input (IsReadyForHtml i targets c.args.options) (IsHtmlInputRefused i targets c.args.options) (holds i targets c.args.options limit) (refuses i targets c.args.options limit) contents (htmls_of i targets contents c.args.options) c.args.html.now c.write_all.new.html
+    behind_input (IsReadyForHtml i targets contents c.args.options) (IsHtmlInputRefused i targets contents c.args.options) (holds i targets c.args.options limit) (refuses i targets c.args.options limit) contents (htmls_of i targets contents c.args.options) c.args.html.now c.write_all.new.html
     c.args.ends.now c.write_all.new.ends c.write_all.new.outcome c.write_all.result
     (record {
       input = record { options = c.in_ok-asked.ensures.known; document = c.in_ok-check_input.ensures.document; labels = c.in_ok-check_input.ensures.labels };
