@@ -11,12 +11,13 @@
  * - Text is UTF-8. Indexes and ranges count bytes, from 0; lines and columns count from 1.
  * - Every input is taken, and a call always returns. Only pointers and lengths have to be those of arrays, and what a call writes to may overlap
  *   nothing else that the call is given.
- * - A document that is not UTF-8 is refused whole. A copy of the same length with a NUL for each wrong byte is read, and places in it are those of the
- *   document: CommonMark reads NUL as U+FFFD.
+ * - A document that is not UTF-8 is refused whole, and calls for many contents tell the first byte that is wrong. A copy of the same length with a NUL
+ *   for each wrong byte is read, and places in it are those of the document: CommonMark reads NUL as U+FFFD.
  * - No pointer is kept after a call, and nothing has to be freed. There is no state, so several threads may call at once.
  * - Memory comes from malloc, and is freed before the call ends. If malloc fails, the call returns MARKDOWN_INLINE_NO_MEMORY.
  * - The stack that a call takes does not grow with its input.
- * - Fields named `reserved` have to be 0, since a later version may give them a meaning. This version does not look at them.
+ * - Fields named `reserved` have to be 0, since a later version may give them a meaning. A call that is given another number returns
+ *   MARKDOWN_INLINE_UNKNOWN_OPTION.
  */
 #ifndef MARKDOWN_INLINE_H
 #define MARKDOWN_INLINE_H
@@ -281,7 +282,10 @@ enum { MARKDOWN_INLINE_UNLINKED = 0, MARKDOWN_INLINE_LINKED_STRING = 1, MARKDOWN
 /* What HTML may hold, each by a bit: raw HTML as it stands, and not as text; links that lead wherever they say, and not to listed schemes alone. */
 enum { MARKDOWN_INLINE_HTML_RAW = 0x1, MARKDOWN_INLINE_HTML_ANY_LINK = 0x2 };
 
-/* The number of no event, and of no content, no string and no definition that is refused. */
+/* How texts of strings are written, each by a bit: with a line feed for each line ending (CommonMark 2.1), and with U+FFFD for NUL (CommonMark 2.3). */
+enum { MARKDOWN_INLINE_STRING_LINE_FEEDS = 0x1, MARKDOWN_INLINE_STRING_REPLACED_NUL = 0x2 };
+
+/* The number of no event, and of no content, no string, no definition and no byte that is refused. */
 #define MARKDOWN_INLINE_NONE SIZE_MAX
 
 /* The number of no definition, in a short event. */
@@ -404,7 +408,9 @@ MARKDOWN_INLINE_API uint32_t markdown_inline_string(const markdown_inline_input 
 
 /* Finds the events of the input's pieces as a text: of the inside of a paragraph, a heading or a table's cell. Each call tests the whole document,
  * passes all that stands before the pieces, and sorts the labels, so a call for each paragraph of a document takes quadratic time: for many contents
- * call markdown_inline_texts. The rest is as above. */
+ * call markdown_inline_texts. The rest is as above.
+ * A call without room tells how many events there are. No bound on them is proved. The most that were measured are 28 events for the 5 bytes of `[](a)`, again
+ * and again, and no text that is tested has more than 6 for each byte. There are half as many leaves as events at most. */
 MARKDOWN_INLINE_API uint32_t markdown_inline_text(const markdown_inline_input *input, markdown_inline_event *events, size_t events_len, size_t *count);
 
 /* Finds the leaves of the input's pieces as a text, in order: together they cover the pieces, each code once. A call costs what that for events does:
@@ -431,7 +437,8 @@ MARKDOWN_INLINE_API uint32_t markdown_inline_reference(uint32_t options, const u
  *     elements they have: so a caller can go on behind it.
  * NO_MEMORY: some are read, from the first on, and `count` is how many elements they have.
  * DEFINITION: `blamed` is the number of the definition that is refused; footnotes are counted on behind the definitions. Nothing is read.
- * UNKNOWN_OPTION, TOO_LONG, NOT_UTF8: nothing is read. */
+ * NOT_UTF8: `blamed` is the first byte of the document that is not UTF-8: what stands before it is. Nothing is read. A call for no contents tests a document.
+ * UNKNOWN_OPTION, TOO_LONG: nothing is read. */
 
 /* Finds the events of many contents of a document, read as texts. The document is prepared once, so each content costs about what it costs by itself.
  * The input has the pieces of all contents. Each content, and not the options, says whether it is the first of a list item. Numbers of events
@@ -440,7 +447,9 @@ MARKDOWN_INLINE_API uint32_t markdown_inline_reference(uint32_t options, const u
 MARKDOWN_INLINE_API uint32_t markdown_inline_texts(const markdown_inline_input *input, const markdown_inline_content *contents, size_t contents_len,
     markdown_inline_event *events, size_t events_len, size_t *ends, size_t ends_len, markdown_inline_outcome *outcome);
 
-/* Finds the same events in 16 bytes each, with the definitions that links, images and footnote calls refer to: which is all that a renderer needs. */
+/* Finds the same events in 16 bytes each, with the definitions that links, images and footnote calls refer to: which is all that a renderer needs. A
+ * reference has the number of its definition, and no copy of what that says, so definitions bring no more events, and there is no limit. A caller that
+ * copies destinations and titles to references needs one, as markdown_inline_html has. */
 MARKDOWN_INLINE_API uint32_t markdown_inline_short_texts(const markdown_inline_input *input, const markdown_inline_content *contents, size_t contents_len,
     markdown_inline_short_event *events, size_t events_len, size_t *ends, size_t ends_len, markdown_inline_outcome *outcome);
 
@@ -458,6 +467,11 @@ MARKDOWN_INLINE_API uint32_t markdown_inline_short_texts(const markdown_inline_i
 MARKDOWN_INLINE_API uint32_t markdown_inline_html(const markdown_inline_input *input, const markdown_inline_target *targets, size_t targets_len, uint32_t options,
     size_t limit, uint8_t *html, size_t html_len, size_t *count);
 
+/* Writes the HTML of all of these bytes as a text: what markdown_inline_html writes of an input that has them as one piece, with no definitions. `options`
+ * are those of an input, and `html_options` are those of markdown_inline_html. A line ending at the end is left off by the caller. The rest is as above. */
+MARKDOWN_INLINE_API uint32_t markdown_inline_html_of(const uint8_t *bytes, size_t bytes_len, uint32_t options, uint32_t html_options,
+    uint8_t *html, size_t html_len, size_t *count);
+
 /* Writes the HTML of many contents of a document, read as texts. The document is prepared once, so each content costs about what it costs by itself.
  * Contents are those of markdown_inline_texts, and targets and `options` those of markdown_inline_html. Footnotes are numbered through all contents,
  * and a second call of a footnote has another id than the first. Ids are made of labels, so two footnotes may share one: the second call of `a` has the id
@@ -472,17 +486,19 @@ MARKDOWN_INLINE_API uint32_t markdown_inline_htmls(const markdown_inline_input *
     size_t ends_len, markdown_inline_outcome *outcome);
 
 /* Finds the texts of strings: of a link's destination or title, of a definition's, of an info string. Escaped punctuation stands in place of its escape, and
- * in place of each character reference its text (CommonMark 2.4 and 2.5); all other bytes stay, line endings and NUL among them. The options are those of
- * an input, and mean what they mean to markdown_inline_reference: take those by which the document is read.
+ * in place of each character reference its text (CommonMark 2.4 and 2.5); all other bytes stay. `options` are those of an input, and mean what they mean to
+ * markdown_inline_reference: take those by which the document is read. `string_options` has the bits MARKDOWN_INLINE_STRING_LINE_FEEDS and
+ * MARKDOWN_INLINE_STRING_REPLACED_NUL, which change what is written of the bytes alone: `&#13;` is CR, with each of them. Without them line endings and NUL stay.
  *
  * A part is a range of the bytes, in any order; a string is a range of numbers of parts, whose bytes are one text. Where a string stands in a paragraph, its
  * parts are what the events Data and LineEnding between the Enter and the Exit of ResourceDestinationString or ResourceTitleString cover: so prefixes of lines,
  * and whitespace that begins them, are no part of it. A string that stands alone is one part; an empty one may have none.
  *
  * The texts are written as calls for many write. NO_STRING: a string has a part that is not given, or one that is no text of the bytes. By the names that are
- * known without an option, no text is longer than its parts; by all names of HTML it is longer by a fifth at most. That is tested and not proved. */
-MARKDOWN_INLINE_API uint32_t markdown_inline_strings(uint32_t options, const uint8_t *bytes, size_t bytes_len, const markdown_inline_range *parts, size_t parts_len,
-    const markdown_inline_range *strings, size_t strings_len, uint8_t *texts, size_t texts_len, size_t *ends, size_t ends_len, markdown_inline_outcome *outcome);
+ * known without an option, no text is longer than its parts; by all names of HTML it is longer by a fifth at most; and U+FFFD has two bytes more than NUL. That
+ * is tested and not proved. */
+MARKDOWN_INLINE_API uint32_t markdown_inline_strings(uint32_t options, uint32_t string_options, const uint8_t *bytes, size_t bytes_len,
+    const markdown_inline_range *parts, size_t parts_len, const markdown_inline_range *strings, size_t strings_len, uint8_t *texts, size_t texts_len, size_t *ends, size_t ends_len, markdown_inline_outcome *outcome);
 
 /* What a status says, or a null pointer for a number that is none. This function and the next one are not proved. */
 MARKDOWN_INLINE_API const char *markdown_inline_status_text(uint32_t status);

@@ -11,7 +11,7 @@ typedef uint8_t u8;
 typedef uint32_t u32;
 typedef uint64_t u64;
 
-/* The heap. The library keeps nothing after a call, so JavaScript marks the top before a call, and resets it behind. */
+/* The heap. The library keeps nothing after a call, so JavaScript lays out by itself what a call is handed, and says with each call where the heap begins. */
 
 extern u8 __heap_base;
 /* The bytes from `top` on are free, and memory ends at `limit` at most. */
@@ -49,6 +49,7 @@ typedef struct block {
     struct block *next;
 } block;
 static block *given_back[160];
+static int is_any_given_back;
 
 /* The class of n bytes, and the room that blocks of this class have. */
 static u64 class_of(u64 n, u64 *room) {
@@ -91,6 +92,7 @@ void rattle_dealloc(void *at) {
     u64 room, class = class_of(it->room, &room);
     it->next = given_back[class];
     given_back[class] = it;
+    is_any_given_back = 1;
 }
 
 answer rattle_realloc(void *at, u64 old, u64 n, u64 align) {
@@ -112,24 +114,30 @@ answer rattle_realloc(void *at, u64 old, u64 n, u64 align) {
     return found;
 }
 
-EXPORTED("mark") u32 mark(void) {
-    if (top == 0) top = ((u64)&__heap_base + 15) & ~15ull;
-    return (u32)top;
-}
+/* Where the first byte is that JavaScript may use. */
+EXPORTED("base") u32 base(void) { return (u32)(((u64)&__heap_base + 15) & ~15ull); }
 
-EXPORTED("reset") void reset(u32 to) {
-    top = to;
-    for (int at = 0; at < 160; at++) given_back[at] = NULL;
-}
-
-/* Where there is room for n bytes, or 0. */
-EXPORTED("room") u32 room(u32 n) { return (u32)(u64)room_at_top(((u64)n + 15) & ~15ull); }
+/* Whether the memory reaches to an end. */
+EXPORTED("reach") u32 reach(u32 end) { return (u32)reaches(end); }
 
 EXPORTED("limit") void set_limit(u32 pages) { limit = pages * PAGE; }
 
-/* The calls. `a` is where the arguments stand. */
+/* Begins a heap that has nothing. */
+static void empty(u32 from) {
+    top = from;
+    if (!is_any_given_back) return;
+    for (int at = 0; at < 160; at++) given_back[at] = NULL;
+    is_any_given_back = 0;
+}
 
-#define CALL(name, ...) EXPORTED(#name) u32 name(u32 arguments) { const u64 *a = (const u64 *)(u64)arguments; return markdown_inline_##name(__VA_ARGS__); }
+/* The calls. `a` is where the arguments stand, and the heap begins at a multiple of 16. */
+
+#define CALL(name, ...) \
+    EXPORTED(#name) u32 name(u32 arguments, u32 from) { \
+        const u64 *a = (const u64 *)(u64)arguments; \
+        empty(from); \
+        return markdown_inline_##name(__VA_ARGS__); \
+    }
 #define AT(n) ((void *)a[n])
 
 EXPORTED("version") u32 version(void) { return markdown_inline_version(); }
@@ -144,7 +152,7 @@ CALL(texts, AT(0), AT(1), a[2], AT(3), a[4], AT(5), a[6], AT(7))
 CALL(short_texts, AT(0), AT(1), a[2], AT(3), a[4], AT(5), a[6], AT(7))
 CALL(html, AT(0), AT(1), a[2], (u32)a[3], a[4], AT(5), a[6], AT(7))
 CALL(htmls, AT(0), AT(1), a[2], AT(3), a[4], (u32)a[5], a[6], AT(7), a[8], AT(9), a[10], AT(11))
-CALL(strings, (u32)a[0], AT(1), a[2], AT(3), a[4], AT(5), a[6], AT(7), a[8], AT(9), a[10], AT(11))
+CALL(strings, (u32)a[0], (u32)a[1], AT(2), a[3], AT(4), a[5], AT(6), a[7], AT(8), a[9], AT(10), a[11], AT(12))
 
 /* Offsets in UTF-16. A note for each 1024 bytes says how many units stand before, and how many bytes more than units stand before the line there. */
 
@@ -162,9 +170,10 @@ static void walk(cursor *c, u64 to) {
     }
 }
 
-/* Whether there is room for the notes of a document. */
-static int begin(cursor *c, u32 bytes, u32 len) {
+/* Whether there is room for the notes of a document, from a place on. */
+static int begin(cursor *c, u32 bytes, u32 len, u32 from) {
     u64 many = len / EACH + 1;
+    empty(from);
     *c = (cursor){.bytes = (const u8 *)(u64)bytes, .len = len, .notes = room_at_top((many * sizeof(note) + 15) & ~15ull)};
     if (!c->notes) return 0;
     for (u64 at = 0; at < many; at++) {
@@ -185,9 +194,9 @@ static void seek(cursor *c, u64 to) {
 
 /* Writes offsets into the upper half of a number of each row, whose lower half is a byte, and columns beside columns in bytes likewise, where rows have
  * them. They stand so many bytes behind the start of a row, and rows are so many bytes apart. It answers whether there was room. */
-EXPORTED("to_units") u32 to_units(u32 bytes, u32 len, u32 rows, u32 many, u32 apart, u32 place, u32 has_column, u32 column) {
+EXPORTED("to_units") u32 to_units(u32 bytes, u32 len, u32 rows, u32 many, u32 apart, u32 place, u32 has_column, u32 column, u32 from) {
     cursor c;
-    if (!begin(&c, bytes, len)) return 0;
+    if (!begin(&c, bytes, len, from)) return 0;
     for (u8 *row = (u8 *)(u64)rows; many > 0; many--, row += apart) {
         u32 *byte = (u32 *)(row + place), *columns = (u32 *)(row + column);
         seek(&c, byte[0]);
@@ -199,9 +208,9 @@ EXPORTED("to_units") u32 to_units(u32 bytes, u32 len, u32 rows, u32 many, u32 ap
 
 /* Replaces an offset at each of these places by its byte; by the largest number where it stands in a pair of surrogates or behind the document, so that the
  * library refuses it. It answers whether there was room. */
-EXPORTED("to_bytes") u32 to_bytes(u32 bytes, u32 len, u32 offsets, u32 many, u32 apart) {
+EXPORTED("to_bytes") u32 to_bytes(u32 bytes, u32 len, u32 offsets, u32 many, u32 apart, u32 from) {
     cursor c;
-    if (!begin(&c, bytes, len)) return 0;
+    if (!begin(&c, bytes, len, from)) return 0;
     for (u8 *row = (u8 *)(u64)offsets; many > 0; many--, row += apart) {
         u64 wanted = *(u64 *)row, low = c.at / EACH, high = len / EACH + 1;
         if (wanted < c.now.units) low = 0;

@@ -58,11 +58,22 @@ fn installed() -> Option<Place> {
     Some(Place { lib, include }).filter(|place| place.archive().exists())
 }
 
-/// The library that a release packs into the crate: it is for one kind of machine.
+/// The targets of Rust that a release may pack a library for, and in which folder it stands.
+const PACKED: [(&str, &str); 7] = [
+    ("x86_64-unknown-linux-gnu", "native"),
+    ("x86_64-unknown-linux-musl", "native/x86_64-linux-musl"),
+    ("x86_64-pc-windows-gnu", "native/x86_64-windows"),
+    ("aarch64-unknown-linux-gnu", "native/aarch64-linux"),
+    ("aarch64-unknown-linux-musl", "native/aarch64-linux"),
+    ("riscv64gc-unknown-linux-gnu", "native/riscv64-linux"),
+    ("riscv64gc-unknown-linux-musl", "native/riscv64-linux"),
+];
+
+/// The library for the target that a release packs into the crate.
 fn packed(here: &Path) -> Option<Place> {
-    let is_for_target = env::var("TARGET").is_ok_and(|target| target == "x86_64-unknown-linux-gnu");
-    Some(Place::of(here.join("native/lib")))
-        .filter(|place| is_for_target && place.archive().exists())
+    let target = env::var("TARGET").ok()?;
+    let (_, folder) = PACKED.iter().find(|(name, _)| *name == target)?;
+    Some(Place::of(here.join(folder).join("lib"))).filter(|place| place.archive().exists())
 }
 
 fn place() -> Place {

@@ -333,7 +333,7 @@ static void test_texts_refused(void) {
     want_texts_refused("a definition before a footnote of texts", &input, contents, MARKDOWN_INLINE_DEFINITION, 0, 1);
     input.bytes = (const uint8_t *)"\xff";
     input.bytes_len = 1;
-    want_texts_refused("no UTF-8 before definitions", &input, contents, MARKDOWN_INLINE_NOT_UTF8, 0, MARKDOWN_INLINE_NONE);
+    want_texts_refused("no UTF-8 before definitions", &input, contents, MARKDOWN_INLINE_NOT_UTF8, 0, 0);
     input.bytes_len = (SIZE_MAX >> 3) + 1;
     want_texts_refused("too long for texts", &input, contents, MARKDOWN_INLINE_TOO_LONG, 0, MARKDOWN_INLINE_NONE);
     input.options |= 1u << 31;
@@ -486,6 +486,36 @@ static void test_html(void) {
     want("HTML of nothing", markdown_inline_html(&input, NULL, 0, 0, 0, NULL, 0, &count) == MARKDOWN_INLINE_DONE && count == 0);
 }
 
+/* Bytes alone have the HTML of an input of all of them, with the same statuses, room and options. */
+static void test_html_of(void) {
+    static const struct {
+        const char *text;
+        uint32_t options, html_options;
+    } cases[] = {{"a *b*\n[c](/d) &check;", MARKDOWN_INLINE_COMMONMARK, 0}, {"~~a~~ &check;", MARKDOWN_INLINE_CRATE, 0}, {"~~a~~", MARKDOWN_INLINE_COMMONMARK | MARKDOWN_INLINE_GFM, 0},
+        {"<b>[a](b:c)", MARKDOWN_INLINE_COMMONMARK, MARKDOWN_INLINE_HTML_RAW}, {"<b>[a](b:c)", MARKDOWN_INLINE_COMMONMARK, MARKDOWN_INLINE_HTML_ANY_LINK},
+        {"[x] a", MARKDOWN_INLINE_COMMONMARK | MARKDOWN_INLINE_GFM | MARKDOWN_INLINE_OPTION_FIRST_OF_ITEM, 0}, {"[a]", MARKDOWN_INLINE_COMMONMARK, 0}, {"", 0, 0},
+        {"a\n", MARKDOWN_INLINE_COMMONMARK, 0}, {"a\n\nb", MARKDOWN_INLINE_COMMONMARK, 0}, {"\xff", MARKDOWN_INLINE_COMMONMARK, 0}, {"a", 1u << 31, 0}, {"a", 0, 4}};
+    uint8_t wanted[128], found[128];
+    for (size_t at = 0; at < sizeof cases / sizeof *cases; at++) {
+        markdown_inline_piece piece = whole(cases[at].text);
+        markdown_inline_input input = input_of(cases[at].text, &piece);
+        input.options = cases[at].options;
+        for (size_t room = 0; room <= 128; room += 4) {
+            size_t wanted_count = 77, count = 77;
+            memset(wanted, 1, sizeof wanted);
+            memset(found, 1, sizeof found);
+            uint32_t status = markdown_inline_html(&input, NULL, 0, cases[at].html_options, 0, wanted, room, &wanted_count);
+            want("a status of bytes alone", markdown_inline_html_of(input.bytes, input.bytes_len, input.options, cases[at].html_options, found, room, &count) == status);
+            want("HTML of bytes alone", count == wanted_count && !memcmp(found, wanted, sizeof found));
+        }
+    }
+    static const char html[] = "a <em>b</em>\n<a href=\"/d\">c</a> \xe2\x9c\x93";
+    size_t count = 0, len = sizeof html - 1;
+    want("a text alone", markdown_inline_html_of((const uint8_t *)cases[0].text, strlen(cases[0].text), cases[0].options, 0, found, 128, &count) == MARKDOWN_INLINE_DONE);
+    want("the HTML of a text alone", count == len && !memcmp(found, html, len));
+    want("nothing alone", markdown_inline_html_of(NULL, 0, 0, 0, NULL, 0, &count) == MARKDOWN_INLINE_DONE && count == 0);
+}
+
 /* Strings have the texts of their parts, and as many as have room are written. */
 static void test_strings(void) {
     /* Two lines in a block quote, a destination with an escape and a reference, NUL, and a part that is no UTF-8. */
@@ -506,28 +536,43 @@ static void test_strings(void) {
         size_t written = done > 0 ? ends_wanted[done - 1] : 0;
         memset(found, 1, sizeof found);
         memset(ends, 1, sizeof ends);
-        uint32_t status = markdown_inline_strings(MARKDOWN_INLINE_COMMONMARK, bytes, len, parts, 10, strings, 6, found, room, ends, 8, &outcome);
+        uint32_t status = markdown_inline_strings(MARKDOWN_INLINE_COMMONMARK, 0, bytes, len, parts, 10, strings, 6, found, room, ends, 8, &outcome);
         want("a status by the room for strings", status == (done < 6 ? (uint32_t)MARKDOWN_INLINE_TOO_SMALL : (uint32_t)MARKDOWN_INLINE_DONE));
         want("how much strings want", is_outcome(&outcome, done, wanted, MARKDOWN_INLINE_NONE));
         want("the texts of strings", !memcmp(found, texts, written) && !memcmp(found + written, before, 64 - written));
         want("the ends of strings", !memcmp(ends, ends_wanted, done * sizeof *ends) && !memcmp(ends + done, ends_before, (8 - done) * sizeof *ends));
     }
-    want("no room for ends of strings", markdown_inline_strings(MARKDOWN_INLINE_COMMONMARK, bytes, len, parts, 10, strings, 6, found, 64, ends, 5, &outcome) == MARKDOWN_INLINE_TOO_SMALL);
+    want("no room for ends of strings", markdown_inline_strings(MARKDOWN_INLINE_COMMONMARK, 0, bytes, len, parts, 10, strings, 6, found, 64, ends, 5, &outcome) == MARKDOWN_INLINE_TOO_SMALL);
     want("as many strings as have ends", is_outcome(&outcome, 5, wanted, MARKDOWN_INLINE_NONE));
     for (size_t at = 6; at < 12; at++) {
         markdown_inline_range wrong[] = {{0, 1}, {at, at + 1}};
         if (at == 11) wrong[1] = (markdown_inline_range){1, 0};
-        want("a string of no text", markdown_inline_strings(MARKDOWN_INLINE_COMMONMARK, bytes, len, parts, 10, wrong, 2, found, 64, ends, 8, &outcome) == MARKDOWN_INLINE_NO_STRING);
+        want("a string of no text", markdown_inline_strings(MARKDOWN_INLINE_COMMONMARK, 0, bytes, len, parts, 10, wrong, 2, found, 64, ends, 8, &outcome) == MARKDOWN_INLINE_NO_STRING);
         want("which string is no text", is_outcome(&outcome, 1, past, 1));
     }
     static const markdown_inline_range check[] = {{0, 7}}, one[] = {{0, 1}};
-    want("a string by all names", markdown_inline_strings(MARKDOWN_INLINE_OPTION_HTML_REFERENCES, (const uint8_t *)"&check;", 7, check, 1, one, 1, found, 64, ends, 8, &outcome) == MARKDOWN_INLINE_DONE);
+    want("a string by all names", markdown_inline_strings(MARKDOWN_INLINE_OPTION_HTML_REFERENCES, 0, (const uint8_t *)"&check;", 7, check, 1, one, 1, found, 64, ends, 8, &outcome) == MARKDOWN_INLINE_DONE);
     want("the text by all names", is_outcome(&outcome, 1, 3, MARKDOWN_INLINE_NONE) && !memcmp(found, "\xe2\x9c\x93", 3));
-    want("a string by the names without an option", markdown_inline_strings(0, (const uint8_t *)"&check;", 7, check, 1, one, 1, found, 64, ends, 8, &outcome) == MARKDOWN_INLINE_DONE);
+    want("a string by the names without an option", markdown_inline_strings(0, 0, (const uint8_t *)"&check;", 7, check, 1, one, 1, found, 64, ends, 8, &outcome) == MARKDOWN_INLINE_DONE);
     want("the text as it stands", is_outcome(&outcome, 1, 7, MARKDOWN_INLINE_NONE) && !memcmp(found, "&check;", 7));
-    want("an unknown option of strings", markdown_inline_strings(0x800000, bytes, len, parts, 10, strings, 6, found, 64, ends, 8, &outcome) == MARKDOWN_INLINE_UNKNOWN_OPTION);
+    want("an unknown option of strings", markdown_inline_strings(0x800000, 0, bytes, len, parts, 10, strings, 6, found, 64, ends, 8, &outcome) == MARKDOWN_INLINE_UNKNOWN_OPTION);
     want("no string is read then", is_outcome(&outcome, 0, 0, MARKDOWN_INLINE_NONE));
-    want("no strings", markdown_inline_strings(MARKDOWN_INLINE_COMMONMARK, NULL, 0, NULL, 0, NULL, 0, NULL, 0, NULL, 0, &outcome) == MARKDOWN_INLINE_DONE && is_outcome(&outcome, 0, 0, MARKDOWN_INLINE_NONE));
+    for (uint32_t how = 0; how < 4; how++) {
+        static const char given[] = "a\r\nb\rc\n\\\r\n&#13;&#0;\0\r\r\n";
+        /* A zero of these stands for NUL. */
+        static const char *const written[] = {"a\r\nb\rc\n\\\r\n\r\xef\xbf\xbd" "0\r\r\n", "a\nb\nc\n\\\n\r\xef\xbf\xbd" "0\n\n", "a\r\nb\rc\n\\\r\n\r\xef\xbf\xbd\xef\xbf\xbd\r\r\n",
+            "a\nb\nc\n\\\n\r\xef\xbf\xbd\xef\xbf\xbd\n\n"};
+        /* The line ending at which the first part of the second string ends goes on in its second part: they are one text. */
+        static const markdown_inline_range all[] = {{0, sizeof given - 1}, {0, 2}, {2, 4}}, each[] = {{0, 1}, {1, 3}};
+        size_t first = strlen(written[how]), last = how & MARKDOWN_INLINE_STRING_LINE_FEEDS ? 3 : 4;
+        want("strings by how they are written", markdown_inline_strings(MARKDOWN_INLINE_COMMONMARK, how, (const uint8_t *)given, sizeof given - 1, all, 3, each, 2, found, 64, ends, 8, &outcome) == MARKDOWN_INLINE_DONE);
+        want("how long strings so written are", is_outcome(&outcome, 2, first + last, MARKDOWN_INLINE_NONE) && ends[0] == first);
+        for (size_t at = 0; at < first; at++) want("the text of a string so written", found[at] == (written[how][at] == '0' ? 0 : (uint8_t)written[how][at]));
+        want("the text of a string of parts so written", !memcmp(found + first, last == 3 ? "a\nb" : "a\r\nb", last));
+    }
+    want("an unknown bit of how strings are written", markdown_inline_strings(MARKDOWN_INLINE_COMMONMARK, 4, bytes, len, parts, 10, strings, 6, found, 64, ends, 8, &outcome) == MARKDOWN_INLINE_UNKNOWN_OPTION);
+    want("no string is written then", is_outcome(&outcome, 0, 0, MARKDOWN_INLINE_NONE));
+    want("no strings", markdown_inline_strings(MARKDOWN_INLINE_COMMONMARK, 0, NULL, 0, NULL, 0, NULL, 0, NULL, 0, NULL, 0, &outcome) == MARKDOWN_INLINE_DONE && is_outcome(&outcome, 0, 0, MARKDOWN_INLINE_NONE));
 }
 
 /* A document of three paragraphs, with its definition behind its labels: `d` leads to `/e` with the title `f`; and a footnote `g`. */
@@ -642,11 +687,43 @@ static void test_blame(void) {
     want_refused("a target past the labels", &input, contents, 1, MARKDOWN_INLINE_DEFINITION, 0, 0);
     input.bytes = (const uint8_t *)"\xff";
     input.bytes_len = 1;
-    want_refused("no UTF-8 of many", &input, contents, 1, MARKDOWN_INLINE_NOT_UTF8, 0, MARKDOWN_INLINE_NONE);
+    want_refused("no UTF-8 of many", &input, contents, 1, MARKDOWN_INLINE_NOT_UTF8, 0, 0);
+    /* Wrong bytes of each kind behind two characters: an end within a character, a surrogate, a byte of no character, a number in too many bytes. */
+    static const char *const wrong[] = {"a\xc3\xa9\xe2\x82", "a\xc3\xa9\xed\xa0\x80", "a\xc3\xa9\xff\xff", "a\xc3\xa9\xc0\xaf", "a\xc3\xa9\x80 \xff"};
+    for (size_t at = 0; at < sizeof wrong / sizeof *wrong; at++) {
+        input.bytes = (const uint8_t *)wrong[at];
+        input.bytes_len = strlen(wrong[at]);
+        want_refused("which byte is not UTF-8", &input, contents, 1, MARKDOWN_INLINE_NOT_UTF8, 0, 3);
+    }
     input.bytes_len = (SIZE_MAX >> 3) + 1;
     want_refused("too long for many", &input, contents, 1, MARKDOWN_INLINE_TOO_LONG, 0, MARKDOWN_INLINE_NONE);
     input.options |= 1u << 31;
     want_refused("an unknown option of many", &input, contents, 1, MARKDOWN_INLINE_UNKNOWN_OPTION, 0, MARKDOWN_INLINE_NONE);
+}
+
+/* Each reserved field that is not 0 is refused, before anything is read. */
+static void test_reserved(void) {
+    static const char *const what[] = {"a reserved field of an input", "a reserved field of a content", "a reserved field of a target"};
+    for (int which = 0; which < 3; which++) {
+        markdown_inline_input input = many_input();
+        markdown_inline_content contents[3];
+        markdown_inline_target target = many_targets[0];
+        markdown_inline_leaf leaves[8];
+        markdown_inline_event events[128];
+        markdown_inline_outcome outcome = {77, 77, 77};
+        uint8_t html[1024];
+        size_t ends[3], count = 77;
+        const uint32_t of_texts = which < 2 ? MARKDOWN_INLINE_UNKNOWN_OPTION : MARKDOWN_INLINE_DONE, of_one = which == 0 ? MARKDOWN_INLINE_UNKNOWN_OPTION : MARKDOWN_INLINE_DONE;
+        memcpy(contents, many_contents, sizeof contents);
+        *(which == 0 ? &input.reserved : which == 1 ? &contents[2].reserved : &target.reserved) = 1u << 31;
+        want(what[which], markdown_inline_htmls(&input, &target, 1, contents, 3, 0, 0, html, 1024, ends, 3, &outcome) == MARKDOWN_INLINE_UNKNOWN_OPTION);
+        want(what[which], is_outcome(&outcome, 0, 0, MARKDOWN_INLINE_NONE));
+        want(what[which], markdown_inline_texts(&input, contents, 3, events, 128, ends, 3, &outcome) == of_texts);
+        input.pieces_len = 1;
+        want(what[which], markdown_inline_html(&input, &target, 1, 0, 0, html, 1024, &count) == (which == 1 ? MARKDOWN_INLINE_DONE : MARKDOWN_INLINE_UNKNOWN_OPTION));
+        want(what[which], markdown_inline_text(&input, events, 128, &count) == of_one && markdown_inline_leaves(&input, leaves, 0, &count) == (which == 0 ? of_one : MARKDOWN_INLINE_TOO_SMALL));
+        want(what[which], markdown_inline_string(&input, events, 128, &count) == of_one);
+    }
 }
 
 static void test_empty(void) {
@@ -775,9 +852,10 @@ static int call_once(const char *call) {
     if (!strcmp(call, "texts")) return (int)markdown_inline_texts(&input, contents, 2, events, 256, ends, 2, &outcome);
     if (!strcmp(call, "short_texts")) return (int)markdown_inline_short_texts(&input, contents, 2, short_events, 256, ends, 2, &outcome);
     if (!strcmp(call, "html")) return (int)markdown_inline_html(&input, &target, 1, 0, 0, bytes, 512, &count);
+    if (!strcmp(call, "html_of")) return (int)markdown_inline_html_of((const uint8_t *)"a *b* [c](/d)", 13, input.options, 0, bytes, 512, &count);
     if (!strcmp(call, "strings")) {
         static const markdown_inline_range parts[] = {{0, 3}, {4, 9}}, strings[] = {{0, 2}, {1, 2}};
-        return (int)markdown_inline_strings(MARKDOWN_INLINE_COMMONMARK, (const uint8_t *)"a\\* &amp;", 9, parts, 2, strings, 2, bytes, 512, ends, 2, &outcome);
+        return (int)markdown_inline_strings(MARKDOWN_INLINE_COMMONMARK, 0, (const uint8_t *)"a\\* &amp;", 9, parts, 2, strings, 2, bytes, 512, ends, 2, &outcome);
     }
     if (!strcmp(call, "htmls")) return (int)markdown_inline_htmls(&input, &target, 1, contents, 2, 0, 100, bytes, 512, ends, 2, &outcome);
     if (!strcmp(call, "identifier")) return (int)markdown_inline_identifier((const uint8_t *)" A  B ", 6, bytes, 512, &count);
@@ -802,9 +880,11 @@ int main(int argc, char **argv) {
     test_the_header();
     test_ids();
     test_html();
+    test_html_of();
     test_htmls();
     test_limit();
     test_blame();
+    test_reserved();
     test_strings();
     test_empty();
     test_threads();

@@ -173,6 +173,9 @@ class Calls(unittest.TestCase):
         (_, start, end, _), = titles[Name.ResourceDestinationString]
         self.assertEqual(strings(document, [[(start, end)], title, [], title[:2]]), wanted)
         self.assertEqual(strings('&#0;\0\r\n', [[(0, 7)]]), ['\ufffd\0\r\n'])
+        for how, written in (({}, 'a\r\nb\rc\0\r'), ({'line_feeds': True}, 'a\nb\nc\0\r'), ({'replaced_nul': True}, 'a\r\nb\rc\ufffd\r'), ({'line_feeds': True, 'replaced_nul': True}, 'a\nb\nc\ufffd\r')):
+            self.assertEqual(strings('a\r\nb\rc\0&#13;', [[(0, 2), (2, 12)]], **how), [written])
+        self.assertRaises(TypeError, strings, 'a', [], line_feeds='no')
         self.assertEqual(strings('&ngE;&amp' * 500, [[(0, 4500)]]), ['≧̸&amp' * 500])
         with self.assertRaises(NoString) as caught:
             strings('é', [[(0, 2)], [(0, 0), (0, 1)]])
@@ -224,10 +227,10 @@ class Calls(unittest.TestCase):
             (1, lambda: htmls('[a]\n', [good, Content([(0, 9)])])), (2, lambda: htmls('[a]\n', [good, good, Content([(0, 4)])])),
             (1, lambda: htmls('[a]\n', [good, good], definitions={'a': 'bc'}, reference_limit=3)),
             (2, lambda: htmls('[a]', [good], definitions={'a': 'b', 'c': 'd', b'\xff': 'e'})), (0, lambda: htmls('[a]', [good], definitions={'a': b'\xff'})),
-            (2, lambda: htmls('[a]', [good], definitions={'a': 'b'}, footnotes=['c', b'\xff'])), (None, lambda: htmls(b'\xff', [good])),
+            (2, lambda: htmls('[a]', [good], definitions={'a': 'b'}, footnotes=['c', b'\xff'])), (1, lambda: htmls(b'a\xff', [good])),
             (1, lambda: texts('[a]\n', [good, Content([(0, 9)])])), (2, lambda: short_texts('[a]\n', [good, good, Content([(0, 4)])])),
             (2, lambda: texts('[a]', [good], definitions=['a', 'b', b'\xff'])), (3, lambda: short_texts('[a]', [good], definitions=['a', 'b', 'c'], footnotes=[b'\xff'])),
-            (None, lambda: texts(b'\xff', [good])),
+            (3, lambda: texts(b'a\xc3\xa9\xe2\x82', [good])), (0, lambda: short_texts(b'\xff', [good])),
         ):
             with self.assertRaises(Error) as caught:
                 call()

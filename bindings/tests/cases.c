@@ -143,6 +143,7 @@ static size_t read_contents(char **words, markdown_inline_content *contents) {
     size_t found = 0;
     for (char *word; (word = next(words)) != NULL; found++) {
         markdown_inline_content *it = &contents[found];
+        it->reserved = 0;
         sscanf(word, "%zu-%zu:%u", &it->pieces.start, &it->pieces.end, &it->first_of_item);
     }
     return found;

@@ -28,6 +28,7 @@ class OnThePage(unittest.TestCase):
     @classmethod
     def setUpClass(cls):
         cls.server = play.Server(0)
+        cls.url = cls.server.url
         cls.thread = threading.Thread(target=cls.server.serve_forever)
         cls.thread.start()
         cls.browser = browser.Browser()
@@ -48,10 +49,10 @@ class OnThePage(unittest.TestCase):
         self.page.value('0')
         self.assertEqual([it['params'] for it in self.browser.events if it['method'] == 'Runtime.exceptionThrown'], [])
         loaded = {it['params']['request']['url'].split('#')[0] for it in self.browser.events if it['method'] == 'Network.requestWillBeSent'}
-        self.assertLessEqual(loaded - {'about:srcdoc', 'about:blank'}, {self.server.url, self.server.url + 'read'})
+        self.assertLessEqual(loaded - {'about:srcdoc', 'about:blank'}, {self.url, self.url + 'read'})
 
     def opened(self, state=None):
-        page = self.browser.open(self.server.url + ('#' + quote(json.dumps(state)) if state else ''))
+        page = self.browser.open(self.url + ('#' + quote(json.dumps(state)) if state else ''))
         page.wait('document.body?.dataset.shown')
         return page
 
@@ -102,7 +103,7 @@ class OnThePage(unittest.TestCase):
         for state in ({'text': 5}, {'no': 1}, {'text': 'a', 'options': 5}, {'text': 'a', 'definitions': [[1]]}, 5):
             self.opened(state)
         for hash in ('%', 'abc', '%7B'):
-            page = self.browser.open(self.server.url + '#' + hash)
+            page = self.browser.open(self.url + '#' + hash)
             page.wait('document.body?.dataset.shown')
             self.assertEqual(page.value(SHOWN)['why'], 'The link holds no text of this page.')
             self.assertEqual(self.typed('a *b*', page)['why'], None)
@@ -114,7 +115,7 @@ class OnThePage(unittest.TestCase):
                 shown = self.typed(words)
                 self.assertEqual((shown['marked'], shown['html']), (words, html(words, raw_html=raw, any_link=raw)))
                 self.assertEqual(self.page.value("[document.title, document.querySelectorAll('script, iframe, img, b').length - document.querySelectorAll('#tree b, #path b').length, document.baseURI]"), [
-                    'markdown_inline: try a paragraph', 2, self.server.url])
+                    'markdown_inline: try a paragraph', 3, self.url])
         time.sleep(0.3)
         self.assertEqual(self.page.value('document.title'), 'markdown_inline: try a paragraph')
 
@@ -148,7 +149,7 @@ class OnThePage(unittest.TestCase):
             for kind in ('mousePressed', 'mouseReleased'):
                 self.page.call('Input.dispatchMouseEvent', type=kind, x=place[0], y=place[1], button='left', clickCount=1)
             self.assert_nobody_came(other)
-        self.assertTrue(self.page.value('location.href').startswith(self.server.url))
+        self.assertTrue(self.page.value('location.href').startswith(self.url))
 
     def test_a_long_text(self):
         for words in (('word *emphasis* `code` [link](to) ' * 2950)[:100000] + '.', '[' * 100000, '*a _b ' * 1000 + '_ *' * 1000 + 'c'):
@@ -164,6 +165,8 @@ class OnThePage(unittest.TestCase):
         self.page.wait('document.body.dataset.shown')
         shown = self.page.value(SHOWN)
         self.assertEqual((shown['most'], shown['events']), ('', '\n'.join(map(str, text(words)))))
+
+    def test_a_long_question(self):
         with mock.patch.object(play, 'LONGEST', 2000):
             self.assertEqual(self.typed('a' * 2000)['why'], 'The server does not answer: the question is longer than 2000 bytes.')
 

@@ -124,7 +124,7 @@ class Play(unittest.TestCase):
         for method, path, body, headers in (('GET', '/', None, {}), ('GET', '/nothing', None, {}), ('POST', '/read', json.dumps(question('a')), JSON)):
             found = self.ask(method, path, body, headers)[1]
             self.assertEqual((found['Cache-Control'], found['X-Content-Type-Options'], found['Referrer-Policy']), ('no-store', 'nosniff', 'no-referrer'))
-            self.assertRegex(found['Content-Security-Policy'], "^default-src 'none'; script-src 'sha256-[^ ]+'; style-src 'sha256-[^ ]+' 'sha256-[^ ]+'; connect-src 'self'; ")
+            self.assertRegex(found['Content-Security-Policy'], "^default-src 'none'; script-src 'sha256-[^ ]+' 'sha256-[^ ]+'; style-src 'sha256-[^ ]+' 'sha256-[^ ]+'; connect-src 'self'; ")
             self.assertNotIn('unsafe', found['Content-Security-Policy'])
             self.assertIsNone(found['Access-Control-Allow-Origin'])
 

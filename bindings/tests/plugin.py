@@ -2,6 +2,7 @@
 import io
 import os
 import random
+import re
 import sys
 import tempfile
 import unittest
@@ -13,13 +14,17 @@ sys.path.insert(0, os.path.join(os.path.dirname(os.path.abspath(__file__)), '../
 import rows
 
 try:
+    import markdown_it
     from markdown_it import MarkdownIt
     from markdown_it.common.utils import normalizeReference
     from markdown_inline.markdown_it import pieces_of, plugin
 except ModuleNotFoundError as error:
     if error.name != 'markdown_it':
         raise
-    MarkdownIt = normalizeReference = pieces_of = plugin = None
+    markdown_it = MarkdownIt = normalizeReference = pieces_of = plugin = None
+
+# The rule that joins texts, by the version of markdown-it-py.
+JOINING = 'text_collapse' if MarkdownIt and 'text_collapse' in MarkdownIt().inline.ruler2.get_all_rules() else 'fragments_join'
 
 DOCUMENTS = [
     '', 'a', 'a *b* __c__ ***d*** `e` ``f ` g`` ` ` `  `', 'é *漢* [😀](/é?ü "ñ") `日`', 'a\nb  \nc\\\nd \n  e', '<b c="d"> <!-- e --> <?f?> </g> <h\ni="j">',
@@ -52,6 +57,18 @@ def examples():
                 found['href' if name == 'to' else name] = MarkdownIt().normalizeLink(value) if name == 'to' else value
         if b'gfm' not in words:
             yield text.decode(), references
+
+
+def fixtures():
+    """The documents of the files that MARKDOWN_INLINE_FIXTURES names, which tools/by-hand/try-plugin sets: fixtures of markdown-it, or examples in the form
+    of CommonMark's specification. By version 0.31 a comment may have what it may not by 0.30."""
+    for path in filter(None, os.environ.get('MARKDOWN_INLINE_FIXTURES', '').split(os.pathsep)):
+        with open(path, encoding='utf-8') as file:
+            text = file.read()
+        found = re.findall(r'(?ms)^`{32} example[^\n]*\n(.*?)^\.$', text) or re.findall(r'(?ms)^\.\n(.*?)^\.\n.*?^\.$', text)
+        if not found:
+            raise ValueError(path + ' has no documents')
+        yield from ((path, it.replace('→', '\t')) for it in found if '<!--' not in it)
 
 
 # Documents in which a rule of a plugin may find something, and in which it does not.
@@ -97,6 +114,12 @@ class Plugin(unittest.TestCase):
                 other.append(given)
         self.assertGreater(count, 600)
         self.assertEqual(other, OTHERS)
+
+    def test_fixtures(self):
+        for preset in ('commonmark', 'js-default', 'zero'):
+            plain, ours = self.both(preset)
+            for path, it in fixtures():
+                self.assertEqual(flat(ours.parse(it)), flat(plain.parse(it)), (preset, path, it))
 
     def test_drawn(self):
         plain, ours = self.both('commonmark')
@@ -152,7 +175,7 @@ class Plugin(unittest.TestCase):
     def test_rules_that_read_what_is_plain(self):
         for change, documents in (
             (lambda md: md.disable('escape'), ['[foo][ref\\[]\n\n[ref\\[]: /a', '\\*a*']), (lambda md: md.disable('link'), ['![[a](b)](c)', '[a](b) ![c](d)']),
-            (lambda md: md.inline.ruler2.disable('text_collapse'), ['a*b', '*a* b_']), (lambda md: md.inline.ruler2.disable('strikethrough'), ['~~a~~ *b*']),
+            (lambda md: md.inline.ruler2.disable(JOINING), ['a*b', '*a* b_']), (lambda md: md.inline.ruler2.disable('strikethrough'), ['~~a~~ *b*']),
             (lambda md: None, ['x ~~~a~~~', '~~~~a~~ b']),
         ):
             self.same(*self.both('js-default', change=change), documents)
@@ -186,6 +209,9 @@ class Plugin(unittest.TestCase):
 
     def test_specials(self):
         """As version 3 of markdown-it-py wants them: a token for each escape and each reference, which a later rule joins."""
+        if 'text_join' in MarkdownIt().core.ruler.get_all_rules():
+            self.skipTest('markdown-it-py joins them itself')
+
         def text_join(state):
             for token in state.tokens:
                 joined = []
@@ -204,8 +230,9 @@ class Plugin(unittest.TestCase):
         specials = []
         self.same(plain, ours, documents)
         specials = []
-        ours.parse('a \\* b &amp;')
-        self.assertEqual(specials, [('text', 'a ', '', ''), ('text_special', '*', '\\*', 'escape'), ('text', ' b ', '', ''), ('text_special', '&', '&amp;', 'entity')])
+        ours.parse('a \\* b &amp;\\é')
+        self.assertEqual(specials, [('text', 'a ', '', ''), ('text_special', '*', '\\*', 'escape'), ('text', ' b ', '', ''), ('text_special', '&', '&amp;', 'entity'),
+                                    ('text_special', '\\é', '\\é', 'escape')])
 
     def test_linkify_of_later_versions(self):
         """A rule of this name in the inline parser reads what has a scheme, if the option is on."""
@@ -275,6 +302,8 @@ class Plugin(unittest.TestCase):
             from mdit_py_plugins import amsmath, attrs, colon_fence, deflist, dollarmath, field_list, footnote, myst_blocks, myst_role, substitution, tasklists, texmath, wordcount
         except ModuleNotFoundError:
             self.skipTest('mdit-py-plugins is not there')
+        if not markdown_it.__version__.startswith('2.'):
+            self.skipTest('these plugins are for version 2 of markdown-it-py')
         others = [(amsmath.amsmath_plugin,), (attrs.attrs_plugin,), (attrs.attrs_plugin, {'spans': True}), (colon_fence.colon_fence_plugin,), (deflist.deflist_plugin,), (dollarmath.dollarmath_plugin,),
                   (field_list.fieldlist_plugin,), (footnote.footnote_plugin,), (myst_blocks.myst_block_plugin,), (myst_role.myst_role_plugin,), (substitution.substitution_plugin,),
                   (tasklists.tasklists_plugin,), (wordcount.wordcount_plugin,)]
@@ -317,6 +346,8 @@ class Plugin(unittest.TestCase):
             from sphinx.application import Sphinx
         except ModuleNotFoundError:
             self.skipTest('Sphinx or MyST is not there')
+        if not markdown_it.__version__.startswith('2.'):
+            self.skipTest('this MyST is for version 2 of markdown-it-py')
         from markdown_inline import markdown_it as module
         found, calls, real, made = [], [], module.texts, sphinx_.create_md_parser
         module.texts = lambda *given, **asked: calls.append(len(given[1])) or real(*given, **asked)

@@ -113,7 +113,7 @@ typedef struct drawn {
     markdown_inline_target targets[RANGES + 1];
     markdown_inline_content contents[CONTENTS];
     size_t bytes_len, pieces_len, labels_len, definitions_len, footnotes_len, targets_len, contents_len;
-    uint32_t options, html_options;
+    uint32_t options, reserved, html_options, string_options;
     size_t limit;
 } drawn;
 
@@ -232,23 +232,31 @@ static void draw_case(drawn *it) {
     if (one_in(40)) it->options |= 0x800000u << below(9);
     it->html_options = (uint32_t)below(4);
     it->limit = 0;
+    it->reserved = one_in(60) ? (uint32_t)draw() : 0;
+    for (size_t at = 0; at < it->targets_len; at++) it->targets[at].reserved = one_in(100) ? (uint32_t)draw() : 0;
+    for (size_t at = 0; at < it->contents_len; at++) it->contents[at].reserved = one_in(100) ? (uint32_t)draw() : 0;
     if (one_in(40)) it->html_options |= 4u << below(30);
+    it->string_options = (uint32_t)below(4);
+    if (one_in(60)) it->string_options |= 4u << below(30);
     if (one_in(100)) it->bytes_len = (SIZE_MAX >> 3) + 1 + below(2) * (SIZE_MAX >> 1);
 }
 
 /* The model: what a status is by what is drawn. */
 
-static int is_utf8(const uint8_t *bytes, size_t len) {
-    for (size_t at = 0; at < len;) {
+/* How many bytes at the front are UTF-8. */
+static size_t utf8_len(const uint8_t *bytes, size_t len) {
+    for (size_t at = 0, start = 0; at < len; start = at) {
         uint8_t first = bytes[at++];
         size_t more = first < 0x80 ? 0 : first >= 0xc2 && first < 0xe0 ? 1 : first >= 0xe0 && first < 0xf0 ? 2 : first >= 0xf0 && first < 0xf5 ? 3 : 9;
-        if (more > len - at) return 0;
-        if (more > 0 && (bytes[at] < (first == 0xe0 ? 0xa0 : first == 0xf0 ? 0x90 : 0x80) || bytes[at] > (first == 0xed ? 0x9f : first == 0xf4 ? 0x8f : 0xbf))) return 0;
+        if (more > len - at) return start;
+        if (more > 0 && (bytes[at] < (first == 0xe0 ? 0xa0 : first == 0xf0 ? 0x90 : 0x80) || bytes[at] > (first == 0xed ? 0x9f : first == 0xf4 ? 0x8f : 0xbf))) return start;
         for (; more > 0; more--, at++)
-            if ((bytes[at] & 0xc0) != 0x80) return 0;
+            if ((bytes[at] & 0xc0) != 0x80) return start;
     }
-    return 1;
+    return len;
 }
+
+static int is_utf8(const uint8_t *bytes, size_t len) { return utf8_len(bytes, len) == len; }
 
 /* A code is a byte, a line ending, or a column of a tab: its kind, and the places before and after it. */
 typedef struct place {
@@ -356,10 +364,24 @@ static uint32_t pieces_status(const drawn *it) {
     return status != MARKDOWN_INLINE_DONE ? status : is_text(it->pieces, it->pieces_len) ? (uint32_t)MARKDOWN_INLINE_DONE : (uint32_t)MARKDOWN_INLINE_BLANK_LINE;
 }
 
-static uint32_t string_status(const drawn *it) { return it->options >= 0x800000 ? (uint32_t)MARKDOWN_INLINE_UNKNOWN_OPTION : content_status(it); }
+static int are_options(const drawn *it) { return it->options < 0x800000 && it->reserved == 0; }
+
+static int are_texts_options(const drawn *it) {
+    for (size_t at = 0; at < it->contents_len; at++)
+        if (it->contents[at].reserved) return 0;
+    return are_options(it);
+}
+
+static int are_html_options(const drawn *it) {
+    for (size_t at = 0; at < it->targets_len; at++)
+        if (it->targets[at].reserved) return 0;
+    return it->html_options < 4;
+}
+
+static uint32_t string_status(const drawn *it) { return are_options(it) ? content_status(it) : (uint32_t)MARKDOWN_INLINE_UNKNOWN_OPTION; }
 
 static uint32_t text_status(const drawn *it) {
-    uint32_t status = it->options >= 0x800000 ? (uint32_t)MARKDOWN_INLINE_UNKNOWN_OPTION : pieces_status(it);
+    uint32_t status = are_options(it) ? pieces_status(it) : (uint32_t)MARKDOWN_INLINE_UNKNOWN_OPTION;
     return status != MARKDOWN_INLINE_DONE ? status : are_labels(it) ? (uint32_t)MARKDOWN_INLINE_DONE : (uint32_t)MARKDOWN_INLINE_DEFINITION;
 }
 
@@ -380,7 +402,7 @@ static int is_target(const drawn *it, markdown_inline_target target) {
 /* The status of a document and its labels, of which this says whether the options are known. */
 static uint32_t labels_status(const drawn *it, int is_known) {
     uint32_t status = is_known ? document_status(it) : (uint32_t)MARKDOWN_INLINE_UNKNOWN_OPTION;
-    model_blames = MARKDOWN_INLINE_NONE;
+    model_blames = status == MARKDOWN_INLINE_NOT_UTF8 ? utf8_len(it->bytes, it->bytes_len) : MARKDOWN_INLINE_NONE;
     model_reads = 0;
     if (status != MARKDOWN_INLINE_DONE || are_labels(it)) return status;
     size_t at = first_no_label(it, it->definitions, it->definitions_len);
@@ -401,14 +423,14 @@ static uint32_t contents_status(const drawn *it) {
 }
 
 static uint32_t texts_status(const drawn *it) {
-    uint32_t status = labels_status(it, it->options < 0x800000);
+    uint32_t status = labels_status(it, are_texts_options(it));
     return status != MARKDOWN_INLINE_DONE ? status : contents_status(it);
 }
 
 /* The status of many contents as HTML where there is no limit. */
 static uint32_t htmls_status(const drawn *it) {
     size_t at = 0;
-    uint32_t status = labels_status(it, it->options < 0x800000 && it->html_options < 4);
+    uint32_t status = labels_status(it, are_texts_options(it) && are_html_options(it));
     if (status != MARKDOWN_INLINE_DONE) return status;
     if (it->targets_len != it->definitions_len) return MARKDOWN_INLINE_DEFINITION;
     while (at < it->targets_len && is_target(it, it->targets[at])) at++;
@@ -418,7 +440,7 @@ static uint32_t htmls_status(const drawn *it) {
 }
 
 static uint32_t html_status(const drawn *it) {
-    uint32_t status = it->html_options >= 4 ? (uint32_t)MARKDOWN_INLINE_UNKNOWN_OPTION : text_status(it);
+    uint32_t status = are_html_options(it) ? text_status(it) : (uint32_t)MARKDOWN_INLINE_UNKNOWN_OPTION;
     if (status != MARKDOWN_INLINE_DONE) return status;
     if (it->targets_len != it->definitions_len) return MARKDOWN_INLINE_DEFINITION;
     for (size_t at = 0; at < it->targets_len; at++)
@@ -428,8 +450,8 @@ static uint32_t html_status(const drawn *it) {
 
 /* The calls. Each is made without room, with just enough, and with another room. */
 
-typedef enum which { IS_CONTENT, IS_TEXT, STRING, TEXT, LEAVES, HTML, IDENTIFIER, REFERENCE, TEXTS, SHORT_TEXTS, HTMLS, STRINGS } which;
-static const char *const NAMES[] = {"is_content", "is_text", "string", "text", "leaves", "html", "identifier", "reference", "texts", "short_texts", "htmls", "strings"};
+typedef enum which { IS_CONTENT, IS_TEXT, STRING, TEXT, LEAVES, HTML, HTML_OF, IDENTIFIER, REFERENCE, TEXTS, SHORT_TEXTS, HTMLS, STRINGS } which;
+static const char *const NAMES[] = {"is_content", "is_text", "string", "text", "leaves", "html", "html_of", "identifier", "reference", "texts", "short_texts", "htmls", "strings"};
 
 /* What a call finds. */
 typedef union answer {
@@ -456,7 +478,7 @@ static size_t parts_len;
 
 static void lend_case(const drawn *it) {
     int is_long = it->bytes_len > BYTES;
-    markdown_inline_input whole = {NULL, it->bytes_len, NULL, it->pieces_len, NULL, it->labels_len, NULL, it->definitions_len, NULL, it->footnotes_len, it->options, 0};
+    markdown_inline_input whole = {NULL, it->bytes_len, NULL, it->pieces_len, NULL, it->labels_len, NULL, it->definitions_len, NULL, it->footnotes_len, it->options, it->reserved};
     whole.bytes = (const uint8_t *)lend(&of_bytes, it->bytes, is_long ? 0 : it->bytes_len, 1);
     whole.pieces = (const markdown_inline_piece *)lend(&of_pieces, it->pieces, it->pieces_len, sizeof *it->pieces);
     whole.labels = (const uint8_t *)lend(&of_labels, it->labels, it->labels_len, 1);
@@ -491,13 +513,14 @@ static uint32_t made(which call, const drawn *it, void *array, size_t len) {
     case TEXT: return markdown_inline_text(input, (markdown_inline_event *)array, len, count);
     case LEAVES: return markdown_inline_leaves(input, (markdown_inline_leaf *)array, len, count);
     case HTML: return markdown_inline_html(input, targets, it->targets_len, it->html_options, it->limit, (uint8_t *)array, len, count);
+    case HTML_OF: return markdown_inline_html_of(input->bytes, input->bytes_len, input->options, it->html_options, (uint8_t *)array, len, count);
     case IDENTIFIER: return markdown_inline_identifier(input->labels, input->labels_len, (uint8_t *)array, len, count);
     case REFERENCE: return markdown_inline_reference(input->options, input->labels, input->labels_len, (uint8_t *)array, len, count);
     case TEXTS: return markdown_inline_texts(input, contents, it->contents_len, (markdown_inline_event *)array, len, ends, ends_len, outcome);
     case SHORT_TEXTS: return markdown_inline_short_texts(input, contents, it->contents_len, (markdown_inline_short_event *)array, len, ends, ends_len, outcome);
     case HTMLS:
         return markdown_inline_htmls(input, targets, it->targets_len, contents, it->contents_len, it->html_options, it->limit, (uint8_t *)array, len, ends, ends_len, outcome);
-    default: return markdown_inline_strings(input->options, input->labels, input->labels_len, parts, parts_len, strings, it->contents_len, (uint8_t *)array, len, ends, ends_len, outcome);
+    default: return markdown_inline_strings(input->options, it->string_options, input->labels, input->labels_len, parts, parts_len, strings, it->contents_len, (uint8_t *)array, len, ends, ends_len, outcome);
     }
 }
 
@@ -826,15 +849,32 @@ static int is_joined(const drawn *it, const markdown_inline_range *drawn_parts, 
     return 1;
 }
 
+/* Writes a text by how strings are written, in its own place: there is room for twice as many bytes more. Answers its length. */
+static size_t written_by(uint32_t how, uint8_t *text, size_t len) {
+    for (size_t at = 0; how & MARKDOWN_INLINE_STRING_LINE_FEEDS && at < len; at++) {
+        if (text[at] != '\r') continue;
+        text[at] = '\n';
+        if (at + 1 < len && text[at + 1] == '\n') memmove(text + at + 1, text + at + 2, --len - at - 1);
+    }
+    for (size_t at = 0; how & MARKDOWN_INLINE_STRING_REPLACED_NUL && at < len; at++) {
+        if (text[at]) continue;
+        memmove(text + at + 3, text + at + 1, len - at - 1);
+        memcpy(text + at, "\xef\xbf\xbd", 3);
+        len += 2;
+    }
+    return len;
+}
+
 /* Strings of parts of the labels. */
 static void try_strings(drawn *it) {
-    static uint8_t wanted[CONTENTS * 16 * PARTS_MOST * BYTES], joined[PARTS_MOST * BYTES];
+    static uint8_t wanted[CONTENTS * 16 * PARTS_MOST * BYTES], joined[3 * PARTS_MOST * BYTES];
     markdown_inline_range drawn_parts[PARTS_MOST], drawn_strings[CONTENTS];
     size_t wanted_ends[CONTENTS], wanted_len = 0, len = 0;
     it->contents_len = below(CONTENTS + 1);
     draw_strings(it, drawn_parts, drawn_strings);
-    int is_known = it->options < 0x800000;
+    int is_known = it->options < 0x800000 && it->string_options < 4;
     for (model_reads = 0; is_known && model_reads < it->contents_len && is_joined(it, drawn_parts, drawn_strings[model_reads], joined, &len); model_reads++) {
+        len = written_by(it->string_options, joined, len);
         size_t text_len = text_by_events(it->options, joined, len, wanted + wanted_len);
         int has_all_names = (it->options & (MARKDOWN_INLINE_OPTION_HTML_REFERENCES | MARKDOWN_INLINE_OPTION_STANDARD_RULES)) != 0;
         want("a text is no longer than its parts, or by a fifth where all names are known", text_len <= len + (has_all_names ? len / 5 : 0));
@@ -887,6 +927,21 @@ static void try_bytes(drawn *it) {
     if (is_done(REFERENCE, it, wanted)) want("a reference stands for some UTF-8", found_len > 0 && found_len < 9 && is_utf8(found.bytes, found_len));
 }
 
+/* The bytes of a case alone have the HTML of an input that has them as one piece. */
+static void try_whole(const drawn *it) {
+    static answer html;
+    drawn alone = *it;
+    alone.pieces[0] = (markdown_inline_piece){0, 0, it->bytes_len, 0};
+    alone.pieces_len = 1;
+    alone.definitions_len = alone.footnotes_len = alone.targets_len = alone.labels_len = 0;
+    alone.reserved = 0;
+    lend_case(&alone);
+    if (!is_done(HTML_OF, &alone, html_status(&alone))) return;
+    size_t len = found_len;
+    html = found;
+    want("the HTML of bytes alone", called(HTML, &alone, sizeof found, 0) == MARKDOWN_INLINE_DONE && found_len == len && !memcmp(found.bytes, html.bytes, len));
+}
+
 static void try_case(void) {
     static answer text;
     static drawn it;
@@ -896,10 +951,13 @@ static void try_case(void) {
     is_done(IS_TEXT, &it, pieces_status(&it));
     if (is_done(STRING, &it, string_status(&it))) look_at_events(found.events, found_len);
     if (is_done(HTML, &it, html_status(&it))) want("HTML is UTF-8", is_utf8(found.bytes, found_len));
+    try_whole(&it);
+    lend_case(&it);
     if (is_done(TEXT, &it, text_status(&it))) {
         size_t len = found_len;
         text = found;
         look_at_events(text.events, len);
+        want("no more than six events for each byte", len <= 6 * it.bytes_len);
         if (is_done(LEAVES, &it, MARKDOWN_INLINE_DONE)) look_at_leaves(text.events, len, found.leaves, found_len);
     } else {
         is_done(LEAVES, &it, text_status(&it));

@@ -3,7 +3,7 @@ import { COMMONMARK, CRATE, GFM, MATH, OPTIONS } from './names.js';
 
 const SETS = { commonmark: COMMONMARK, crate: CRATE };
 const SWITCHES = { gfm: GFM, math: MATH, task: OPTIONS.firstOfItem, ...OPTIONS };
-const OTHERS = new Set(['rules', 'bits', 'pieces', 'contents', 'offsets', 'definitions', 'footnotes', 'rawHtml', 'anyLink', 'referenceLimit']);
+const OTHERS = new Set(['rules', 'bits', 'pieces', 'contents', 'offsets', 'definitions', 'footnotes', 'rawHtml', 'anyLink', 'referenceLimit', 'lineFeeds', 'replacedNul']);
 export const encoder = new TextEncoder();
 
 const flag = (given, what) => {
@@ -112,10 +112,13 @@ export function targetsOf(given) {
   return { labels: entries.map(([label]) => textOf(label, 'a label')), targets: entries.map(([, target]) => targetOf(target)) };
 }
 
+const bitsOfFlags = (options, ...names) => names.reduce((bits, name, at) => bits | Number(options?.[name] !== undefined && flag(options[name], name)) << at, 0);
+
 /** What HTML may hold, as bits. */
-export function shownOf(options) {
-  return Number(options?.rawHtml !== undefined && flag(options.rawHtml, 'rawHtml')) | Number(options?.anyLink !== undefined && flag(options.anyLink, 'anyLink')) << 1;
-}
+export const shownOf = (options) => bitsOfFlags(options, 'rawHtml', 'anyLink');
+
+/** How the texts of strings are written, as bits. */
+export const writtenOf = (options) => bitsOfFlags(options, 'lineFeeds', 'replacedNul');
 
 /** How many bytes definitions may bring, where 0 is no limit; null where the length of the document says it. */
 export function limitOf(options) {

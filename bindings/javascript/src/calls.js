@@ -1,9 +1,10 @@
 // The calls of the library over one instance.
-import { bitsOf, contentsOf, isInBytes, labelsOf, limitOf, piecesOf, shownOf, stringsOf, targetsOf, textOf, usualLimit } from './arguments.js';
+import { bitsOf, contentsOf, isInBytes, labelsOf, limitOf, piecesOf, shownOf, stringsOf, targetsOf, textOf, usualLimit, writtenOf } from './arguments.js';
 import { MarkdownInlineError, NO_MEMORY } from './errors.js';
 import { Instance } from './instance.js';
 import { linksOf } from './links.js';
 import { EVENT, Events, LEAF, Leaves, Many, SHORT_EVENT, ShortEvents } from './rows.js';
+import { treeOf } from './tree.js';
 
 // Where the rows have places, and their columns.
 const PLACES = new Map([[Events, [[24, 16]]], [ShortEvents, [[8]]], [Leaves, [[24, 16], [56, 48]]]]);
@@ -27,12 +28,16 @@ function putPieces(on, text, asked) {
 
 /** The struct of an input in memory, and the targets beside it. */
 function putInput(on, asked) {
-  const text = on.put(asked.document), pieces = putPieces(on, text, asked), targets = asked.targets ?? [];
-  const labels = on.putJoined([...asked.labels, ...asked.footnotes, ...targets.flatMap(({ destination, title }) => [destination, title ?? ''])]);
-  const many = asked.labels.length, ranges = on.putNumbers(labels.ranges), behind = 2 * (many + asked.footnotes.length);
-  const input = on.putNumbers([text.at, text.length, ...pieces, labels.at, labels.length, ranges, many, ranges + 16 * many, asked.footnotes.length, asked.bits]);
-  const rows = targets.flatMap(({ title }, at) => [...labels.ranges.slice(behind + 4 * at, behind + 4 * at + 4), title === null ? 0 : 1]);
-  return { text, input, targets: [on.putNumbers(rows), targets.length] };
+  const { labels, footnotes, targets } = asked, text = on.put(asked.document), pieces = putPieces(on, text, asked), many = labels.length;
+  if (many + footnotes.length === 0) {
+    const input = on.putNumbers([text.at, text.length, pieces[0], pieces[1], text.at, 0, text.at, 0, text.at, 0, asked.bits]);
+    return { text, input, targets: text.at, count: 0 };
+  }
+  const joined = on.putJoined([...labels, ...footnotes, ...(targets ?? []).flatMap(({ destination, title }) => [destination, title ?? ''])]);
+  const ranges = on.putNumbers(joined.ranges), behind = 2 * (many + footnotes.length);
+  const input = on.putNumbers([text.at, text.length, ...pieces, joined.at, joined.length, ranges, many, ranges + 16 * many, footnotes.length, asked.bits]);
+  const rows = (targets ?? []).flatMap(({ title }, at) => [...joined.ranges.slice(behind + 4 * at, behind + 4 * at + 4), title === null ? 0 : 1]);
+  return { text, input, targets: on.putNumbers(rows), count: targets?.length ?? 0 };
 }
 
 /** About how many bytes the contents have, which tells how much room a first call takes. */
@@ -51,7 +56,7 @@ export function callsOf(module, { maximum = 0xffff0000 } = {}) {
     const asked = askedOf(document, options, piecesOf(options), hasLabels ? withoutTargets(options) : { labels: [], targets: null });
     return on.within(() => {
       const { text, input } = putInput(on, asked);
-      const [at, many] = on.filled(size, Math.floor(covered(asked.pieces, text.length) / 4) + 64, (...lent) => on.call(name, [input, ...lent]));
+      const { at, many } = on.filled(name, [input], size, Math.floor(covered(asked.pieces, text.length) / 4) + 64);
       return new kind(on.copied(text, at, many, size, PLACES.get(kind)), Number(text.isWide), 0, many, asked.document);
     });
   };
@@ -61,18 +66,19 @@ export function callsOf(module, { maximum = 0xffff0000 } = {}) {
     const { pieces, rows, many } = contentsOf(contents), asked = askedOf(document, options, pieces, withoutTargets(options));
     return on.within(() => {
       const { text, input } = putInput(on, asked), listed = on.putNumbers(rows);
-      const [at, count, ends] = on.filledMany(size, Math.floor(covered(pieces, text.length) / 4) + 64, many, (...lent) => on.call(name, [input, listed, many, ...lent]));
-      return new Many(kind, on.copied(text, at, count, size, PLACES.get(kind)), Number(text.isWide), ends);
+      const found = on.filledMany(name, [input, listed, many], size, Math.floor(covered(pieces, text.length) / 4) + 64, many);
+      return new Many(kind, on.copied(text, found.at, found.many, size, PLACES.get(kind)), Number(text.isWide), found.ends);
     });
   };
 
+  const text = rowsOf('text', Events, EVENT, true);
   const shortTexts = rowsOfMany('short_texts', ShortEvents, SHORT_EVENT);
 
   const html = (document, options) => {
     const asked = askedOf(document, options, piecesOf(options), targetsOf(options?.definitions)), shown = shownOf(options), limit = limitOf(options);
     return on.within(() => {
-      const { text, input, targets } = putInput(on, asked);
-      const [at, many] = on.filled(1, 2 * covered(asked.pieces, text.length) + 64, (...lent) => on.call('html', [input, ...targets, shown, limit ?? usualLimit(text.length), ...lent]));
+      const { text, input, targets, count } = putInput(on, asked);
+      const { at, many } = on.filled('html', [input, targets, count, shown, limit ?? usualLimit(text.length)], 1, 2 * covered(asked.pieces, text.length) + 64);
       return on.decoded(at, at + many);
     });
   };
@@ -81,19 +87,18 @@ export function callsOf(module, { maximum = 0xffff0000 } = {}) {
     const { pieces, rows, many } = contentsOf(contents), asked = askedOf(document, options, pieces, targetsOf(options?.definitions));
     const shown = shownOf(options), limit = limitOf(options);
     return on.within(() => {
-      const { text, input, targets } = putInput(on, asked), listed = on.putNumbers(rows);
-      const [at, , ends] = on.filledMany(1, 2 * covered(pieces, text.length) + 64, many,
-        (...lent) => on.call('htmls', [input, ...targets, listed, many, shown, limit ?? usualLimit(text.length), ...lent]));
+      const { text, input, targets, count } = putInput(on, asked), listed = on.putNumbers(rows);
+      const { at, ends } = on.filledMany('htmls', [input, targets, count, listed, many, shown, limit ?? usualLimit(text.length)], 1, 2 * covered(pieces, text.length) + 64, many);
       return parted(on, at, ends);
     });
   };
 
   const strings = (document, given, options) => {
-    const { parts, rows, many } = stringsOf(given), read = textOf(document), bits = bitsOf(options), inBytes = isInBytes(options);
+    const { parts, rows, many } = stringsOf(given), read = textOf(document), bits = bitsOf(options), written = writtenOf(options), inBytes = isInBytes(options);
     return on.within(() => {
       const text = on.put(read), partsAt = on.putNumbers(parts), listed = on.putNumbers(rows);
       if (!inBytes) on.toBytes(text, partsAt, parts.length, 8);
-      const [at, , ends] = on.filledMany(1, text.length + 64, many, (...lent) => on.call('strings', [bits, text.at, text.length, partsAt, parts.length / 2, listed, many, ...lent]));
+      const { at, ends } = on.filledMany('strings', [bits, written, text.at, text.length, partsAt, parts.length / 2, listed, many], 1, text.length + 64, many);
       return parted(on, at, ends);
     });
   };
@@ -101,7 +106,7 @@ export function callsOf(module, { maximum = 0xffff0000 } = {}) {
   const decodedBy = (name, bits, given, what) => {
     const read = textOf(given, what);
     return on.within(() => {
-      const text = on.put(read), [at, many] = on.filled(1, 2 * text.length + 16, (...lent) => on.call(name, [...bits, text.at, text.length, ...lent]));
+      const text = on.put(read), { at, many } = on.filled(name, [...bits, text.at, text.length], 1, 2 * text.length + 16);
       return on.decoded(at, at + many);
     });
   };
@@ -116,7 +121,7 @@ export function callsOf(module, { maximum = 0xffff0000 } = {}) {
   };
 
   return {
-    text: rowsOf('text', Events, EVENT, true), string: rowsOf('string', Events, EVENT, false), leaves: rowsOf('leaves', Leaves, LEAF, true),
+    text, string: rowsOf('string', Events, EVENT, false), leaves: rowsOf('leaves', Leaves, LEAF, true), tree: (document, options) => treeOf(text(document, options)),
     texts: rowsOfMany('texts', Events, EVENT), shortTexts, html, htmls, strings, isText: holds('is_text'), isContent: holds('is_content'),
     identifier: (label) => decodedBy('identifier', [], label, 'a label'),
     reference: (reference, options) => decodedBy('reference', [bitsOf(options)], reference, 'a reference'),

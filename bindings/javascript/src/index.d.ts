@@ -69,6 +69,13 @@ export interface HtmlsOptions extends Rules, Offsets, Footnotes {
 
 export type HtmlOptions = HtmlsOptions & Pieces & Task;
 
+export interface StringsOptions extends Rules, Offsets {
+  /** Writes a line feed for each line ending. */
+  lineFeeds?: boolean;
+  /** Writes U+FFFD for NUL. */
+  replacedNul?: boolean;
+}
+
 export interface LinksOptions extends Rules, Pieces, Footnotes, Task {
   definitions?: Targets;
   /** The contents of the document. Without them and without pieces the document is one text. */
@@ -152,12 +159,32 @@ export interface Rows<Row> extends Iterable<Row> {
   at(number: number): Row | undefined;
 }
 
+/** All that stands in a text. */
+export interface Tree {
+  /** The nodes that stand directly in this one. */
+  readonly children: Node[];
+  /** What stands here, as it is written, without what a block has between its pieces. */
+  readonly text: string;
+  /** All nodes inside this one, in the order in which they begin. */
+  walk(): IterableIterator<Node>;
+  /** The nodes inside this one that have one of these names. */
+  find(...names: Name[]): IterableIterator<Node>;
+}
+
+/** Something that begins and ends in a text, with the events by which it does. */
+export interface Node extends Tree {
+  readonly name: Name;
+  readonly enter: Event;
+  readonly exit: Event;
+}
+
 /** Why the library refuses a call. */
 export declare class MarkdownInlineError extends Error {
   readonly code: Code;
   /** The number of the code in markdown_inline.h. */
   readonly status: number;
-  /** The number of the content, the string or the definition that is to blame, where a call for many says it. Footnotes are counted on behind definitions. */
+  /** The number of the content, the string or the definition that is to blame, where a call for many says it. Footnotes are counted on behind definitions.
+   * Where the document is not UTF-8, the first byte that is wrong. */
   readonly at: number | null;
 }
 
@@ -177,6 +204,8 @@ export interface Calls {
   string(document: Text, options?: Rules & Pieces): Rows<Event>;
   /** The leaves of a text, in order: together they cover its pieces. */
   leaves<Document extends Text>(document: Document, options?: TextOptions): Rows<Leaf<Document extends string ? string : Uint8Array>>;
+  /** The tree of a text, whose nodes are made when they are looked at. */
+  tree(document: Text, options?: TextOptions): Tree;
   /** The events of many contents of a document, of each by itself. */
   texts(document: Text, contents: Iterable<Content>, options?: TextsOptions): Rows<Rows<Event>>;
   /** The same events without lines and columns. */
@@ -186,7 +215,7 @@ export interface Calls {
   /** The HTML of many contents of a document, with footnotes numbered through all of them. */
   htmls(document: Text, contents: Iterable<Content>, options?: HtmlsOptions): string[];
   /** The texts of strings, of each by its parts, with escapes and character references resolved. */
-  strings(document: Text, strings: Iterable<Iterable<readonly [start: number, end: number]>>, options?: Rules & Offsets): string[];
+  strings(document: Text, strings: Iterable<Iterable<readonly [start: number, end: number]>>, options?: StringsOptions): string[];
   /** What labels are compared by. */
   identifier(label: Text): string;
   /** The text that a character reference stands for. It is the whole reference, with its `&` and its `;`. */
@@ -205,6 +234,7 @@ export declare function create(settings?: { maximum?: number }): Calls;
 export declare const text: Calls['text'];
 export declare const string: Calls['string'];
 export declare const leaves: Calls['leaves'];
+export declare const tree: Calls['tree'];
 export declare const texts: Calls['texts'];
 export declare const shortTexts: Calls['shortTexts'];
 export declare const html: Calls['html'];

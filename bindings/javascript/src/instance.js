@@ -9,17 +9,28 @@ const KEPT = 64 * 1024 * 1024;
 const NONE = 0xffffffff;
 const decoder = new TextDecoder('utf-8', { ignoreBOM: true });
 
+// A text whose UTF-8 certainly fits here needs no view of its own.
+const SMALL = 4096;
+
 const roundedUp = (bytes) => Math.ceil(bytes / 16) * 16;
+
+/** Takes new views of an instance's memory. */
+function view(one) {
+  const { buffer } = one.exports.memory;
+  one.bytes = new Uint8Array(buffer);
+  one.words = new Uint32Array(buffer);
+  one.small = one.bytes.subarray(one.base, one.base + SMALL);
+}
 
 /** The memory and the calls of one module. `maximum` is how many bytes its memory may have. */
 export class Instance {
   #module;
   #pages;
-  // The exports of an instance for the next call, and of that for the call that runs.
+  // An instance for the next call, and the one of the call that runs: its exports, where its room begins, and views of its memory.
   #kept = null;
   #current = null;
-  #bytes = null;
-  #words = null;
+  // Where room begins that is still free.
+  #top = 0;
 
   constructor(module, maximum) {
     this.#module = module;
@@ -29,9 +40,9 @@ export class Instance {
   /** Runs what makes one call, and gives all memory back. What stops the module on its way, such as a stack that is used up, leaves its stack pointer where it
    *  was: so that instance is not used again, and neither is one whose memory has become large. */
   within(run) {
-    const exports = this.#current = this.#kept ?? this.#fresh();
+    const one = this.#current = this.#kept ?? this.#fresh();
     this.#kept = null;
-    const mark = exports.mark();
+    this.#top = one.base;
     let isUsable = false;
     try {
       const found = run();
@@ -41,12 +52,8 @@ export class Instance {
       isUsable = error instanceof MarkdownInlineError;
       throw error;
     } finally {
-      if (isUsable && exports.memory.buffer.byteLength <= KEPT) {
-        exports.reset(mark);
-        this.#kept = exports;
-      } else {
-        this.#current = this.#bytes = this.#words = null;
-      }
+      if (isUsable && one.bytes.length <= KEPT) this.#kept = one;
+      else this.#current = null;
     }
   }
 
@@ -54,22 +61,23 @@ export class Instance {
     const { exports } = new WebAssembly.Instance(this.#module, {});
     if (exports.version() !== VERSION) throw new Error(`the module is not of version ${VERSION} of the interface`);
     exports.limit(this.#pages);
-    return exports;
+    const one = { exports, base: exports.base() >>> 0, bytes: null, words: null, small: null };
+    view(one);
+    return one;
   }
 
-  // The memory may have grown, or be that of another instance.
+  // Where memory grows, its views have nothing left.
   #look() {
-    const { buffer } = this.#current.memory;
-    if (this.#bytes?.buffer !== buffer) {
-      this.#bytes = new Uint8Array(buffer);
-      this.#words = new Uint32Array(buffer);
-    }
+    if (this.#current.bytes.length === 0) view(this.#current);
   }
 
   #room(bytes) {
-    const at = bytes > NONE - 15 ? 0 : this.#current.room(bytes) >>> 0;
-    if (at === 0) throw new MarkdownInlineError(NO_MEMORY);
-    this.#look();
+    const at = this.#top, end = at + roundedUp(bytes), one = this.#current;
+    if (end > one.bytes.length) {
+      if (end > NONE || !one.exports.reach(end)) throw new MarkdownInlineError(NO_MEMORY);
+      this.#look();
+    }
+    this.#top = end;
     return at;
   }
 
@@ -77,13 +85,14 @@ export class Instance {
   put(text) {
     if (typeof text !== 'string') {
       const at = this.#room(text.length);
-      this.#bytes.set(text, at);
+      this.#current.bytes.set(text, at);
       return { at, length: text.length, isWide: false };
     }
     // Room for what most texts need, and then for what each may need.
-    for (const most of [text.length + (text.length >> 3) + 16, text.length * 3]) {
-      const at = this.#room(most), { read, written } = encoder.encodeInto(text, this.#bytes.subarray(at, at + most));
-      this.#current.reset(at + (read === text.length ? roundedUp(written) : 0));
+    for (const most of text.length * 3 <= SMALL ? [SMALL] : [text.length + (text.length >> 3) + 16, text.length * 3]) {
+      const at = this.#room(most), { base, bytes, small } = this.#current;
+      const { read, written } = encoder.encodeInto(text, most === SMALL && at === base ? small : bytes.subarray(at, at + most));
+      this.#top = at + (read === text.length ? roundedUp(written) : 0);
       if (read === text.length) return { at, length: written, isWide: written !== read };
     }
     throw new MarkdownInlineError(NO_MEMORY);
@@ -91,11 +100,11 @@ export class Instance {
 
   /** 64-bit numbers in memory. */
   putNumbers(list) {
-    const at = this.#room(list.length * 8), words = this.#words;
+    const at = this.#room(list.length * 8), { words } = this.#current;
     let to = at / 4;
     for (const it of list) {
       words[to++] = it;
-      words[to++] = it / 2 ** 32;
+      words[to++] = it <= NONE ? 0 : it / 2 ** 32;
     }
     return at;
   }
@@ -106,58 +115,65 @@ export class Instance {
     let length = 0;
     for (const it of written) ranges.push(length, length += it.length);
     const at = this.#room(length);
-    written.forEach((it, number) => this.#bytes.set(it, at + ranges[2 * number]));
+    written.forEach((it, number) => this.#current.bytes.set(it, at + ranges[2 * number]));
     return { at, length, ranges };
   }
 
-  /** The status of a call. */
+  /** The status of a call. It may use all memory from the top on. */
   call(name, list) {
-    const status = this.#current[name](this.putNumbers(list));
+    const at = this.putNumbers(list), status = this.#current.exports[name](at, this.#top);
     this.#look();
     return status;
   }
 
   /** Calls with room for so many elements, and once more where they are more. It returns where they stand, and how many they are. */
-  filled(size, many, call) {
-    const count = this.#room(8), before = this.#current.mark();
+  filled(name, list, size, many) {
+    const count = this.#room(8), before = this.#top, first = list.length;
     for (;;) {
-      const at = this.#room(many * size), status = call(at, many, count);
-      if (status === 0) return [at, this.#words[count / 4]];
+      const at = list[first] = this.#room(many * size);
+      list[first + 1] = many;
+      list[first + 2] = count;
+      const status = this.call(name, list);
+      many = this.#current.words[count / 4];
+      if (status === 0) return { at, many };
       if (status !== TOO_SMALL) throw new MarkdownInlineError(status);
-      many = this.#words[count / 4];
-      this.#current.reset(before);
+      this.#top = before;
     }
   }
 
   /** The same of a call for so many contents or strings. It returns too where the elements of each end. */
-  filledMany(size, many, contents, call) {
-    const outcome = this.#room(24), ends = this.#room(8 * contents), before = this.#current.mark();
+  filledMany(name, list, size, many, contents) {
+    const outcome = this.#room(24), ends = this.#room(8 * contents), before = this.#top;
     for (;;) {
-      const at = this.#room(many * size), status = call(at, many, ends, contents, outcome), [, , count, , blamed] = this.#words.subarray(outcome / 4, outcome / 4 + 6);
-      if (status === 0) return [at, count, Uint32Array.from({ length: contents }, (_, number) => this.#words[ends / 4 + 2 * number])];
+      const at = this.#room(many * size), status = this.call(name, [...list, at, many, ends, contents, outcome]), { words } = this.#current;
+      const blamed = words[outcome / 4 + 4];
+      many = words[outcome / 4 + 2];
+      if (status === 0) return { at, many, ends: Uint32Array.from({ length: contents }, (_, number) => words[ends / 4 + 2 * number]) };
       if (status !== TOO_SMALL) throw new MarkdownInlineError(status, blamed === NONE ? null : blamed);
-      many = count;
-      this.#current.reset(before);
+      this.#top = before;
     }
   }
 
   /** The bytes of offsets in UTF-16 of a text, in the place of these. There are so many, so many bytes apart. */
   toBytes(text, offsets, many, apart) {
-    if (text.isWide && many > 0 && !this.#current.to_bytes(text.at, text.length, offsets, many, apart)) throw new MarkdownInlineError(NO_MEMORY);
+    if (!text.isWide || many === 0) return;
+    const isDone = this.#current.exports.to_bytes(text.at, text.length, offsets, many, apart, this.#top);
     this.#look();
+    if (!isDone) throw new MarkdownInlineError(NO_MEMORY);
   }
 
   /** A copy of rows. Offsets in UTF-16 stand in the upper halves of places, where the text has others than bytes; so do columns, if rows have them. */
   copied(text, at, many, size, places) {
     for (const [place, column] of text.isWide && many > 0 ? places : []) {
-      if (!this.#current.to_units(text.at, text.length, at, many, size, place, column === undefined ? 0 : 1, column ?? 0)) throw new MarkdownInlineError(NO_MEMORY);
+      const isDone = this.#current.exports.to_units(text.at, text.length, at, many, size, place, column === undefined ? 0 : 1, column ?? 0, this.#top);
+      this.#look();
+      if (!isDone) throw new MarkdownInlineError(NO_MEMORY);
     }
-    this.#look();
-    return this.#words.slice(at / 4, (at + many * size) / 4);
+    return this.#current.words.slice(at / 4, (at + many * size) / 4);
   }
 
   /** The text of bytes in memory. */
   decoded(at, end) {
-    return decoder.decode(this.#bytes.subarray(at, end));
+    return decoder.decode(new Uint8Array(this.#current.bytes.buffer, at, end - at));
   }
 }

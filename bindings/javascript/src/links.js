@@ -72,13 +72,15 @@ export function linksOf({ shortTexts, strings }, document, options) {
   let number = 0;
   for (const events of shortTexts(read, contents, asked)) foundIn(events, number++, found, wanted);
   strings(read, wanted.map(({ parts }) => parts), { bits, offsets: 'bytes' }).forEach((it, at) => { wanted[at].one[wanted[at].field] = it; });
+  // The texts of each definition are decoded once, and all that refers to it shares them.
+  const led = [], ledBy = (number) => led[number] ??= { destination: asText(targets[number].destination), title: targets[number].title === null ? null : asText(targets[number].title) };
   const starts = lineStarts(read), byteStarts = typeof read === 'string' ? lineStarts(encoder.encode(read)) : starts;
   return found.map(({ kind, content, offset, endOffset, byte, endByte, definition, destination, title, address }) => {
-    const line = countUpTo(starts, offset), target = definition === null ? null : targets[definition];
+    const line = countUpTo(starts, offset), target = definition === null ? null : ledBy(definition);
     return {
       kind, line, column: offset - starts[line - 1] + 1, offset, endOffset, byteColumn: byte - byteStarts[line - 1] + 1, byte, endByte,
-      destination: target ? asText(target.destination) : address ? address[0] + asText(read.slice(address[1], address[2])) : destination,
-      title: target ? target.title === null ? null : asText(target.title) : title, definition, content,
+      destination: target ? target.destination : address ? address[0] + asText(read.slice(address[1], address[2])) : destination,
+      title: target ? target.title : title, definition, content,
     };
   });
 }

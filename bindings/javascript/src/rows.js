@@ -3,7 +3,9 @@ import { NAMES } from './names.js';
 
 const NONE = 0xffffffff;
 const CONTENTS = [null, 'String', 'Text'];
-export const EVENT = 56, SHORT_EVENT = 16, LEAF = 96;
+export const EVENT = 56;
+export const SHORT_EVENT = 16;
+export const LEAF = 96;
 
 const numberOf = (word) => word === NONE ? null : word;
 
@@ -31,6 +33,13 @@ class Rows {
 
 export class Events extends Rows {
   get size() { return EVENT / 4; }
+
+  isEnter(number) { return (this.words[(this.from + number) * this.size] & 255) === 0; }
+
+  /** The number of an event's name in NAMES. */
+  nameOf(number) { return this.words[(this.from + number) * this.size] >> 8 & 255; }
+
+  offsetOf(number) { return this.words[(this.from + number) * this.size + 6 + this.unit]; }
 
   row(at) {
     const { words, unit } = this, head = words[at], content = CONTENTS[head >> 16 & 255];

@@ -5,9 +5,10 @@ import { readFileSync } from 'node:fs';
 import test from 'node:test';
 import { fileURLToPath } from 'node:url';
 import { callsOf } from '../../out/javascript/calls.js';
+import * as inside from '../../out/javascript/one.js';
 import * as markdownInline from '../../out/javascript/index.js';
 
-const { COMMONMARK, GFM, MarkdownInlineError, create, html, htmls, identifier, isContent, isText, leaves, links, reference, shortTexts, string, strings, text, texts } = markdownInline;
+const { COMMONMARK, GFM, MarkdownInlineError, create, html, htmls, identifier, isContent, isText, leaves, links, reference, shortTexts, string, strings, text, texts, tree } = markdownInline;
 const beside = (name) => fileURLToPath(new URL(name, import.meta.url));
 const has = (command) => spawnSync(command, ['--version']).status === 0;
 const bytesOf = (given) => new TextEncoder().encode(given);
@@ -55,7 +56,8 @@ test('types', { skip: !has('tsc') }, () => {
 
 test('each error comes', () => {
   for (const call of [(options) => text('a', options), (options) => string('a', options), (options) => reference('&amp;', options)]) refuses('UNKNOWN_OPTION', () => call({ bits: 2 ** 31 }));
-  for (const call of [text, string, leaves, html, identifier, links]) refuses('NOT_UTF8', () => call(WRONG));
+  for (const call of [text, string, leaves, html, identifier, links]) refuses('NOT_UTF8', () => call(WRONG), call === links ? 0 : null);
+  refuses('NOT_UTF8', () => htmls(Uint8Array.of(0x61, 0xe2, 0x82), []), 1);
   for (const call of [text, leaves, html, links]) for (const given of ['a\n\nb', 'a\n']) refuses('BLANK_LINE', () => call(given), call === links ? 0 : null);
   for (const pieces of [[[0, 9]], [[1, 0]], [[0, 2 ** 40]]]) for (const call of [text, string, leaves, html]) refuses('NO_CONTENT', () => call('a', { pieces }));
   for (const options of [{ definitions: [WRONG] }, { footnotes: [WRONG] }]) refuses('DEFINITION', () => text('a', options));
@@ -139,12 +141,56 @@ test('links', () => {
   assert.deepEqual(links('[a](b)\n\n[c](d)', { contents: [[8, 14], [0, 6]] }).map(({ line, destination, content }) => [line, destination, content]), [[3, 'd', 0], [1, 'b', 1]]);
 });
 
+test('a tree', () => {
+  const found = tree('a *b **c*** é', { gfm: true });
+  assert.deepEqual(found.children.map(({ name, text: words }) => [name, words]), [['Data', 'a '], ['Emphasis', '*b **c***'], ['Data', ' é']]);
+  const [emphasis] = found.find('Emphasis');
+  assert.deepEqual(emphasis.children.map((it) => it.text), ['*', 'b **c**', '*']);
+  assert.deepEqual([emphasis.enter, emphasis.exit], [...text('a *b **c*** é')].filter(({ name }) => name === 'Emphasis'));
+  assert.deepEqual([...emphasis.find('Data', 'Emphasis')].map((it) => it.text), ['b ', 'c']);
+  assert.deepEqual([[...found.children[0].walk()], found.text, tree('').children, tree('').text], [[], 'a *b **c*** é', [], '']);
+  // Pieces, and bytes.
+  assert.deepEqual([...tree('> é *b\n> c*', { pieces: [[2, 7], [9, 11]] }).find('Emphasis', 'LineEnding')].map((it) => it.text), ['*b\nc*', '\n']);
+  assert.deepEqual([...tree(bytesOf('é *漢*')).find('Emphasis')].map((it) => it.text), ['*漢*']);
+  assert.deepEqual([...tree('[](a)').find('LabelText')].map((it) => it.text), ['']);
+  // Each node has what stands from its first event to its last.
+  const given = '*a* **b _c_** [d ![e](f)](g "h\ni") `j` <kk:l> &amp; \\* 😀  \nm', opened = [], spans = [];
+  for (const it of text(given)) {
+    if (it.enter) spans.push(opened[opened.length] = { name: it.name, depth: opened.length, offset: it.offset });
+    else opened.pop().end = it.offset;
+  }
+  assert.deepEqual([...tree(given).walk()].map((it) => [it.name, it.text]), spans.map(({ name, offset, end }) => [name, given.slice(offset, end)]));
+  const depths = [], look = (node, depth) => node.children.forEach((it) => {
+    depths.push(depth);
+    look(it, depth + 1);
+  });
+  look(tree(given), 0);
+  assert.deepEqual(depths, spans.map(({ depth }) => depth));
+  const [deep] = tree('*a **a '.repeat(20000) + 'b' + '***'.repeat(20000)).find('Emphasis');
+  assert.equal(deep.text.length, 200001);
+  assert.ok([...deep.walk()].length > 100000);
+});
+
+test('the package in one file', () => {
+  const given = 'é *a* **b _c_** [d ![e](f)](g "h\ni") `j` <kk:l> &amp; \\* 😀 [m][n]  \no', definitions = { n: ['/p', 'q'] };
+  assert.deepEqual(Object.keys(inside), Object.keys(markdownInline));
+  for (const call of [
+    (on) => [...on.text(given, { definitions })], (on) => [...on.string(given)], (on) => [...on.leaves(given, { definitions })], (on) => [...on.tree(given).walk()].map((it) => [it.name, it.text]),
+    (on) => Array.from(on.texts(given, [[0, 5]]), (it) => [...it]), (on) => Array.from(on.shortTexts(given, [[0, 5], [6, 20]], { definitions }), (it) => [...it]),
+    (on) => on.html(given, { definitions }), (on) => on.htmls(given, [[0, 5], [6, 20]]), (on) => on.strings(given, [[[0, 5]]]), (on) => on.identifier(given), (on) => on.reference('&check;'),
+    (on) => on.isText(given), (on) => on.isContent(given), (on) => on.links(given, { definitions }), (on) => on.create({ maximum: 1 << 20 }).html(given), (on) => [on.NAMES, on.OPTIONS, on.GFM],
+  ]) assert.deepEqual(call(inside), call(markdownInline), String(call));
+});
+
 test('the rest of the calls', () => {
   assert.deepEqual([identifier(' A\n B '), identifier(''), identifier('\u1e9e')], ['a b', '', 'ss']);
   assert.deepEqual(['&amp;', '&#X1f600;', '&#0;', '&check;'].map((it) => reference(it)), ['&', '\u{1f600}', '\ufffd', '✓']);
   refuses('NO_REFERENCE', () => reference('&check;', { rules: 'crate' }));
   assert.deepEqual([isText('a\nb'), isContent('a\n\nb'), isText('a\n\nb'), isContent(WRONG), isContent('a', { pieces: [[0, 2]] })], [true, true, false, false, false]);
   assert.deepEqual(strings('é\\* &amp;', [[[0, 3]], [], [[4, 9]]]), ['é*', '', '&']);
+  for (const [options, written] of [[{}, 'a\r\nb\rc\0\r'], [{ lineFeeds: true }, 'a\nb\nc\0\r'], [{ replacedNul: true }, 'a\r\nb\rc\ufffd\r'], [{ lineFeeds: true, replacedNul: true }, 'a\nb\nc\ufffd\r']]) {
+    assert.deepEqual(strings('a\r\nb\rc\0&#13;', [[[0, 2], [2, 12]]], options), [written]);
+  }
   assert.deepEqual([...leaves(bytesOf('a*é*'))].map(({ content }) => content), ['a', '*', 'é', '*'].map(bytesOf));
   assert.deepEqual(htmls('a[^b]\n\n[^b]', [[0, 5], [7, 11]], { gfm: true, footnotes: ['b'] }).length, 2);
   assert.equal(html('~a~ $b$', { bits: COMMONMARK | GFM }), html('~a~ $b$', { gfm: true }));

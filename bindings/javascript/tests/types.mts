@@ -1,5 +1,6 @@
 // What has to fit the types, and what must not.
-import { COMMONMARK, GFM, MarkdownInlineError, create, html, htmls, leaves, links, shortTexts, strings, text, type Name } from '../../out/javascript/index.js';
+import { COMMONMARK, GFM, MarkdownInlineError, create, html, htmls, leaves, links, shortTexts, strings, text, tree, type Name, type Node } from '../../out/javascript/index.js';
+import plugin, { piecesOf } from '../../out/javascript/markdown-it.js';
 
 for (const event of text('a *b*', { gfm: true, codeText: false, definitions: ['a'] })) {
   const name: Name = event.name;
@@ -16,7 +17,15 @@ try {
   if (error instanceof MarkdownInlineError && error.code === 'BLANK_LINE') console.log(error.at, one, two, three, four, five);
 }
 for (const { line, column, destination, title } of links('[a](b)', { contents: [[0, 6]] })) console.log(line, column, destination.length, title ?? '');
+const six: Node[] = tree('a').children, seven: string = [...tree('*a*', { gfm: true }).find('Emphasis')][0]?.enter.name ?? tree('a').text;
+plugin({}, { signs: { mention: /@/ }, places: true });
+const eight: number | undefined = piecesOf([{ type: 'inline', tag: '', markup: '', content: 'a', map: [0, 1] }], 'a')[0]?.[0]?.[0];
+console.log(six, seven, eight);
 
+// @ts-expect-error no such name
+tree('a').find('Nothing');
+// @ts-expect-error signs are regular expressions
+plugin({}, { signs: { mention: '@' } });
 // @ts-expect-error no such option
 text('a', { nonsense: true });
 // @ts-expect-error no such rules

@@ -56,7 +56,8 @@ class Content(NamedTuple):
 
 class Error(Exception):
     """Why a call returns nothing; `status` is that of the library. If a call for many says what is refused, `at` is its number: that of the content, of the
-    string, or for a DefinitionError of the definition, with the footnotes counted on behind the definitions. Otherwise `at` is None."""
+    string, for a DefinitionError of the definition, with the footnotes counted on behind the definitions, or for a NotUtf8 of the first byte of the document
+    that is not UTF-8. Otherwise `at` is None."""
     status = 0
     at: Optional[int] = None
 
@@ -327,17 +328,21 @@ def htmls(document: Text, contents: Contents, gfm: bool = False, math: bool = Fa
     return [str(found[start:end], 'utf-8') for start, end in zip(chain((0,), ends), ends)]
 
 
-def strings(document: Text, strings: Iterable[Iterable[Sequence[int]]], *, rules: Rules = 'commonmark', options: Optional[int] = None) -> List[str]:
+def strings(
+        document: Text, strings: Iterable[Iterable[Sequence[int]]], *, rules: Rules = 'commonmark', options: Optional[int] = None, line_feeds: bool = False,
+        replaced_nul: bool = False) -> List[str]:
     """The texts of strings, such as titles and destinations, with escapes and character references resolved. A string is a list of parts, each a range
     of bytes of the document as (start, end), which are one text. Where it stands in a paragraph, they are what `Data` and `LineEnding` cover inside it.
-    References are decoded as of `reference`, by the rules or the options with which the document is read.
+    References are decoded as of `reference`, by the rules or the options with which the document is read. With `line_feeds` each line ending is written as a
+    line feed, and with `replaced_nul` NUL as U+FFFD.
 
     >>> strings('[a](b\\\\*c "d &check; e")', [[(4, 8)], [(10, 21)]])
     ['b*c', 'd ✓ e']
     """
     bytes_given = _arguments.text_of(document, 'document')
     parts, listed, count = _arguments.strings_of(strings)
-    status, found, ends, at = _library.strings(_bits(options, rules), bytes_given, parts, listed, count)
+    how = _arguments.flag_of(line_feeds, 'line_feeds') | _arguments.flag_of(replaced_nul, 'replaced_nul') << 1
+    status, found, ends, at = _library.strings(_bits(options, rules), how, bytes_given, parts, listed, count)
     if status:
         raise _raised(status, at)
     return [str(found[start:end], 'utf-8') for start, end in zip([0, *ends], ends)]

@@ -79,7 +79,7 @@ def _load():
         ('is_content', text + numbers), ('is_text', text + numbers), ('string', given + lent), ('text', given + lent), ('leaves', given + lent),
         ('identifier', text + lent), ('reference', [ctypes.c_uint32] + text + lent), ('texts', given + 3 * numbers + outcome), ('short_texts', given + 3 * numbers + outcome),
         ('html', given + numbers + [ctypes.c_uint32, _size] + lent), ('htmls', given + 2 * numbers + [ctypes.c_uint32, _size] + 2 * numbers + outcome),
-        ('strings', [ctypes.c_uint32] + text + 4 * numbers + outcome),
+        ('strings', 2 * [ctypes.c_uint32] + text + 4 * numbers + outcome),
     ):
         function = getattr(library, 'markdown_inline_' + name)
         function.restype, function.argtypes = ctypes.c_uint32, arguments
@@ -223,12 +223,12 @@ def tested(name, document, pieces):
     return getattr(LIBRARY, name)(document, len(document), pieces.buffer_info()[0], len(pieces) // 4)
 
 
-def strings(options, document, parts, listed, count):
+def strings(options, string_options, document, parts, listed, count):
     """Calls for the texts of this many strings by options, as they cross, of these parts: the status, the texts' bytes, where each ends, and what is to blame."""
 
     def call(start, lent, room, ends, many, outcome):
         strings_at = listed.buffer_info()[0] + 2 * start * listed.itemsize
         return LIBRARY.markdown_inline_strings(
-            options, document, len(document), parts.buffer_info()[0], len(parts) // 2, strings_at, many, lent, room, ends, many, outcome)
+            options, string_options, document, len(document), parts.buffer_info()[0], len(parts) // 2, strings_at, many, lent, room, ends, many, outcome)
 
     return filled_many(call, 1, len(document), count)

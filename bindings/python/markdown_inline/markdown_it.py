@@ -41,6 +41,8 @@ _SIGNS: Dict[str, str] = {
 }
 # Where the library and markdown-it read blanks in two ways: at the ends of a content, in a blank line, and a tab at the end of a line.
 _BLANKS, _BLANK = (' ', '\t', '\n', '\r'), r'\n[ \t]*[\r\n]|\r[ \t]*[\r\n]|\t *\n'
+# A backslash and the character behind it, which is not ASCII where further bytes follow.
+_BACKSLASH = re.compile(r'\\[^\n\x80-\xbf][\x80-\xbf]*')
 _ALL, _LINE_ENDING = re.compile(''), re.compile('\r\n|\n|\r')
 # An address that normalizeLink leaves as it is.
 _SAFE = r"(?:[A-Za-z0-9;/?%s@&=+$,\-_.!~*'()#]|%%[0-9A-Fa-f]{2})*"
@@ -90,6 +92,7 @@ class _Builder:
         self.identifiers: Optional[Dict[str, Any]] = None
         # Where markdown-it joins texts later, escapes and references are tokens of their own until then.
         self.has_specials = 'text_join' in md.core.ruler.get_active_rules()
+        self.has_backslashes = self.has_specials and 'escape' in md.inline.ruler.get_active_rules()
         self.is_usual = getattr(md.normalizeLink, '__func__', None) is MarkdownIt.normalizeLink
         self.characters = Characters(document).before if has_places else None
         # What is done where something begins, and where something ends. What is not here needs nothing, or is read by what it stands in.
@@ -123,6 +126,9 @@ class _Builder:
                 # Most events are of data, which is said without a call.
                 if kind:
                     found = source[start:place]
+                    if self.has_backslashes and '\\' in found:
+                        self.backslashes(start, place)
+                        continue
                     if not text:
                         self.text_start = start
                     text.append(found if found.isascii() else self.cut(start, place))
@@ -194,6 +200,16 @@ class _Builder:
         token = self.push('text_special', '', 0)
         token.content, token.markup, token.info = words, markup, info
         self.put(token, start, end)
+
+    def backslashes(self, start: int, end: int) -> None:
+        """Text with backslashes that escape nothing. Each of them makes a token with the character behind it, which is a text in the end."""
+        for found in _BACKSLASH.finditer(self.source, start, end):
+            if start < found.start():
+                self.say(self.cut(start, found.start()), start, found.start())
+            start, words = found.end(), self.cut(*found.span())
+            self.special(words, words, 'escape', *found.span())
+        if start < end:
+            self.say(self.cut(start, end), start, end)
 
     def hard_break(self, place: int) -> None:
         self.push('hardbreak', 'br', 0)
@@ -408,6 +424,18 @@ def _inline(signs: Mapping[str, str], has_places: bool, state: StateCore) -> Non
             md.inline.parse(token.content, md, env, children)
 
 
+def _widen(state: StateCore) -> None:
+    """Says of the texts that are joined next where the last of them ends."""
+    for token in state.tokens:
+        first: Optional[Dict[str, int]] = None
+        for it in token.children or ():
+            place = it.meta.get('markdown_inline') if it.type in ('text', 'text_special') else None
+            if first and place:
+                first['end'] = place['end']
+            else:
+                first = place
+
+
 def plugin(md: MarkdownIt, signs: Optional[Mapping[str, str]] = None, places: bool = False) -> None:
     """Puts the library into the place of markdown-it's inline parser: `MarkdownIt().use(plugin)`.
 
@@ -416,6 +444,8 @@ def plugin(md: MarkdownIt, signs: Optional[Mapping[str, str]] = None, places: bo
     mdit-py-plugins are known. `places` says in `token.meta['markdown_inline']` from where to where each token stands, as `start` and `end`, in characters of
     the content."""
     md.core.ruler.at('inline', partial(_inline, {**_SIGNS, **(signs or {})}, places))
+    if places and 'text_join' in md.core.ruler.get_all_rules():
+        md.core.ruler.before('text_join', 'markdown_inline_places', _widen)
 
 
 def _pieces(token: Token, has_signs: bool, lines: List[Tuple[str, str, int, int]], cells: Optional[Dict[int, int]]) -> Optional[List[Piece]]:

@@ -26,7 +26,7 @@ fn write_html(document: &str, htmls: &mut Htmls) -> Result<(), markdown_inline::
 
 fn main() -> Result<(), Box<dyn std::error::Error>> {
     let repeats: usize = std::env::args().nth(1).map_or(Ok(1), |it| it.parse())?;
-    let is_html = std::env::args().nth(2).is_some_and(|it| it == "html");
+    let is_html = std::env::args().nth(2).as_deref() == Some("html");
     let mut text = String::new();
     io::stdin().read_to_string(&mut text)?;
     let document = text.trim_end_matches('\n');

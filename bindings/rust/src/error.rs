@@ -72,7 +72,7 @@ pub struct Refusal {
     /// Why.
     pub error: Error,
     /// The number of the content where the error is `NoContent`, `BlankLine` or `References`; that of the string where it is `NoString`; that of the definition
-    /// where it is `Definition`, with the footnotes counted on behind the definitions.
+    /// where it is `Definition`, with the footnotes counted on behind the definitions; and where it is `NotUtf8` the first byte of the document that is not UTF-8.
     pub at: Option<usize>,
 }
 
@@ -91,6 +91,7 @@ impl From<Refusal> for Error {
 impl fmt::Display for Refusal {
     fn fmt(&self, f: &mut fmt::Formatter<'_>) -> fmt::Result {
         match self.at {
+            Some(byte) if self.error == Error::NotUtf8 => write!(f, "{}: byte {byte}", self.error),
             Some(number) => write!(f, "{}: number {number}", self.error),
             None => self.error.fmt(f),
         }

@@ -134,7 +134,7 @@ impl<'a> Input<'a> {
         self
     }
 
-    /// How many bytes definitions may bring to the text of `html`, or to all contents of `htmls` together: those of the destination and of the title, for each link
+    /// How many bytes definitions may bring to the text of `html`, or to all contents of `htmls` or of `links` together: those of the destination and of the title, for each link
     /// and image that refers to one. 0 is no limit. By default it is the length of the document, or 100,000 where the document is shorter.
     #[must_use]
     pub fn reference_limit(mut self, limit: usize) -> Input<'a> {
@@ -595,6 +595,10 @@ impl<'a> Input<'a> {
 
     pub(crate) fn options_given(&self) -> Options {
         self.options
+    }
+
+    pub(crate) fn limit_given(&self) -> usize {
+        self.reference_limit
     }
 
     /// Where the definition with this number leads.

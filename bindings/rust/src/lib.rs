@@ -73,7 +73,7 @@ pub use joined::Joined;
 pub use leaf::{Leaf, LeafIter, Leaves};
 pub use links::FoundLink;
 pub use name::{Name, UnknownName};
-pub use options::{HtmlOptions, Options};
+pub use options::{HtmlOptions, Options, StringOptions};
 pub use raw::Piece;
 pub use short::{ShortEvent, ShortIter, ShortTexts, ShortTextsIter};
 pub use strings::{strings, strings_with, Strings, StringsIter};

@@ -1,7 +1,9 @@
 //! Where links lead.
 
-use crate::raw::RawRange;
-use crate::{strings_with, Error, Event, Input, Name, Point, Refusal, ShortEvent, TextContent};
+use crate::raw::{RawRange, RawTarget};
+use crate::{
+    strings_with, Error, Event, Input, Name, Point, Refusal, ShortEvent, StringOptions, TextContent,
+};
 use std::ops::Range;
 
 /// A link, an image, an autolink or a literal, and where it leads.
@@ -136,12 +138,33 @@ fn string_of(name: Name) -> Option<usize> {
     }
 }
 
+/// What is left of a limit, if there is one, once a definition is brought to a link in this content.
+fn left_of(
+    limit: Option<usize>,
+    target: &RawTarget,
+    content: usize,
+) -> Result<Option<usize>, Refusal> {
+    let len = |range: RawRange| range.end - range.start;
+    let title = if target.has_title == 0 {
+        0
+    } else {
+        len(target.title)
+    };
+    let refusal = Refusal {
+        error: Error::References,
+        at: Some(content),
+    };
+    let left = limit.map(|limit| limit.checked_sub(len(target.destination) + title));
+    left.map(|left| left.ok_or(refusal)).transpose()
+}
+
 impl Input<'_> {
     /// The links, images, autolinks and literals of many contents as texts, in order, with where each leads. A literal in the text of a link is none.
     ///
     /// # Errors
     ///
-    /// Those of `texts`, and `Definition` where the destination or the title of a definition is no UTF-8.
+    /// Those of `texts`, `Definition` where the destination or the title of a definition is no UTF-8, and `References` where definitions bring more than
+    /// `reference_limit` says to links and images, each of which has a copy.
     ///
     /// ```
     /// use markdown_inline::{Input, TextContent};
@@ -168,11 +191,13 @@ impl Input<'_> {
         let mut found = walk.found;
         let texts = strings_with(
             self.options_given(),
+            StringOptions::default(),
             self.document(),
             &walk.parts,
             &walk.strings,
         )?;
         let text = |number: usize| texts.get(number).unwrap_or("").to_string();
+        let mut left = Some(self.limit_given()).filter(|limit| *limit > 0);
         for (link, [destination, title]) in found.iter_mut().zip(walk.named) {
             if let Some(number) = destination {
                 link.destination = text(number);
@@ -180,6 +205,7 @@ impl Input<'_> {
             link.title = title.map(text);
             if let Some(number) = link.definition {
                 let target = self.target(number);
+                left = left_of(left, &target, link.content)?;
                 link.destination = self.label_text(target.destination, number)?;
                 if target.has_title != 0 {
                     link.title = Some(self.label_text(target.title, number)?);

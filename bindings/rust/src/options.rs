@@ -111,6 +111,21 @@ impl HtmlOptions {
     }
 }
 
+/// How the texts of strings are written.
+#[derive(Clone, Copy, Debug, Default, PartialEq, Eq, Hash)]
+pub struct StringOptions {
+    /// Whether a line feed is written for each line ending.
+    pub line_feeds: bool,
+    /// Whether U+FFFD is written for NUL.
+    pub replaced_nul: bool,
+}
+
+impl StringOptions {
+    pub(crate) fn bits(self) -> u32 {
+        u32::from(self.line_feeds) | u32::from(self.replaced_nul) << 1
+    }
+}
+
 impl Default for Options {
     /// [`Options::COMMONMARK`].
     fn default() -> Options {

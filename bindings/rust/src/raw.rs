@@ -227,6 +227,7 @@ extern "C" {
     ) -> u32;
     pub(crate) fn markdown_inline_strings(
         options: u32,
+        string_options: u32,
         bytes: *const u8,
         bytes_len: usize,
         parts: *const RawRange,

@@ -3,7 +3,7 @@
 use crate::fill::{fill_many, range_of};
 use crate::lists::walks;
 use crate::raw::{self, RawRange};
-use crate::{Error, Options, Refusal};
+use crate::{Error, Options, Refusal, StringOptions};
 use std::ops::Range;
 
 /// The texts of strings.
@@ -59,11 +59,17 @@ pub fn strings<D: AsRef<[u8]> + ?Sized>(
     parts: &[Range<usize>],
     strings: &[Range<usize>],
 ) -> Result<Strings, Refusal> {
-    strings_with(Options::COMMONMARK, document, parts, strings)
+    strings_with(
+        Options::COMMONMARK,
+        StringOptions::default(),
+        document,
+        parts,
+        strings,
+    )
 }
 
 /// The texts of strings as of [`strings`], with character references resolved as [`reference_with`](crate::reference_with) says by these options: take those with
-/// which the document is read.
+/// which the document is read. The text is written as the other options say: by default line endings and NUL stay.
 ///
 /// # Errors
 ///
@@ -71,14 +77,16 @@ pub fn strings<D: AsRef<[u8]> + ?Sized>(
 ///
 /// ```
 /// # fn main() -> Result<(), markdown_inline::Refusal> {
-/// use markdown_inline::{strings_with, Options};
-/// let found = strings_with(Options::HTML_REFERENCES, "&check;", &[0..7], &[0..1])?;
-/// assert_eq!(found.get(0), Some("\u{2713}"));
+/// use markdown_inline::{strings_with, Options, StringOptions};
+/// let how = StringOptions { line_feeds: true, ..StringOptions::default() };
+/// let found = strings_with(Options::HTML_REFERENCES, how, "&check;\r\n", &[0..9], &[0..1])?;
+/// assert_eq!(found.get(0), Some("\u{2713}\n"));
 /// # Ok(())
 /// # }
 /// ```
 pub fn strings_with<D: AsRef<[u8]> + ?Sized>(
     options: Options,
+    string_options: StringOptions,
     document: &D,
     parts: &[Range<usize>],
     strings: &[Range<usize>],
@@ -98,6 +106,7 @@ pub fn strings_with<D: AsRef<[u8]> + ?Sized>(
         |lent, outcome| unsafe {
             raw::markdown_inline_strings(
                 options.bits(),
+                string_options.bits(),
                 document.as_ptr(),
                 document.len(),
                 parts.as_ptr(),

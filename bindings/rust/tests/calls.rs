@@ -3,7 +3,7 @@
 use markdown_inline::{
     identifier, is_right_version, reference, reference_with, string, strings, strings_with, text,
     Error, Event, Events, HtmlOptions, Htmls, Input, Name, Options, Piece, Refusal, ShortEvent,
-    ShortTexts, TextContent, Texts,
+    ShortTexts, StringOptions, TextContent, Texts,
 };
 use std::thread;
 
@@ -119,11 +119,41 @@ fn references_are_decoded_by_options() {
             "{given}"
         );
     }
-    let found = |options| strings_with(options, "&check;a", &[0..7, 7..8], &[0..1, 1..2]);
+    let as_it_stands = StringOptions::default();
+    let found = |options| {
+        strings_with(
+            options,
+            as_it_stands,
+            "&check;a",
+            &[0..7, 7..8],
+            &[0..1, 1..2],
+        )
+    };
     assert_eq!(found(names).unwrap().get(0), Some("\u{2713}"));
     assert_eq!(found(Options::CRATE).unwrap().get(0), Some("&check;"));
     let error = found(Options::from_bits(1 << 31)).unwrap_err();
     assert_eq!((error.error, error.at), (Error::UnknownOption, None));
+    for (line_feeds, replaced_nul, wanted) in [
+        (false, false, "a\r\nb\rc\0\r"),
+        (true, false, "a\nb\nc\0\r"),
+        (false, true, "a\r\nb\rc\u{fffd}\r"),
+        (true, true, "a\nb\nc\u{fffd}\r"),
+    ] {
+        let how = StringOptions {
+            line_feeds,
+            replaced_nul,
+        };
+        let given = "a\r\nb\rc\0&#13;";
+        let found = strings_with(
+            Options::COMMONMARK,
+            how,
+            given,
+            &[0..2, 2..12],
+            &[0..2, 2..2],
+        )
+        .unwrap();
+        assert_eq!(found.get(0), Some(wanted));
+    }
 }
 
 #[test]
@@ -344,9 +374,9 @@ fn what_is_refused_is_told() {
     );
     let found = refused(&input.definition("b").footnote(b"\xff"));
     assert_eq!((found.error, found.at), (Error::Definition, Some(1)));
-    let found = refused(&Input::new(b"\xff"));
-    assert_eq!((found.error, found.at), (Error::NotUtf8, None));
-    assert_eq!(found.to_string(), "document is not UTF-8");
+    let found = refused(&Input::new(b"a\xff"));
+    assert_eq!((found.error, found.at), (Error::NotUtf8, Some(1)));
+    assert_eq!(found.to_string(), "document is not UTF-8: byte 1");
     assert_eq!(Error::from(found), Error::NotUtf8);
     assert!(std::error::Error::source(&found).is_some());
 }
@@ -481,6 +511,16 @@ fn links_are_found_with_where_they_lead() {
         ("Link", (4, 30, 4, 42), ("n", None), None),
     ];
     assert_eq!(found, wanted);
+    // Three references bring five bytes each, and a resource none.
+    let limited = |limit| {
+        let input = Input::new("[a] [b](cdefgh) ![a]\n[a]").definition_to("a", "/bc", Some("de"));
+        let contents = [0..0, 0..1].map(TextContent::from);
+        input.reference_limit(limit).links(&contents)
+    };
+    assert_eq!(limited(15).unwrap().len(), 4);
+    assert_eq!(limited(0).unwrap().len(), 4);
+    let refusal = limited(14).unwrap_err();
+    assert_eq!((refusal.error, refusal.at), (Error::References, Some(1)));
     let bad = Input::new("[a]").definition_to("a", b"\xff", None);
     let refusal = bad.links(&[TextContent::from(0..1)]).unwrap_err();
     assert_eq!((refusal.error, refusal.at), (Error::Definition, Some(0)));

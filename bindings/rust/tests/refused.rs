@@ -22,8 +22,8 @@ thread_local! {
 /// As of the C library's.
 #[no_mangle]
 pub unsafe extern "C" fn malloc(size: usize) -> *mut c_void {
-    ASKED.set(ASKED.get() + 1);
-    match REFUSES.get() {
+    ASKED.with(|asked| asked.set(asked.get() + 1));
+    match REFUSES.with(Cell::get) {
         true => ptr::null_mut(),
         false => __libc_malloc(size),
     }
@@ -33,7 +33,7 @@ pub unsafe extern "C" fn malloc(size: usize) -> *mut c_void {
 /// As of the C library's.
 #[no_mangle]
 pub unsafe extern "C" fn realloc(old: *mut c_void, size: usize) -> *mut c_void {
-    match REFUSES.get() {
+    match REFUSES.with(Cell::get) {
         true => ptr::null_mut(),
         false => __libc_realloc(old, size),
     }
@@ -41,17 +41,17 @@ pub unsafe extern "C" fn realloc(old: *mut c_void, size: usize) -> *mut c_void {
 
 /// What a call answers that gets no memory.
 fn refused<T>(call: impl FnOnce() -> T) -> T {
-    REFUSES.set(true);
+    REFUSES.with(|refuses| refuses.set(true));
     let answer = call();
-    REFUSES.set(false);
+    REFUSES.with(|refuses| refuses.set(false));
     answer
 }
 
 /// How often a call asks for memory.
 fn asked<T>(call: impl FnOnce() -> T) -> usize {
-    let before = ASKED.get();
+    let before = ASKED.with(Cell::get);
     call();
-    ASKED.get() - before
+    ASKED.with(Cell::get) - before
 }
 
 #[test]

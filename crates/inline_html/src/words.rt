@@ -21,7 +21,7 @@ Words
     math             math spans
     task             the text is the first of a list item, where the check of a task may stand
     cm-lengths, cm-shortcut, html-references, commonmark
-                     follow CommonMark in one rule each, and the last in all, as mdinline's words do
+                     follow CommonMark in one rule each, and the last in many, as mdinline's words do
     note=TEXT        there is a footnote definition with this label
     define=LABEL to=DESTINATION [title=TEXT]
                      there is a definition with this label

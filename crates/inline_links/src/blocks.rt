@@ -32,7 +32,10 @@ impl Blocks {
         let Some(Definition { label, target }) = definition_at(alloc, bytes, line)? else {
             return Ok(false);
         };
-        if matches!(self.definitions.add(label.as_str())?, Added::First(_)) {
+        if matches!(
+            self.definitions.add_by(label.as_str(), true)?,
+            Added::First(_)
+        ) {
             self.targets.push(target)?;
         }
         Ok(true)

@@ -17,7 +17,7 @@ use markdown_targets::links::target_of;
 use markdown_targets::target::{Address, Target as Leads};
 use std::alloc::{AllocError, Global};
 
-/// The constructs and the rules of CommonMark, and autolink literals: the options that `mdinline` calls `cm-lengths` and `cm-shortcut` are on.
+/// The constructs and the rules of CommonMark, and autolink literals.
 pub const OPTIONS: ParseOptions = ParseOptions {
     constructs: Constructs {
         gfm_autolink_literal: true,
@@ -27,8 +27,8 @@ pub const OPTIONS: ParseOptions = ParseOptions {
     math_text_single_dollar: true,
     attention_first_lengths: true,
     label_shortcut_before_bracket: true,
-    commonmark: false,
-    html_references: false,
+    commonmark: true,
+    html_references: true,
 };
 
 /// What a document is read with.
