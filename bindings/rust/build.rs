@@ -59,7 +59,7 @@ fn installed() -> Option<Place> {
 }
 
 /// The targets of Rust that a release may pack a library for, and in which folder it stands.
-const PACKED: [(&str, &str); 7] = [
+const PACKED: [(&str, &str); 9] = [
     ("x86_64-unknown-linux-gnu", "native"),
     ("x86_64-unknown-linux-musl", "native/x86_64-linux-musl"),
     ("x86_64-pc-windows-gnu", "native/x86_64-windows"),
@@ -67,6 +67,8 @@ const PACKED: [(&str, &str); 7] = [
     ("aarch64-unknown-linux-musl", "native/aarch64-linux"),
     ("riscv64gc-unknown-linux-gnu", "native/riscv64-linux"),
     ("riscv64gc-unknown-linux-musl", "native/riscv64-linux"),
+    ("aarch64-apple-darwin", "native/aarch64-macos"),
+    ("x86_64-apple-darwin", "native/x86_64-macos"),
 ];
 
 /// The library for the target that a release packs into the crate.
