@@ -3,8 +3,8 @@
 //! A case is one line of fields with tabs between them. The first field says how it is read:
 //!
 //! - `text` and `string`: a whole run. It is to find the same, moved, in a content of a prepared document with text before and behind it.
-//! - `equal` and `count`: a text, of which the run, a run by its states alone, its passes by name, and a pass that is as simple as can be are to
-//!   leave the same events; and how many they are. `passes`: the same of a string, without the simple pass. `drawn`: as `equal`, of a text that is drawn by a seed.
+//! - `equal` and `count`: a text, of which the run, a run by its states alone, and its passes by name are to leave the same events; and how many they
+//!   are. `passes`: the same of a string. `drawn`: as `equal`, of a text that is drawn by a seed.
 //! - `counts` and `looks`: a text, how many runs of markers it has and how many pairs are made of them, or how many may open and how many may close.
 //! - `steady`: a text, behind whose run memory is asked for once more in vain; then the calls that take none are to answer as ever.
 //! - `value`: what the references in the document stand for. `edits`: a list of events that edits alone fill.
@@ -58,7 +58,6 @@ mod lines;
 mod listed;
 mod met;
 mod moved;
-mod pairing;
 mod pairs;
 mod passes;
 mod paths;

@@ -2,13 +2,13 @@
 ghost use Rattle.markdown_inline.specs.markdown_content.Content.{IsContent, IsTextContent};
 
 use crate::answers::Answers;
-use crate::passes::{Pairing, are_of_string, are_of_text};
+use crate::passes::{are_of_string, are_of_text};
 use markdown_inline::event::Event;
 use markdown_inline::parser::{ParseState, Piece};
 use markdown_inline::run::{string, text, text_by_states};
 use std::alloc::{AllocError, Global};
 
-// How these events of a text are alike by its states alone, by its passes, and with the simple pass.
+// How these events of a text are alike by its states alone, and by its passes.
 fn likeness(
     alloc: Global,
     parse_state: &ParseState,
@@ -22,19 +22,13 @@ fn likeness(
     if by_states.events.as_slice() != events {
         return Ok(" the run and its states differ");
     }
-    let lists = Pairing::ByLists;
-    if !are_of_text(alloc, parse_state, pieces, first_of_item, lists, events)? {
+    if !are_of_text(alloc, parse_state, pieces, first_of_item, events)? {
         return Ok(" the run and its passes differ");
     }
-    let walk = Pairing::BySimpleWalk;
-    if are_of_text(alloc, parse_state, pieces, first_of_item, walk, events)? {
-        return Ok(" equal");
-    }
-    Ok(" the pairs differ")
+    Ok(" equal")
 }
 
-/// Prints whether the events of a text are equal by a whole run, by its states alone, by its passes, and with the simple pass. Answers how many there
-/// are.
+/// Prints whether the events of a text are equal by a whole run, by its states alone, and by its passes. Answers how many there are.
 pub(crate) fn print_likeness(
     alloc: Global,
     parse_state: &ParseState,
