@@ -6,6 +6,7 @@
 //!                                      the column, the code before, and the code that the stretch stops at, which is passed then
 //!     holds SET TIMES PIECE.. | DOCUMENT   whether so many codes of the content are in the set, `]` or else `abc`, asked behind the first code
 //!     between FROM TO PIECE.. | DOCUMENT   the bytes of the content between two indexes, and whether one piece has them
+//!     beside INDEX PIECE.. | DOCUMENT  whether a code of the content ends at an index, and whether one begins there
 //!     restart PIECE.. | DOCUMENT       how many codes are passed at the end, how many at the start again, and the code there
 //!
 //! A place is printed as its line, column, index and codes of the tab there.
@@ -32,9 +33,16 @@ pub(crate) fn answer(alloc: Global, case: &Case, pieces: &[Piece], out: &mut Ans
         "stretch" => stretch(&mut cursor, out),
         "holds" => holds(&mut cursor, case.word(0), case.number(1), out),
         "between" => between(alloc, &cursor, case, out),
+        "beside" => beside(&cursor, case.number(0), out),
         "restart" => restart(&mut cursor, out),
         _ => out.say(" no such call"),
     }
+}
+
+// Appends whether codes stand beside an index.
+fn beside(cursor: &Cursor, index: usize, out: &mut Answers) {
+    out.show(cursor.has_code_before(index));
+    out.show(cursor.has_code_behind(index));
 }
 
 // Appends a code as a character.

@@ -75,7 +75,7 @@ fn answer_by(tokenizer: &mut Tokenizer, part: &str, case: &Case, out: &mut Answe
         "attempts" => attempts::answer(tokenizer, case.call, out),
         "parts" => parts::answer(tokenizer, case.call, out),
         "spaces" => spaces::answer(tokenizer, case.call, out),
-        "mail" => mail::find(tokenizer, case.word(0), out),
+        "mail" | "trim" => mail::find(tokenizer, part, case.word(0), out),
         _ => emphasis::answer_at(tokenizer, part, case, out),
     }
 }

@@ -1,7 +1,8 @@
-//! Email literals in a document that is one data, and what is lent for innermost events.
+//! Email literals and blanks in a document that is one data, and what is lent for innermost events.
 //!
 //!     find GROUP | DOCUMENT   the innermost events that the pass leaves of the data in a group, each with the indices where it begins and ends.
 //!                             GROUP is `Emphasis`, `Image`, `Link`, or `Title`, whose data is linked content
+//!     trim GROUP | DOCUMENT   the same of the pass that sets blanks apart
 //!     leaves | DOCUMENT       of each innermost event the name, the columns of a tab before it, the indices where it begins and ends, and the
 //!                             columns of a tab behind it. The document is a byte, a tab and a byte; an emphasis over it has data, the empty
 //!                             text of a label and data, where the text stands behind the second code of the tab
@@ -28,12 +29,14 @@ use markdown_event::event::{Content, Event, Kind, Link, Name, Point};
 use markdown_innermost::leaf::Leaf;
 use markdown_innermost::leaves;
 use markdown_passes::email::resolve;
+use markdown_passes::partial_whitespace::resolve_whitespace;
 use std::alloc::{AllocError, Global};
 
 // Appends what a case answers.
 pub(crate) fn answer(alloc: Global, case: &Case, out: &mut Answers) {
     match case.call {
         "find" => document::answer(alloc, "mail", case, out),
+        "trim" => document::answer(alloc, "trim", case, out),
         "leaves" => lend_leaves(&case.text, out),
         _ => out.say(" no such call"),
     }
@@ -93,9 +96,9 @@ fn data_in(
 }
 
 // Appends the innermost events.
-fn push_innermost(out: &mut Answers, events: &EventSlice) {
+fn push_innermost(out: &mut Answers, events: &Events) {
     for index in 1..events.len() {
-        let (enter, exit) = (events.at(index - 1), events.at(index));
+        let (enter, exit) = (events.bare_at(index - 1), events.bare_at(index));
         if matches!((enter.kind, exit.kind), (Kind::Enter, Kind::Exit)) {
             out.show(enter.name);
             out.show(enter.point.index);
@@ -117,8 +120,8 @@ fn group_of(word: &str) -> (Name, Option<Content>)
     }
 }
 
-// What the pass leaves of data that is the whole document, in such a group.
-pub(crate) fn find(tokenizer: &mut Tokenizer, word: &str, out: &mut Answers)
+// What the pass for email literals, or that for blanks, leaves of data that is the whole document, in such a group.
+pub(crate) fn find(tokenizer: &mut Tokenizer, part: &str, word: &str, out: &mut Answers)
     requires { tokenizer.old.map ≡ [] }
 {
     let bytes = tokenizer.parse_state.bytes;
@@ -134,8 +137,11 @@ pub(crate) fn find(tokenizer: &mut Tokenizer, word: &str, out: &mut Answers)
         Ok(events) => tokenizer.events = events,
         Err(AllocError) => return out.end(),
     }
-    out.keep(resolve(tokenizer));
-    push_innermost(out, &tokenizer.events.as_slice());
+    out.keep(match part {
+        "trim" => resolve_whitespace(tokenizer, false, true),
+        _ => resolve(tokenizer),
+    });
+    push_innermost(out, &tokenizer.events);
 }
 
 // Appends what is lent for an innermost event.

@@ -7,7 +7,8 @@
 //!   are. `passes`: the same of a string. `drawn`: as `equal`, of a text that is drawn by a seed.
 //! - `counts` and `looks`: a text, how many runs of markers it has and how many pairs are made of them, or how many may open and how many may close.
 //! - `steady`: a text, behind whose run memory is asked for once more in vain; then the calls that take none are to answer as ever.
-//! - `value`: what the references in the document stand for. `edits`: a list of events that edits alone fill.
+//! - `value`: what the references in the document stand for. `edits`: a list of events that edits alone fill. `rules`: the rules that the options ask
+//!   for.
 //! - A single construct at the start of the content: by a word of `paths.rt` as `break`, where `span` is of code or of math; `task`, `protocol`,
 //!   `www`, `footnote`, `end` (of the label of a link that starts before the content), `destination`, `title`,
 //!   `label`; `data`, which stops at `*` and `h`; `space`, at least and at most so many blank codes on one line; `spacing`, blank codes with a line ending behind the first code;

@@ -12,6 +12,7 @@ use crate::pairs::{print_likeness, print_string_likeness};
 use crate::program::print_program;
 use crate::row::{Asked, Row};
 use crate::steady::print_steady;
+use markdown_inline::configuration::Rules;
 use markdown_inline::event_list::EventSlice;
 use markdown_inline::parser::{ParseState, Piece};
 use markdown_inline::run::{Leaves, is_content, is_text, leaves, string, text};
@@ -105,6 +106,10 @@ fn print_read(
         "steady" => print_steady(alloc, parse_state, pieces, out),
         "value" => print_value(alloc, parse_state.bytes, out),
         "edits" => print_edits(alloc, out),
+        "rules" => {
+            print_rules(parse_state.options.rules(), out);
+            Ok(())
+        }
         _ if !is_content(parse_state.bytes, pieces) => {
             out.say(" no content");
             Ok(())
@@ -120,6 +125,12 @@ fn print_value(alloc: Global, bytes: &[u8], out: &mut Answers) -> Result<(), All
     out.say(" ");
     out.say(value.as_str());
     Ok(())
+}
+
+// Prints the rules by which a content is read.
+fn print_rules(rules: Rules, out: &mut Answers) {
+    out.say(" ");
+    out.show(rules);
 }
 
 // Prints what is found in a text.

@@ -233,6 +233,8 @@ def own_cases(line):
         yield [kind] + list(document_fields(document)), ' ' + escaped(examples.plain(answer[1:]))
     elif kind == 'steady':
         yield [kind] + piece_fields(pieces, examples.plain(document).encode()) + list(document_fields(document)), answer
+    elif kind == 'rules':
+        yield [kind] + word_fields(words), answer
     elif kind == 'edits':
         yield [kind], printed_events(answer, examples.points(b'')) + ', none left'
     elif kind in PROGRAMS:
