@@ -291,9 +291,9 @@ enum { MARKDOWN_INLINE_STRING_LINE_FEEDS = 0x1, MARKDOWN_INLINE_STRING_REPLACED_
 /* The number of no definition, in a short event. */
 #define MARKDOWN_INLINE_NO_DEFINITION UINT32_MAX
 
-/* A piece of a document, from a place to a place. A place is a byte, and the columns of the tab there that come before; 0 outside of tabs. Each
- * piece but the last one ends just after a line ending, and the next one starts on the line after it. So a piece is a line or several, and what comes
- * between two pieces is the beginning of a line: of a paragraph in a block quote, "> a *b\n> c*",
+/* A piece of a document, from a place to a place. A place is a byte and a column, which is 0 unless the byte is a tab: then it is how many columns of
+ * the tab come before the place. Each piece but the last one ends just after a line ending, and the next one starts on the line after it. So a piece is
+ * one line or several, and only the beginning of a line can be left out between two pieces. Of a paragraph in a block quote, "> a *b\n> c*",
  *
  *     {{2, 0, 7, 0}, {9, 0, 11, 0}}    are the pieces: `a *b` with its line ending, and `c*`;
  *     {{2, 0, 6, 0}, {9, 0, 11, 0}}    are refused with MARKDOWN_INLINE_NO_CONTENT: the first ends before its line ending;
@@ -314,8 +314,8 @@ typedef struct markdown_inline_range {
 } markdown_inline_range;
 
 /* What a call reads. The ranges say where among `labels`, which may be `bytes`, the labels of definitions and of footnote definitions stand, as
- * they are written, with their escapes and without their brackets. A footnote's label stands without its caret too: `a` of `[^a]: b`; the label `^a`
- * is another, that of `[^^a]`. What is not used is 0. `options` is MARKDOWN_INLINE_COMMONMARK, to which other sets and options are joined by `|`. */
+ * they are written, with their escapes and without their brackets. A footnote's label stands without its caret too: for `[^a]: b` it is `a`, and `^a`
+ * for `[^^a]: b`. What is not used is 0. `options` is MARKDOWN_INLINE_COMMONMARK, to which other sets and options are joined by `|`. */
 typedef struct markdown_inline_input {
     const uint8_t *bytes;
     size_t bytes_len;
@@ -356,8 +356,9 @@ typedef struct markdown_inline_short_event {
     size_t index;
 } markdown_inline_short_event;
 
-/* A leaf: an event with no other inside it, from where it begins to where it ends, and what stands there. Its bytes begin at `start`, or one byte behind
- * if `start_vs` is above 0; `before` and `after` count the columns of tabs that stand before and behind the bytes. */
+/* A leaf: an event with no other inside it, from where it begins to where it ends, and what stands there. Mostly its bytes are those from `start` on, and
+ * `before` and `after` are 0. If it begins inside a tab, where `start_vs` is above 0, its bytes begin behind that tab, and `before` counts the leaf's columns
+ * in that tab. If it ends inside another tab, that tab is the last of its bytes, as one column, and `after` counts the leaf's other columns in it. */
 typedef struct markdown_inline_leaf {
     uint8_t name;
     size_t start_line, start_column, start, start_vs;
@@ -379,8 +380,8 @@ typedef struct markdown_inline_content {
     uint32_t first_of_item, reserved;
 } markdown_inline_content;
 
-/* How far a call for many comes: how many contents or strings are written, from the first on; how many elements those have that are read; and the number of
- * what is refused, or MARKDOWN_INLINE_NONE. */
+/* How far a call for many comes. `done` is how many contents or strings are written, from the first on. `count` is how many elements those have that are
+ * read. `blamed` is the number of what is refused, or MARKDOWN_INLINE_NONE. */
 typedef struct markdown_inline_outcome {
     size_t done, count, blamed;
 } markdown_inline_outcome;
@@ -427,9 +428,9 @@ MARKDOWN_INLINE_API uint32_t markdown_inline_identifier(const uint8_t *label, si
  * `*count` is how many bytes it has. NO_REFERENCE: the bytes are no reference, or its name is not known. UNKNOWN_OPTION, TOO_SMALL and NO_MEMORY are as above. */
 MARKDOWN_INLINE_API uint32_t markdown_inline_reference(uint32_t options, const uint8_t *reference, size_t reference_len, uint8_t *text, size_t text_len, size_t *count);
 
-/* Calls for many contents or strings read one after another. They write what they find one behind another, at the front of an array; and for each, at the
- * front of `ends`, where in that array it ends. They write from the first on, as long as there is room for all of one and for its end, and nothing else of
- * the two arrays. The outcome is written with each status, and `done` says how many are written.
+/* Calls for many contents or strings read one after another. They write the results one behind another, at the front of an array; and at the front of
+ * `ends`, where in that array each result ends. They write from the first result on, each whole and with its end, until one has no room. The rest of the
+ * two arrays stays as it was. The outcome is written with each status.
  * DONE: all are read and written. `count` is how many elements they have.
  * TOO_SMALL: all are read, and there is not room for all. `count` is how many elements they have. To go on, call for those from number `done` on, with room
  *     for the elements that are missing: then none is read more than twice.
@@ -447,28 +448,27 @@ MARKDOWN_INLINE_API uint32_t markdown_inline_reference(uint32_t options, const u
 MARKDOWN_INLINE_API uint32_t markdown_inline_texts(const markdown_inline_input *input, const markdown_inline_content *contents, size_t contents_len,
     markdown_inline_event *events, size_t events_len, size_t *ends, size_t ends_len, markdown_inline_outcome *outcome);
 
-/* Finds the same events in 16 bytes each, with the definitions that links, images and footnote calls refer to: which is all that a renderer needs. A
- * reference has the number of its definition, and no copy of what that says, so definitions bring no more events, and there is no limit. A caller that
- * copies destinations and titles to references needs one, as markdown_inline_html has. */
+/* Finds the same events in 16 bytes each, with the definitions that links, images and footnote calls refer to: which is all that a renderer needs. An
+ * event has the number of a definition and no copy of what that says, so the call has no limit. A caller that copies destinations and titles to
+ * references needs a limit, as markdown_inline_html has. */
 MARKDOWN_INLINE_API uint32_t markdown_inline_short_texts(const markdown_inline_input *input, const markdown_inline_content *contents, size_t contents_len,
     markdown_inline_short_event *events, size_t events_len, size_t *ends, size_t ends_len, markdown_inline_outcome *outcome);
 
 /* Writes the HTML of the input's pieces as a text, in UTF-8. Each call tests the whole document, passes all that stands before the pieces, and sorts the
  * definitions, so a call for each paragraph of a document takes quadratic time: for many contents call markdown_inline_htmls, which numbers footnotes
- * through all of them. The target of each number says where the definition of that number leads. `options` has the bits MARKDOWN_INLINE_HTML_RAW and
- * MARKDOWN_INLINE_HTML_ANY_LINK; without them no text becomes markup, and no link leads to a script. Each call numbers footnotes from 1 on, and line
- * endings stay.
- * A definition brings the bytes of its destination and of its title, as its target has them, to each link and image that refers to it; a link or an
- * image with a resource is brought nothing. `limit` is how many bytes definitions may bring, and 0 is no limit. Without one, n references to a
- * definition of n bytes write n * n bytes; for text that is not trusted take the larger of 100000 and the document's length, as cmark does.
- * REFERENCES: definitions bring more than the limit. DONE: the HTML stands at the front of the array, and `*count` is how
- * many bytes it has. DEFINITION: a label or a target is no text of the labels, or there is not one target for each definition. The rest is as for
- * events. */
+ * through all of them. There is one target for each definition, in the same order, which says where it leads. `options` has the bits
+ * MARKDOWN_INLINE_HTML_RAW and MARKDOWN_INLINE_HTML_ANY_LINK. Without them raw HTML is written as text, and no link leads to a script. Each call numbers
+ * footnotes from 1 on, and line endings stay.
+ * A definition brings the bytes of its destination and of its title, as its target has them, to each link and image that refers to it, so not to one with
+ * a resource, as `[a](b)`. `limit` is how many bytes definitions may bring, and 0 is no limit. Without one, n references to a definition of n bytes write
+ * n * n bytes; for text that is not trusted take the larger of 100000 and the document's length, as cmark does. REFERENCES: definitions bring more than the
+ * limit. DONE: the HTML stands at the front of the array, and `*count` is how many bytes it has. DEFINITION: a label or a target is no text of the labels, or
+ * there is not one target for each definition. The rest is as for events. */
 MARKDOWN_INLINE_API uint32_t markdown_inline_html(const markdown_inline_input *input, const markdown_inline_target *targets, size_t targets_len, uint32_t options,
     size_t limit, uint8_t *html, size_t html_len, size_t *count);
 
 /* Writes the HTML of all of these bytes as a text: what markdown_inline_html writes of an input that has them as one piece, with no definitions. `options`
- * are those of an input, and `html_options` are those of markdown_inline_html. A line ending at the end is left off by the caller. The rest is as above. */
+ * are those of an input, and `html_options` are those of markdown_inline_html. The caller leaves off a line ending at the end. The rest is as above. */
 MARKDOWN_INLINE_API uint32_t markdown_inline_html_of(const uint8_t *bytes, size_t bytes_len, uint32_t options, uint32_t html_options,
     uint8_t *html, size_t html_len, size_t *count);
 
@@ -488,15 +488,15 @@ MARKDOWN_INLINE_API uint32_t markdown_inline_htmls(const markdown_inline_input *
 /* Finds the texts of strings: of a link's destination or title, of a definition's, of an info string. Escaped punctuation stands in place of its escape, and
  * in place of each character reference its text (CommonMark 2.4 and 2.5); all other bytes stay. `options` are those of an input, and mean what they mean to
  * markdown_inline_reference: take those by which the document is read. `string_options` has the bits MARKDOWN_INLINE_STRING_LINE_FEEDS and
- * MARKDOWN_INLINE_STRING_REPLACED_NUL, which change what is written of the bytes alone: `&#13;` is CR, with each of them. Without them line endings and NUL stay.
+ * MARKDOWN_INLINE_STRING_REPLACED_NUL. Without them line endings and NUL stay. They leave references alone: the text of `&#13;` is CR, with or without them.
  *
  * A part is a range of the bytes, in any order; a string is a range of numbers of parts, whose bytes are one text. Where a string stands in a paragraph, its
  * parts are what the events Data and LineEnding between the Enter and the Exit of ResourceDestinationString or ResourceTitleString cover: so prefixes of lines,
  * and whitespace that begins them, are no part of it. A string that stands alone is one part; an empty one may have none.
  *
  * The texts are written as calls for many write. NO_STRING: a string has a part that is not given, or one that is no text of the bytes. By the names that are
- * known without an option, no text is longer than its parts; by all names of HTML it is longer by a fifth at most; and U+FFFD has two bytes more than NUL. That
- * is tested and not proved. */
+ * known without an option, no text is longer than its parts. By all names of HTML it is longer by a fifth at most. Each NUL that is written as U+FFFD takes
+ * two bytes more. All this is tested and not proved. */
 MARKDOWN_INLINE_API uint32_t markdown_inline_strings(uint32_t options, uint32_t string_options, const uint8_t *bytes, size_t bytes_len,
     const markdown_inline_range *parts, size_t parts_len, const markdown_inline_range *strings, size_t strings_len, uint8_t *texts, size_t texts_len, size_t *ends, size_t ends_len, markdown_inline_outcome *outcome);
 
