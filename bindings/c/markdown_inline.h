@@ -15,7 +15,7 @@
  *   for each wrong byte is read, and places in it are those of the document: CommonMark reads NUL as U+FFFD.
  * - No pointer is kept after a call, and nothing has to be freed. There is no state, so several threads may call at once.
  * - Memory comes from malloc, and is freed before the call ends. If malloc fails, the call returns MARKDOWN_INLINE_NO_MEMORY.
- * - The stack that a call takes does not grow with its input.
+ * - Deep nesting takes no more stack. Only a sort takes some more for a longer list: a few levels for twice as many elements.
  * - Fields named `reserved` have to be 0, since a later version may give them a meaning. A call that is given another number returns
  *   MARKDOWN_INLINE_UNKNOWN_OPTION.
  */
