@@ -438,7 +438,7 @@ MARKDOWN_INLINE_API uint32_t markdown_inline_reference(uint32_t options, const u
  *     elements they have: so a caller can go on behind it.
  * NO_MEMORY: some are read, from the first on, and `count` is how many elements they have.
  * DEFINITION: `blamed` is the number of the definition that is refused; footnotes are counted on behind the definitions. Nothing is read.
- * NOT_UTF8: `blamed` is the first byte of the document that is not UTF-8: what stands before it is. Nothing is read. A call for no contents tests a document.
+ * NOT_UTF8: `blamed` is the first byte of the document that is not UTF-8. All before it is UTF-8. Nothing is read. A call for no contents tests a document.
  * UNKNOWN_OPTION, TOO_LONG: nothing is read. */
 
 /* Finds the events of many contents of a document, read as texts. The document is prepared once, so each content costs about what it costs by itself.
