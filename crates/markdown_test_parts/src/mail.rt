@@ -2,7 +2,7 @@
 //!
 //!     find GROUP | DOCUMENT   the innermost events that the pass leaves of the data in a group, each with the indices where it begins and ends.
 //!                             GROUP is `Emphasis`, `Image`, `Link`, or `Title`, whose data is linked content
-//!     trim GROUP | DOCUMENT   the same of the pass that sets blanks apart
+//!     trim GROUP | DOCUMENT   the same of the pass that sets blanks apart: none here, where the data is not the first event
 //!     leaves | DOCUMENT       of each innermost event the name, the columns of a tab before it, the indices where it begins and ends, and the
 //!                             columns of a tab behind it. The document is a byte, a tab and a byte; an emphasis over it has data, the empty
 //!                             text of a label and data, where the text stands behind the second code of the tab
