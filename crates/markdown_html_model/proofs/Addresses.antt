@@ -1,5 +1,5 @@
 -- Addresses as they are written are quiet, and safe where they have to be.
-use Rattle.std.proofs.Common.{◌≡◌, ◌∙◌, sym, ap, refl, subst, ℕ, Bool, true, false, cond, ◌+◌, not, nat_lt, if◌then◌else◌, ◌&&◌, ◌||◌, List, [], ◌∷◌, ◌++◌, drop, codes, arith, inl, inr}
+use Rattle.std.proofs.Common.{◌≡◌, ◌∙◌, ap, refl, ℕ, Bool, true, false, cond, not, nat_lt, if◌then◌else◌, ◌&&◌, ◌||◌, List, [], ◌∷◌, ◌++◌, drop, codes, arith, inl, inr}
 use Rattle.std.specs.List.{filter, prefix_len}
 use Rattle.std.proofs.lemmas.Bool.{and_parts}
 use Rattle.std.proofs.lemmas.Bool.Decides.{nat_tests}
@@ -7,9 +7,9 @@ use Rattle.markdown_html_model.specs.Escaped.{addressed, address_byte}
 use Rattle.markdown_html_model.specs.Schemes.{goes_on_scheme, is_listed, is_safe, link_schemes, scheme_of}
 use Rattle.markdown_html_model.proofs.NoMarkup.{addressed_quiet}
 use Rattle.markdown_html_model.specs.Html.{Page, address}
-use Rattle.markdown_html_model.specs.BrowserScheme.{is_control_or_space, is_safe_value, is_scheme_byte, is_tab_or_newline, scheme_of_input, url_input, url_scheme}
+use Rattle.markdown_html_model.specs.BrowserScheme.{is_control_or_space, is_safe_value, is_scheme_byte, is_tab_or_newline, url_input, url_scheme}
 use Rattle.markdown_html_model.specs.OwnMarkup.{IsAddress, HasNoMarkup}
-use Rattle.markdown_html_model.proofs.SchemesRead.{before_colon, IsSameIfSome, follows-listed, input-listed, other-follows, same-follows, scheme_of-is}
+use Rattle.markdown_html_model.proofs.SchemesRead.{before_colon, IsSameIfSome, follows-listed, input-listed, same-follows, scheme_of-is}
 use Rattle.markdown_html_model.proofs.ValuesRead.{IsSpelling, address-spelling, address-visible, addressed-spelled, all-visible, ampersands-alone, is_visible, short-spelling, short-visible, short_byte, spelled, value-read}
 
 visible-kept : (c : ℕ) → nat_lt 32 c ≡ true → (not (is_tab_or_newline c) ≡ true) × (is_control_or_space c ≡ false)
@@ -26,10 +26,7 @@ kept (c ∷ bs) h =
 
 front-kept : (bs : List ℕ) → is_visible bs ≡ true → prefix_len is_control_or_space bs ≡ 0
 front-kept [] h = refl
-front-kept (c ∷ bs) h =
-    let parts = and_parts (nat_lt 32 c) (is_visible bs) h in
-    let v = visible-kept c parts.0 in
-    ap (λ k. cond k (1 + prefix_len is_control_or_space bs) 0) v.1
+front-kept (c ∷ bs) h = grind (arith, and_parts, visible-kept)
 
 input-is : (bs : List ℕ) → is_visible bs ≡ true → url_input bs ≡ bs
 input-is bs h = ap (λ n. filter (λ b. not (is_tab_or_newline b)) (drop n bs)) (front-kept bs h) ∙ kept bs h
@@ -38,11 +35,8 @@ input-is bs h = ap (λ n. filter (λ b. not (is_tab_or_newline b)) (drop n bs)) 
 
 byte-follows : (b : ℕ) (bytes rest more : List ℕ) → IsSpelling b bytes → IsSameIfSome (before_colon is_scheme_byte rest) (before_colon goes_on_scheme more)
     → IsSameIfSome (before_colon is_scheme_byte (bytes ++ rest)) (before_colon goes_on_scheme (b ∷ more))
-byte-follows b bytes rest more (inl e) f =
-    subst (λ bs. IsSameIfSome (before_colon is_scheme_byte (bs ++ rest)) (before_colon goes_on_scheme (b ∷ more))) (sym e) (same-follows b rest more f)
-byte-follows b bytes rest more (inr s) f =
-    subst (λ bs. IsSameIfSome (before_colon is_scheme_byte (bs ++ rest)) (before_colon goes_on_scheme (b ∷ more))) (sym s.2)
-    (other-follows s.0 (s.1 ++ rest) (before_colon goes_on_scheme (b ∷ more)) s.3 s.4)
+byte-follows b bytes rest more (inl e) f = grind (arith, same-follows)
+byte-follows b bytes rest more (inr s) f = cc
 
 spelled-follows : (f : ℕ → List ℕ → List ℕ) → ((b : ℕ) (rest : List ℕ) → IsSpelling b (f b rest)) → (a : List ℕ)
     → IsSameIfSome (before_colon is_scheme_byte (spelled f a)) (before_colon goes_on_scheme a)
@@ -52,10 +46,7 @@ spelled-follows f each (b ∷ rest) = byte-follows b (f b rest) (spelled f rest)
 spelled-listed : (schemes : List (List ℕ)) (f : ℕ → List ℕ → List ℕ) → ((b : ℕ) (rest : List ℕ) → IsSpelling b (f b rest)) → ((b : ℕ) (rest : List ℕ) → is_visible (f b rest) ≡ true)
     → (a : List ℕ) → is_safe schemes a ≡ true → is_listed schemes (url_scheme (spelled f a)) ≡ true
 unfolding is_safe
-spelled-listed schemes f spells shows a safe =
-    let listed : is_listed schemes (before_colon goes_on_scheme a) ≡ true = ap (is_listed schemes) (sym (scheme_of-is a)) ∙ safe in
-    subst (λ w. is_listed schemes (scheme_of_input w) ≡ true) (sym (input-is (spelled f a) (all-visible f shows a)))
-    (input-listed schemes (spelled f a) (follows-listed schemes _ _ (spelled-follows f spells a) listed))
+spelled-listed schemes f spells shows a safe = grind (arith, scheme_of-is, input-is, all-visible, input-listed, follows-listed, spelled-follows)
 
 all-three : (a b c : Bool) → a ≡ true → b ≡ true → c ≡ true → (a && b && c) ≡ true
 all-three a b c f g h = ap (λ x. x && b && c) f ∙ ap (λ x. true && x && c) g ∙ ap (λ x. true && true && x) h
@@ -70,9 +61,7 @@ spelled-safe schemes a safe =
 
 written-safe : (schemes : List (List ℕ)) (a : List ℕ) (any safe : Bool) → any ≡ false → is_safe schemes a ≡ safe → is_safe_value schemes (if any || safe then addressed a else []) ≡ true
 unfolding is_safe_value
-written-safe schemes a true safe e s = cc
-written-safe schemes a false true e s = ap (is_safe_value schemes) (addressed-spelled a) ∙ spelled-safe schemes a s
-written-safe schemes a false false e s = refl
+written-safe schemes a any safe e s = grind (arith, addressed-spelled, spelled-safe)
 
 written-quiet : (a : List ℕ) (c : Bool) → HasNoMarkup (if c then addressed a else [])
 written-quiet a true = addressed_quiet a

@@ -1,5 +1,5 @@
 -- The HTML of a tree is the writer's own markup.
-use Rattle.std.proofs.Common.{◌≡◌, ◌∙◌, sym, ap, refl, subst, ℕ, decimal, Bool, true, false, if◌then◌else◌, List, [], ◌∷◌, ◌++◌, append-nil, append_assoc, codes, Option, None, Some}
+use Rattle.std.proofs.Common.{◌≡◌, ◌∙◌, sym, ap, refl, subst, ℕ, decimal, Bool, true, false, if◌then◌else◌, List, [], ◌∷◌, ◌++◌, append-nil, append_assoc, codes, Option, None, Some, arith}
 use Rattle.markdown_content.specs.Codes.{stop_of, document_start}
 use Rattle.markdown_content.specs.Tree.{Forest, empty, leaf_then, group_then, start_of}
 use Rattle.markdown_event.specs.declared.event.Name.{Name}
@@ -9,7 +9,7 @@ use Rattle.markdown_html_model.specs.Resolved.{resolved}
 use Rattle.markdown_html_model.specs.Schemes.{link_schemes, image_schemes}
 use Rattle.markdown_html_model.proofs.NoMarkup.{addressed_quiet, escaped_quiet}
 use Rattle.markdown_html_model.specs.Html.{Page, PartsSoFar, Target, Written, address, around, beside, bytes_from, call_html, call_identifier, call_link, call_suffix, check_html, footnote_number, group_html, html, image_html}
-use Rattle.markdown_html_model.specs.Html.{innermost, leaf_html, line_end, line_ending, link_html, own_link, own_link_outside, raw_html, span_html, span_text, tag, target_of, text_between, text_html, times_called, title_attribute, within_of, written}
+use Rattle.markdown_html_model.specs.Html.{innermost, leaf_html, line_end, line_ending, link_html, own_link, own_link_outside, raw_html, span_html, span_text, tag, target_of, text_html, times_called, title_attribute, within_of, written}
 use Rattle.markdown_html_model.specs.Roles.{role_of}
 use Rattle.markdown_html_model.specs.declared.options.LineEnds.{LineEnds}
 use Rattle.markdown_html_model.specs.declared.role.Role.{Role}
@@ -33,21 +33,18 @@ IsBounded any p =
 
 in-append : (any : Bool) (within : Within) (x y : List ℕ) → IsOwnIn any within x → IsOwnIn any within y → IsOwnIn any within (x ++ y)
 in-append any Within.InText x y h g = tt
-in-append any Within.Outside x y h g = own-append any x y h g
-in-append any Within.InLink x y h g = own-append any x y h g
+in-append any within x y h g = own-append any x y h g
 
 in-nothing : (any : Bool) (within : Within) → IsOwnIn any within []
 in-nothing any Within.InText = tt
-in-nothing any Within.Outside = own-nothing any
-in-nothing any Within.InLink = own-nothing any
+in-nothing any within = own-nothing any
 
 in-kept : (any : Bool) (within : Within) (x : List ℕ) → IsOwnIn any within x → IsOwnIn any within (x ++ [])
 in-kept any within x h = subst (IsOwnIn any within) (sym (append-nil x)) h
 
 in-text : (any : Bool) (within : Within) (text : List ℕ) → IsOwnIn any within (text_html within text)
 in-text any Within.InText text = tt
-in-text any Within.Outside text = own-text any (escaped text) (escaped_quiet text)
-in-text any Within.InLink text = own-text any (escaped text) (escaped_quiet text)
+in-text any within text = own-text any (escaped text) (escaped_quiet text)
 
 -- Innermost things.
 
@@ -56,8 +53,7 @@ raw-off any c text off = subst (λ c. IsOwnMarkup any (if c then text else escap
 
 in-raw : (any : Bool) (p : Page) → IsBounded any p → (within : Within) (text : List ℕ) → IsOwnIn any within (raw_html p within text)
 in-raw any p b Within.InText text = tt
-in-raw any p b Within.Outside text = raw-off any p.options.raw_html text b.0
-in-raw any p b Within.InLink text = raw-off any p.options.raw_html text b.0
+in-raw any p b within text = raw-off any p.options.raw_html text b.0
 
 untitled-end : (front : List ℕ) → front ++ codes "\"" ++ title_bytes None ++ codes ">" ≡ front ++ codes "\">"
 untitled-end front = ap (λ x. x ++ codes ">") (append-nil (front ++ codes "\"")) ∙ append_assoc front (codes "\"") (codes ">")
@@ -73,28 +69,23 @@ own-address any p b before text =
 
 in-own_link : (any : Bool) (p : Page) → IsBounded any p → (within : Within) (before text : List ℕ) → IsOwnIn any within (own_link p within before text)
 in-own_link any p b Within.InText before text = tt
-in-own_link any p b Within.Outside before text = own-address any p b before text
-in-own_link any p b Within.InLink before text = own-address any p b before text
+in-own_link any p b within before text = own-address any p b before text
 
 in-literal : (any : Bool) (p : Page) → IsBounded any p → (within : Within) (before text : List ℕ) → IsOwnIn any within (own_link_outside p within before text)
 in-literal any p b Within.InText before text = tt
-in-literal any p b Within.Outside before text = own-address any p b before text
-in-literal any p b Within.InLink before text = own-text any (escaped text) (escaped_quiet text)
+in-literal any p b within before text = grind (arith, own-address, own-text, escaped_quiet)
 
 in-break : (any : Bool) (within : Within) → IsOwnIn any within (tag within (codes "<br />"))
 in-break any Within.InText = tt
-in-break any Within.Outside = own-void any line_break tt
-in-break any Within.InLink = own-void any line_break tt
+in-break any within = own-void any line_break tt
 
 quiet-line_ending : (ends : LineEnds) (text : List ℕ) → HasNoMarkup (line_ending ends text)
 quiet-line_ending LineEnds.Kept text = escaped_quiet text
-quiet-line_ending LineEnds.Lf text = refl
-quiet-line_ending LineEnds.CrLf text = refl
+quiet-line_ending ends text = refl
 
 in-line_end : (any : Bool) (p : Page) (within : Within) (text : List ℕ) → IsOwnIn any within (line_end p within text)
 in-line_end any p Within.InText text = tt
-in-line_end any p Within.Outside text = own-text any _ (quiet-line_ending p.options.line_ends text)
-in-line_end any p Within.InLink text = own-text any _ (quiet-line_ending p.options.line_ends text)
+in-line_end any p within text = own-text any _ (quiet-line_ending p.options.line_ends text)
 
 in-leaf : (any : Bool) (p : Page) → IsBounded any p → (within : Within) (role : Role) (text : List ℕ) → IsOwnIn any within (leaf_html p within role text)
 in-leaf any p b within Role.Plain text = in-text any within text
@@ -113,8 +104,7 @@ in-leaf any p b within role text = in-nothing any within
 in-element : (any : Bool) (within : Within) (before after inside : List ℕ) → IsOwnIn any within inside
     → (IsOwnMarkup any inside → IsOwnMarkup any (before ++ inside ++ after)) → IsOwnIn any within (tag within before ++ inside ++ tag within after)
 in-element any Within.InText before after inside h f = tt
-in-element any Within.Outside before after inside h f = f h
-in-element any Within.InLink before after inside h f = f h
+in-element any within before after inside h f = f h
 
 own-span : (any : Bool) (front text : List ℕ) → ((inside : List ℕ) → IsOwnMarkup any inside → IsOwnMarkup any (front ++ inside ++ codes "</code>")) → IsOwnMarkup any (front ++ escaped text ++ codes "</code>")
 own-span any front text f = f (escaped text) (own-text any (escaped text) (escaped_quiet text))
@@ -122,8 +112,7 @@ own-span any front text f = f (escaped text) (own-text any (escaped text) (escap
 in-span : (any : Bool) (within : Within) (front text : List ℕ) → ((inside : List ℕ) → IsOwnMarkup any inside → IsOwnMarkup any (front ++ inside ++ codes "</code>"))
     → IsOwnIn any within (span_html within front text)
 in-span any Within.InText front text f = tt
-in-span any Within.Outside front text f = own-span any front text f
-in-span any Within.InLink front text f = own-span any front text f
+in-span any within front text f = own-span any front text f
 
 own-link : (any : Bool) (href : List ℕ) (title : Option (List ℕ)) (inside : List ℕ) → IsAddress any link_schemes href → IsOwnMarkup any inside
     → IsOwnMarkup any (codes "<a href=\"" ++ href ++ codes "\"" ++ title_attribute title ++ codes ">" ++ inside ++ codes "</a>")
@@ -137,21 +126,16 @@ own-image any src (Some title) alt h = own-void any (image src (escaped alt) (So
 
 in-link : (any : Bool) (p : Page) → IsBounded any p → (within : Within) (to : Target) (inside : List ℕ) → IsOwnIn any (within_of within Role.Link) inside → IsOwnIn any within (link_html p within to inside)
 in-link any p b Within.InText to inside h = tt
-in-link any p b Within.Outside to inside h = own-link any (address p link_schemes to.destination) to.title inside (b.1 to.destination) h
-in-link any p b Within.InLink to inside h = own-link any (address p link_schemes to.destination) to.title inside (b.1 to.destination) h
+in-link any p b within to inside h = own-link any (address p link_schemes to.destination) to.title inside (b.1 to.destination) h
 
 in-image : (any : Bool) (p : Page) → IsBounded any p → (within : Within) (to : Target) (inside : List ℕ) → IsOwnIn any within (image_html p within to inside)
 in-image any p b Within.InText to inside = tt
-in-image any p b Within.Outside to inside = own-image any (address p image_schemes to.destination) to.title inside (b.2 to.destination)
-in-image any p b Within.InLink to inside = own-image any (address p image_schemes to.destination) to.title inside (b.2 to.destination)
+in-image any p b within to inside = own-image any (address p image_schemes to.destination) to.title inside (b.2 to.destination)
 
 in-check : (any : Bool) (within : Within) (inside : List ℕ) → IsOwnIn any within (check_html within inside)
-in-check any Within.InText [] = tt
-in-check any Within.InText (b ∷ bs) = tt
-in-check any Within.Outside [] = own-void any unchecked tt
-in-check any Within.Outside (b ∷ bs) = own-void any checked tt
-in-check any Within.InLink [] = own-void any unchecked tt
-in-check any Within.InLink (b ∷ bs) = own-void any checked tt
+in-check any Within.InText inside = tt
+in-check any within (b ∷ bs) = own-void any checked tt
+in-check any within [] = own-void any unchecked tt
 
 own-call : (any : Bool) (identifier : List ℕ) (number times : ℕ) → IsOwnMarkup any (codes "<sup>" ++ call_link identifier number times ++ codes "</sup>")
 own-call any identifier number times =
@@ -162,8 +146,7 @@ own-call any identifier number times =
 
 in-call : (any : Bool) (within : Within) (identifier : List ℕ) (before : List (List ℕ)) → IsOwnIn any within (call_html within identifier before)
 in-call any Within.InText identifier before = tt
-in-call any Within.Outside identifier before = own-call any identifier (footnote_number identifier before) (times_called identifier before)
-in-call any Within.InLink identifier before = own-call any identifier (footnote_number identifier before) (times_called identifier before)
+in-call any within identifier before = own-call any identifier (footnote_number identifier before) (times_called identifier before)
 
 in-group : (any : Bool) (p : Page) → IsBounded any p →
     (before : List (List ℕ)) (within : Within) (role : Role) (a z : Point) (inside : List ℕ) (parts : PartsSoFar)
@@ -191,8 +174,7 @@ abbrev pub IsOwnHtml : Bool → Within → Written → Type 0
 IsOwnHtml any within w = IsOwnIn any within w.html
 
 own-innermost : (any : Bool) (p : Page) → IsBounded any p → (before : List (List ℕ)) (within : Within) (role : Role) (a z : Point) → IsOwnHtml any within (innermost p before within role a z)
-own-innermost any p b before within role a z =
-    in-group any p b before within role a z _ _ (in-leaf any p b (within_of within role) role (text_between p.bytes a z))
+own-innermost any p b before within role a z = grind (arith, in-group, in-leaf)
 
 own-around : (any : Bool) (p : Page) → IsBounded any p → (before : List (List ℕ)) (within : Within) (role : Role) (a z : Point) (w : Written)
     → IsOwnHtml any (within_of within role) w → IsOwnHtml any within (around p before within role a z w)

@@ -1,7 +1,7 @@
 -- Bytes that stand in HTML as they are.
 use Rattle.std.proofs.Common.{◌≡◌, ◌∙◌, sym, ap, refl, subst, ℕ, zero, suc, ◌+◌, ◌-◌, ◌<◌, ◌≤◌, ◌==◌, ◌||◌, not, Bool, true, false, if◌then◌else◌, List, [], ◌∷◌, ◌++◌, append_assoc, get_or, length, take, drop, arith}
 use Rattle.std.specs.Prelude.{codes}
-use Rattle.std.specs.List.{flat_map, slice_range}
+use Rattle.std.specs.List.{slice_range}
 use Rattle.std.proofs.lemmas.Grind.{flat_map-append}
 use Rattle.std.proofs.lemmas.List.{take_more, drop_more, drop-drop, get_or-drop, length-drop}
 use Rattle.std.proofs.Math.Seq.{take-add}
@@ -9,12 +9,8 @@ use Rattle.markdown_html_model.specs.Escaped.{escaped_byte, escaped, is_kept}
 
 unescaped : (p q r s t : Bool) (b : ℕ) → not (p || q || r || s || t) ≡ true
     → (if p then codes "&amp;" else (if q then codes "&lt;" else (if r then codes "&gt;" else (if s then codes "&quot;" else (if t then 239 ∷ 191 ∷ 189 ∷ [] else b ∷ []))))) ≡ b ∷ []
-unescaped true q r s t b h = cc
-unescaped false true r s t b h = cc
-unescaped false false true s t b h = cc
-unescaped false false false true t b h = cc
-unescaped false false false false true b h = cc
 unescaped false false false false false b h = refl
+unescaped p q r s t b h = cc
 
 kept-byte : (b : ℕ) → is_kept b ≡ true → escaped_byte b ≡ b ∷ []
 kept-byte b h = unescaped (b == 38) (b == 60) (b == 62) (b == 34) (b == 0) b h
@@ -22,13 +18,7 @@ kept-byte b h = unescaped (b == 38) (b == 60) (b == 62) (b == 34) (b == 0) b h
 -- one more byte that stands as it is
 kept-one : (xs : List ℕ) (i : ℕ) → escaped (take i xs) ≡ take i xs → i < length xs → is_kept (get_or xs i 0) ≡ true → escaped (take (i + 1) xs) ≡ take (i + 1) xs
 unfolding escaped
-kept-one xs i so_far h is =
-    let e = take_more xs i 0 h in
-    ap (flat_map escaped_byte) e
-    ∙ flat_map-append escaped_byte (take i xs) (get_or xs i 0 ∷ [])
-    ∙ ap (λ bs. bs ++ (escaped_byte (get_or xs i 0) ++ [])) so_far
-    ∙ ap (λ bs. take i xs ++ (bs ++ [])) (kept-byte (get_or xs i 0) is)
-    ∙ sym e
+kept-one xs i so_far h is = grind (arith, take_more xs i 0 h, flat_map-append escaped_byte (take i xs) (get_or xs i 0 ∷ []), kept-byte (get_or xs i 0) is)
 
 kept-front : (xs : List ℕ) (n : ℕ) → n ≤ length xs → ((k : ℕ) → k < n → is_kept (get_or xs k 0) ≡ true) → escaped (take n xs) ≡ take n xs
 unfolding escaped
@@ -40,23 +30,13 @@ kept-front xs (suc n) h are =
 
 -- a stretch of bytes that stand as they are
 pub kept-range : (xs : List ℕ) (i j : ℕ) → i ≤ j → j ≤ length xs → ((k : ℕ) → i ≤ k → k < j → is_kept (get_or xs k 0) ≡ true) → escaped (slice_range xs i j) ≡ slice_range xs i j
-kept-range xs i j h l are =
-    kept-front (drop i xs) (j - i) (omega (arith, length-drop i xs))
-    (λ k low. ap is_kept (get_or-drop i xs k 0) ∙ are (i + k) (omega arith) (omega arith))
+kept-range xs i j h l are = grind (arith, kept-front, length-drop, get_or-drop)
 
 range-split : (xs : List ℕ) (i j k : ℕ) → i ≤ j → j ≤ k → slice_range xs i k ≡ slice_range xs i j ++ slice_range xs j k
-range-split xs i j k h l =
-    let len : k - i ≡ (j - i) + (k - j) = omega arith in
-    let at : i + (j - i) ≡ j = omega arith in
-    ap (λ n. take n (drop i xs)) len
-    ∙ take-add (j - i) (k - j) (drop i xs)
-    ∙ ap (λ bs. take (j - i) (drop i xs) ++ take (k - j) bs) (drop-drop (j - i) i xs ∙ ap (λ n. drop n xs) at)
+range-split xs i j k h l = grind (arith, take-add (j - i) (k - j) (drop i xs), drop-drop (j - i) i xs)
 
 range-cons : (xs : List ℕ) (j k : ℕ) → j < k → k ≤ length xs → slice_range xs j k ≡ get_or xs j 0 ∷ slice_range xs (j + 1) k
-range-cons xs j k h l =
-    let len : k - j ≡ suc (k - (j + 1)) = omega arith in
-    ap (take (k - j)) (drop_more xs j 0 (omega arith))
-    ∙ ap (λ n. take n (get_or xs j 0 ∷ drop (j + 1) xs)) len
+range-cons xs j k h l = grind (arith, drop_more)
 
 escaped-cons : (b : ℕ) (rest : List ℕ) → escaped (b ∷ rest) ≡ escaped_byte b ++ escaped rest
 unfolding escaped
@@ -86,5 +66,4 @@ range_more whole out out' xs i j k h l m so_far are e =
     ∙ so_far
 
 pub range_end : (whole out out' xs : List ℕ) (i j k : ℕ) → out ++ escaped (slice_range xs i k) ≡ whole → escaped (slice_range xs i j) ≡ slice_range xs i j → j ≡ k → out' ≡ out ++ slice_range xs i j → out' ≡ whole
-range_end whole out out' xs i j k so_far are is e =
-    e ∙ ap (λ bs. out ++ bs) (sym are) ∙ ap (λ n. out ++ escaped (slice_range xs i n)) is ∙ so_far
+range_end whole out out' xs i j k so_far are is e = grind arith

@@ -1,5 +1,5 @@
 -- Own markup put together.
-use Rattle.std.proofs.Common.{◌≡◌, ◌∙◌, sym, ap, refl, ℕ, Bool, List, [], ◌++◌, append-nil, append_assoc}
+use Rattle.std.proofs.Common.{◌≡◌, ◌∙◌, sym, ap, refl, ℕ, Bool, List, [], ◌++◌, append-nil, append_assoc, arith}
 use Rattle.markdown_html_model.specs.OwnMarkup.{HoldingElement, Void, Markup, nothing, text_then, void_then, element_then, element_bytes, void_bytes, bytes_of, HasNoMarkup, IsOwn, IsOwnElement, IsOwnVoid, IsOwnMarkup}
 
 joined : Markup → Markup → Markup
@@ -13,9 +13,7 @@ unfolding joined
 joined-bytes nothing n = refl
 joined-bytes (text_then text rest) n = append_assoc text (bytes_of rest) (bytes_of n) ∙ ap (λ x. text ++ x) (joined-bytes rest n)
 joined-bytes (void_then void rest) n = append_assoc (void_bytes void) (bytes_of rest) (bytes_of n) ∙ ap (λ x. void_bytes void ++ x) (joined-bytes rest n)
-joined-bytes (element_then element inside rest) n =
-    append_assoc (element_bytes element (bytes_of inside)) (bytes_of rest) (bytes_of n)
-    ∙ ap (λ x. element_bytes element (bytes_of inside) ++ x) (joined-bytes rest n)
+joined-bytes (element_then element inside rest) n = grind (arith, append_assoc, joined-bytes rest n)
 
 joined-own : (any : Bool) (m n : Markup) → IsOwn any m → IsOwn any n → IsOwn any (joined m n)
 unfolding joined
@@ -38,5 +36,4 @@ own-element any element inside h own =
     (element_then element own.0 nothing, (h, own.1, tt), ap (element_bytes element) own.2 ∙ sym (append-nil (element_bytes element (bytes_of own.0))))
 
 pub own-append : (any : Bool) (x y : List ℕ) → IsOwnMarkup any x → IsOwnMarkup any y → IsOwnMarkup any (x ++ y)
-own-append any x y h g =
-    (joined h.0 g.0, joined-own any h.0 g.0 h.1 g.1, ap (λ w. w ++ y) h.2 ∙ ap (λ w. bytes_of h.0 ++ w) g.2 ∙ joined-bytes h.0 g.0)
+own-append any x y h g = grind (arith, joined-own, joined-bytes)

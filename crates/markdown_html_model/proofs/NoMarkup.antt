@@ -13,19 +13,11 @@ none : (x y z : Bool) → x ≡ false → y ≡ false → z ≡ false → (not (
 none x y z e f g = ap (λ w. not ((w || y) || z) && true) e ∙ ap (λ w. not ((false || w) || z) && true) f ∙ ap (λ w. not ((false || false) || w) && true) g
 
 escaped_byte_quiet : (b : ℕ) → has_no_markup (escaped_byte b) ≡ true
-escaped_byte_quiet b =
-    either (b == 38) _ _ (λ _. refl) (λ _.
-    either (b == 60) _ _ (λ _. refl) (λ e.
-    either (b == 62) _ _ (λ _. refl) (λ f.
-    either (b == 34) _ _ (λ _. refl) (λ g.
-    either (b == 0) _ _ (λ _. refl) (λ _. none (b == 60) (b == 62) (b == 34) e f g)))))
+escaped_byte_quiet b = grind (arith, either, none)
 
 all_quiet : (f : ℕ → List ℕ) → ((b : ℕ) → has_no_markup (f b) ≡ true) → (text : List ℕ) → has_no_markup (flat_map f text) ≡ true
 all_quiet f each [] = refl
-all_quiet f each (b ∷ text) =
-    list_all-append is_no_markup (f b) (flat_map f text)
-    ∙ ap (λ w. w && has_no_markup (flat_map f text)) (each b)
-    ∙ all_quiet f each text
+all_quiet f each (b ∷ text) = grind (arith, list_all-append, all_quiet f each text)
 
 pub escaped_quiet : (text : List ℕ) → has_no_markup (escaped text) ≡ true
 unfolding escaped
@@ -35,9 +27,7 @@ digit_quiet : (d : ℕ) → is_no_markup (hexadecimal d) ≡ true
 digit_quiet d = grind (arith, nat_tests)
 
 encoded_quiet : (b : ℕ) → has_no_markup (37 ∷ hexadecimal (b / 16) ∷ hexadecimal (b % 16) ∷ []) ≡ true
-encoded_quiet b =
-    ap (λ w. w && (is_no_markup (hexadecimal (b % 16)) && true)) (digit_quiet (b / 16))
-    ∙ ap (λ w. w && true) (digit_quiet (b % 16))
+encoded_quiet b = grind (arith, digit_quiet)
 
 kept_quiet : (b : ℕ) (rest : List ℕ) → ((b == 37 && begins_encoded rest) || is_address_byte b) ≡ true → has_no_markup (b ∷ []) ≡ true
 kept_quiet b rest h = grind (arith, nat_tests)
@@ -51,7 +41,4 @@ address_byte_quiet b rest =
 pub addressed_quiet : (address : List ℕ) → has_no_markup (addressed address) ≡ true
 unfolding addressed
 addressed_quiet [] = refl
-addressed_quiet (b ∷ rest) =
-    list_all-append is_no_markup (address_byte b rest) (addressed rest)
-    ∙ ap (λ w. w && has_no_markup (addressed rest)) (address_byte_quiet b rest)
-    ∙ addressed_quiet rest
+addressed_quiet (b ∷ rest) = grind (arith, list_all-append, address_byte_quiet, addressed_quiet rest)

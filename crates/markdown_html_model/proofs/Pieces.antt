@@ -1,8 +1,8 @@
 -- A text of which some bytes stand as they are.
-use Rattle.std.proofs.Common.{◌≡◌, ◌∙◌, sym, ap, refl, ℕ, suc, ◌+◌, Bool, true, false, ◌==◌, ◌&&◌, ◌||◌, cond, if◌then◌else◌, List, [], ◌∷◌, ◌++◌, append-nil, append_assoc, length, take, drop, arith}
+use Rattle.std.proofs.Common.{◌≡◌, ◌∙◌, sym, ap, refl, ℕ, suc, ◌+◌, Bool, true, false, ◌==◌, ◌||◌, cond, if◌then◌else◌, List, [], ◌∷◌, ◌++◌, append-nil, append_assoc, length, take, drop, arith}
 use Rattle.std.specs.List.{prefix_len}
 use Rattle.std.proofs.lemmas.Bool.{eqb-true}
-use Rattle.markdown_html_model.specs.Escaped.{address_byte, addressed, is_address_byte, begins_encoded}
+use Rattle.markdown_html_model.specs.Escaped.{address_byte, addressed, is_address_byte}
 
 front-by : (F : List ℕ → List ℕ) (p : ℕ → Bool) → ((b : ℕ) (rest : List ℕ) → p b ≡ true → F (b ∷ rest) ≡ b ∷ F rest) → (b : ℕ) (rest : List ℕ) (m n : ℕ) (t : Bool) → p b ≡ t → n ≡ cond t (1 + m) 0
     → F rest ≡ take m rest ++ F (drop m rest) → F (b ∷ rest) ≡ take n (b ∷ rest) ++ F (drop n (b ∷ rest))
@@ -19,39 +19,24 @@ front-kept F p law (b ∷ rest) = front-by F p law b rest (prefix_len p rest) _ 
 -- what is written and what the rest gives stay the whole
 pub front_more : (F : List ℕ → List ℕ) (p : ℕ → Bool) → ((b : ℕ) (rest : List ℕ) → p b ≡ true → F (b ∷ rest) ≡ b ∷ F rest) → (whole out text kept behind : List ℕ) (n : ℕ) → out ++ F text ≡ whole
     → n ≡ prefix_len p text → kept ≡ take n text → behind ≡ drop n text → (out ++ kept) ++ F behind ≡ whole
-front_more F p law whole out text kept behind n so_far is front back =
-    ap (λ bs. (out ++ bs) ++ F behind) (front ∙ ap (λ k. take k text) is)
-    ∙ ap (λ bs. (out ++ take (prefix_len p text) text) ++ F bs) (back ∙ ap (λ k. drop k text) is)
-    ∙ append_assoc out (take (prefix_len p text) text) (F (drop (prefix_len p text) text))
-    ∙ ap (λ bs. out ++ bs) (sym (front-kept F p law text))
-    ∙ so_far
+front_more F p law whole out text kept behind n so_far is front back = grind (arith, append_assoc, front-kept)
 
 unlike : (b n : ℕ) → is_address_byte n ≡ false → is_address_byte b ≡ true → (t : Bool) → (b == n) ≡ t → (b == n) ≡ false
 unlike b n none is true e = let same : is_address_byte b ≡ is_address_byte n = ap is_address_byte (eqb-true b n e) in cc
 unlike b n none is false e = e
 
 picked : (p q r i : Bool) (x y z w : List ℕ) → p ≡ false → q ≡ false → i ≡ true → (if p then x else (if q then y else (if r || i then z else w))) ≡ z
-picked true q r i x y z w h k l = cc
-picked false true r i x y z w h k l = cc
-picked false false r false x y z w h k l = cc
-picked false false true true x y z w h k l = refl
-picked false false false true x y z w h k l = refl
+picked p q r i x y z w h k l = grind arith
 
 addressed-first : (b : ℕ) (rest : List ℕ) → addressed (b ∷ rest) ≡ address_byte b rest ++ addressed rest
 unfolding addressed
 addressed-first b rest = refl
 
 pub address-kept : (b : ℕ) (rest : List ℕ) → is_address_byte b ≡ true → addressed (b ∷ rest) ≡ b ∷ addressed rest
-address-kept b rest is =
-    addressed-first b rest
-    ∙ ap (λ bs. bs ++ addressed rest) (picked (b == 38) (b == 0) (b == 37 && begins_encoded rest) (is_address_byte b) _ _ _ _ (unlike b 38 refl is (b == 38) refl) (unlike b 0 refl is (b == 0) refl) is)
+address-kept b rest is = grind (arith, addressed-first, picked, unlike)
 
 pub address_more : (whole out out' left : List ℕ) (b : ℕ) (rest : List ℕ) → out ++ addressed left ≡ whole → left ≡ b ∷ rest → out' ≡ out ++ address_byte b rest → out' ++ addressed rest ≡ whole
-address_more whole out out' left b rest so_far is e =
-    ap (λ bs. bs ++ addressed rest) e
-    ∙ append_assoc out (address_byte b rest) (addressed rest)
-    ∙ ap (λ bs. out ++ bs) (sym (ap addressed is ∙ addressed-first b rest))
-    ∙ so_far
+address_more whole out out' left b rest so_far is e = grind (arith, append_assoc, addressed-first)
 
 pub address_end : (whole out left : List ℕ) → out ++ addressed left ≡ whole → length left ≡ 0 → out ≡ whole
 unfolding addressed

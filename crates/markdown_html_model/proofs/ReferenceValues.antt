@@ -1,6 +1,5 @@
 -- Values of references are UTF-8.
-use Rattle.std.proofs.Common.{◌≡◌, ℕ, ◌<◌, ◌≤◌, length, Bool, true, false, cond, eqb, List, [], ◌∷◌, All, Bor, refl, subst, Result, Ok, Err, MatchResult, arith}
-use Rattle.std.specs.Char.{is_ascii_alphanumeric, is_ascii_digit, is_ascii_hexdigit}
+use Rattle.std.proofs.Common.{◌≡◌, ℕ, ◌<◌, ◌≤◌, length, Bool, true, List, [], ◌∷◌, All, Bor, refl, subst, Result, Ok, Err, MatchResult, arith}
 use Rattle.std.specs.List.{list_all, prefix_len}
 use Rattle.std.specs.Result.{IsOk}
 use Rattle.std.specs.Str.{IsUtf8}
@@ -14,12 +13,7 @@ use Rattle.markdown_util.specs.Reference.{is_value, is_value_byte}
 use Rattle.markdown_util.proofs.WholeReference.{value_parts}
 
 byte_ascii : (marker b : ℕ) → is_value_byte marker b ≡ true → b < 128
-byte_ascii marker b h = go (eqb marker 38) (eqb marker 35) h
-  where
-    go : (x y : Bool) → cond x (is_ascii_alphanumeric b) (cond y (is_ascii_digit b) (is_ascii_hexdigit b)) ≡ true → b < 128
-    go true y h = grind (arith, nat_tests)
-    go false true h = grind (arith, nat_tests)
-    go false false h = grind (arith, nat_tests)
+byte_ascii marker b h = grind (arith, nat_tests)
 
 all_ascii : (marker : ℕ) (bs : List ℕ) → list_all (is_value_byte marker) bs ≡ true → All (λ b. b < 128) bs
 all_ascii marker [] h = All-nil (λ b. b < 128)

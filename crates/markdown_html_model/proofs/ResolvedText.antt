@@ -1,18 +1,16 @@
 -- A text resolved from the left, step by step.
-use Rattle.std.proofs.Common.{◌≡◌, ◌∙◌, sym, ap, refl, ℕ, zero, suc, List, [], ◌∷◌, ◌++◌, append-nil, append_assoc, drop, length, Bool, true, false, not, ◌||◌, ◌&&◌, ◌==◌, if◌then◌else◌}
+use Rattle.std.proofs.Common.{◌≡◌, ◌∙◌, sym, ap, refl, ℕ, suc, List, [], ◌∷◌, ◌++◌, append-nil, append_assoc, drop, length, Bool, true, false, not, ◌||◌, ◌&&◌, ◌==◌, if◌then◌else◌, arith}
 use Rattle.markdown_util.specs.declared.decoding.Decoding.{Decoding}
 use Rattle.markdown_html_model.specs.Resolved.{first_text, resolved, resolved_after, is_literal}
 
 -- what is skipped may as well be dropped
 skipped : (how : Decoding) (n : ℕ) (rest : List ℕ) → resolved_after how n rest ≡ resolved_after how 0 (drop n rest)
-skipped how zero rest = refl
-skipped how (suc n) [] = refl
 skipped how (suc n) (b ∷ rest) = skipped how n rest
+skipped how n rest = refl
 
 first-by : {A : Type 0} (p c q : Bool) (x y z : A) → not (p || q) ≡ true → (if p && c then x else (if q then y else z)) ≡ z
-first-by true c q x y z h = cc
-first-by false c true x y z h = cc
 first-by false c false x y z h = refl
+first-by p c q x y z h = cc
 
 pub literal-first : (how : Decoding) (b : ℕ) (rest : List ℕ) → is_literal b ≡ true → resolved how (b ∷ rest) ≡ b ∷ resolved how rest
 unfolding resolved
@@ -22,14 +20,7 @@ literal-first how b rest h = ap (λ (f : List ℕ × ℕ). f.0 ++ resolved_after
 pub resolved_more : (how : Decoding) (whole out out' text : List ℕ) (b : ℕ) (rest : List ℕ) (taken : ℕ) (left : List ℕ) → out ++ resolved how text ≡ whole → text ≡ b ∷ rest
     → (let read = first_text how b rest in (out' ≡ out ++ read.0) × (taken ≡ read.1)) → left ≡ drop taken rest → out' ++ resolved how left ≡ whole
 unfolding resolved
-resolved_more how whole out out' text b rest taken left so_far is read same =
-    let first = first_text how b rest in
-    ap (λ x. x ++ resolved_after how 0 left) (read.0)
-    ∙ append_assoc out first.0 (resolved_after how 0 left)
-    ∙ ap (λ x. out ++ (first.0 ++ resolved_after how 0 x)) (same ∙ ap (λ n. drop n rest) (read.1))
-    ∙ ap (λ x. out ++ (first.0 ++ x)) (sym (skipped how first.1 rest))
-    ∙ ap (λ x. out ++ resolved_after how 0 x) (sym is)
-    ∙ so_far
+resolved_more how whole out out' text b rest taken left so_far is read same = grind (arith, append_assoc, skipped)
 
 pub resolved_end : (how : Decoding) (whole out text : List ℕ) → out ++ resolved how text ≡ whole → length text ≡ 0 → out ≡ whole
 unfolding resolved

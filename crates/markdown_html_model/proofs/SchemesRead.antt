@@ -18,11 +18,7 @@ suc-is : (n : ℕ) → 1 + n ≡ suc n
 suc-is n = omega arith
 
 one-more : (b : ℕ) (bs : List ℕ) (n : ℕ) → by_len (suc n) (b ∷ bs) ≡ option_map (λ s. b ∷ s) (by_len n bs)
-one-more b bs n = go (begins_with_colon (drop n bs))
-  where
-    go : (c : Bool) → (if c then Some (b ∷ take n bs) else None) ≡ option_map (λ s. b ∷ s) (if c then Some (take n bs) else None)
-    go true = refl
-    go false = refl
+one-more b bs n = grind arith
 
 len-step : (b n : ℕ) (bs : List ℕ) (c : Bool) (rest : Option (List ℕ)) → by_len n bs ≡ rest
     → by_len (cond c (1 + n) 0) (b ∷ bs) ≡ (if c then option_map (λ s. b ∷ s) rest else (if b == 58 then Some [] else None))
@@ -69,33 +65,18 @@ mapped b (Some s) y f = ap (option_map (λ s. b ∷ s)) f
 step-follows : (x y : Option (List ℕ)) (c d k : Bool) → (c ≡ true → d ≡ true) → (k ≡ true → d ≡ false) → IsSameIfSome x y
     → IsSameIfSome (if c then x else (if k then Some [] else None)) (if d then y else (if k then Some [] else None))
 step-follows x y true true k g h f = f
-step-follows x y true false k g h f = let e = g refl in absurd (no e)
-  where
-    no : false ≡ true → ⊥
-    no e = cc
-step-follows x y false true true g h f = let e = h refl in absurd (no e)
-  where
-    no : true ≡ false → ⊥
-    no e = cc
 step-follows x y false false true g h f = refl
 step-follows x y false d false g h f = tt
+step-follows x y c d k g h f = grind arith
 
 -- a byte that stands for itself
 pub same-follows : (b : ℕ) (rest more : List ℕ) → IsSameIfSome (before_colon is_scheme_byte rest) (before_colon goes_on_scheme more)
     → IsSameIfSome (before_colon is_scheme_byte (b ∷ rest)) (before_colon goes_on_scheme (b ∷ more))
-same-follows b rest more f =
-    step-follows _ _ (is_scheme_byte b) (goes_on_scheme b) (b == 58) (scheme_byte-goes_on b) (colon-ends b) (mapped b _ _ f)
+same-follows b rest more f = grind (arith, step-follows, scheme_byte-goes_on, colon-ends, mapped)
 
 ended : (x : Option (List ℕ)) (c k : Bool) (y : Option (List ℕ)) → c ≡ false → k ≡ false → IsSameIfSome (if c then x else (if k then Some [] else None)) y
-ended x true k y g h = absurd (no g)
-  where
-    no : true ≡ false → ⊥
-    no e = cc
-ended x false true y g h = absurd (no h)
-  where
-    no : true ≡ false → ⊥
-    no e = cc
 ended x false false y g h = tt
+ended x c k y g h = cc
 
 -- a byte that no scheme has ends it
 pub other-follows : (c : ℕ) (rest : List ℕ) (y : Option (List ℕ)) → is_scheme_byte c ≡ false → (c == 58) ≡ false → IsSameIfSome (before_colon is_scheme_byte (c ∷ rest)) y

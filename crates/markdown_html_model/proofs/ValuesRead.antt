@@ -1,7 +1,6 @@
 -- An address as it is written, byte by byte: as it stands, and with its references read.
-use Rattle.std.proofs.Common.{◌≡◌, ◌∙◌, sym, ap, refl, subst, ℕ, ◌/◌, ◌%◌, Bool, true, false, not, nat_lt, if◌then◌else◌, ◌&&◌, ◌||◌, ◌==◌, List, [], ◌∷◌, ◌++◌, take, codes, arith, ◌⊎◌, inl, inr}
+use Rattle.std.proofs.Common.{◌≡◌, ◌∙◌, sym, ap, refl, subst, ℕ, ◌/◌, ◌%◌, Bool, true, false, not, nat_lt, if◌then◌else◌, ◌&&◌, ◌||◌, ◌==◌, List, [], ◌∷◌, ◌++◌, codes, arith, ◌⊎◌, inl, inr}
 use Rattle.std.specs.List.{list_all}
-use Rattle.std.specs.Str.{bytes_eq}
 use Rattle.std.proofs.lemmas.Bool.Decides.{nat_tests}
 use Rattle.std.proofs.lemmas.List.Folds.{list_all-append}
 use Rattle.markdown_html_model.specs.Escaped.{addressed, address_byte, begins_encoded, hexadecimal, is_address_byte}
@@ -51,27 +50,16 @@ digit-no_ampersand : (d : ℕ) → not (hexadecimal d == 38) ≡ true
 digit-no_ampersand d = grind (arith, nat_tests)
 
 encoded-no_ampersand : (b : ℕ) → has_no_ampersand (encoded b) ≡ true
-encoded-no_ampersand b =
-    ap (λ w. w && (not (hexadecimal (b % 16) == 38) && true)) (digit-no_ampersand (b / 16)) ∙ ap (λ w. w && true) (digit-no_ampersand (b % 16))
+encoded-no_ampersand b = grind (arith, digit-no_ampersand)
 
 -- what `&` does not begin is read as it stands
 plain-read : (xs ys : List ℕ) → has_no_ampersand xs ≡ true → read_after 0 (xs ++ ys) ≡ xs ++ read_after 0 ys
 plain-read [] ys h = refl
-plain-read (c ∷ xs) ys h = go (c == 38) (bytes_eq (take 4 (xs ++ ys)) (codes "amp;")) h (plain-read xs ys)
-  where
-    go : (k m : Bool) → (not k && has_no_ampersand xs) ≡ true → (has_no_ampersand xs ≡ true → read_after 0 (xs ++ ys) ≡ xs ++ read_after 0 ys)
-        → c ∷ read_after (if k && m then 4 else 0) (xs ++ ys) ≡ c ∷ xs ++ read_after 0 ys
-    go true m g ih = cc
-    go false m g ih = ap (λ w. c ∷ w) (ih g)
+plain-read (c ∷ xs) ys h = grind (arith, plain-read xs ys)
 
 plain-alone : (xs ys : List ℕ) → has_no_ampersand xs ≡ true → has_ampersands_alone (xs ++ ys) ≡ has_ampersands_alone ys
 plain-alone [] ys h = refl
-plain-alone (c ∷ xs) ys h = go (c == 38) (bytes_eq (take 4 (xs ++ ys)) (codes "amp;")) h (plain-alone xs ys)
-  where
-    go : (k m : Bool) → (not k && has_no_ampersand xs) ≡ true → (has_no_ampersand xs ≡ true → has_ampersands_alone (xs ++ ys) ≡ has_ampersands_alone ys)
-        → ((not k || (k && m)) && has_ampersands_alone (xs ++ ys)) ≡ has_ampersands_alone ys
-    go true m g ih = cc
-    go false m g ih = ih g
+plain-alone (c ∷ xs) ys h = grind (arith, plain-alone xs ys)
 
 -- what a byte is written as, beside how it is read
 abbrev pub IsReadBackAs : List ℕ → List ℕ → Type 0
@@ -90,11 +78,7 @@ others-plain b rest e =
     no e = cc
 
 ampersand-written : (b : ℕ) (rest : List ℕ) → (b == 38) ≡ true → address_byte b rest ≡ codes "&amp;"
-ampersand-written b rest e = go (b == 38) e _
-  where
-    go : (c : Bool) → c ≡ true → (x : List ℕ) → (if c then codes "&amp;" else x) ≡ codes "&amp;"
-    go true e x = refl
-    go false e x = cc
+ampersand-written b rest e = grind arith
 
 byte-read : (b : ℕ) (rest : List ℕ) → IsReadBackAs (address_byte b rest) (short_byte b rest)
 byte-read b rest =
@@ -104,9 +88,7 @@ byte-read b rest =
 
 pub value-read : (a : List ℕ) → value_read (spelled address_byte a) ≡ spelled short_byte a
 value-read [] = refl
-value-read (b ∷ rest) =
-    let r = byte-read b rest (spelled address_byte rest) in
-    r.0 ∙ ap (λ x. short_byte b rest ++ x) (value-read rest)
+value-read (b ∷ rest) = grind (arith, byte-read, value-read rest)
 
 pub ampersands-alone : (a : List ℕ) → has_ampersands_alone (spelled address_byte a) ≡ true
 ampersands-alone [] = refl
@@ -123,8 +105,7 @@ digit-visible : (d : ℕ) → nat_lt 32 (hexadecimal d) ≡ true
 digit-visible d = grind (arith, nat_tests)
 
 encoded-visible : (b : ℕ) → is_visible (encoded b) ≡ true
-encoded-visible b =
-    ap (λ w. w && (nat_lt 32 (hexadecimal (b % 16)) && true)) (digit-visible (b / 16)) ∙ ap (λ w. w && true) (digit-visible (b % 16))
+encoded-visible b = grind (arith, digit-visible)
 
 stays-visible : (b : ℕ) (rest : List ℕ) → stays b rest ≡ true → is_visible (b ∷ []) ≡ true
 stays-visible b rest h = grind (arith, nat_tests)
@@ -138,10 +119,7 @@ short-visible b rest = pick (λ bs. is_visible bs ≡ true) (b == 38) _ _ (λ _.
 
 pub all-visible : (f : ℕ → List ℕ → List ℕ) → ((b : ℕ) (rest : List ℕ) → is_visible (f b rest) ≡ true) → (a : List ℕ) → is_visible (spelled f a) ≡ true
 all-visible f each [] = refl
-all-visible f each (b ∷ rest) =
-    list_all-append (λ c. nat_lt 32 c) (f b rest) (spelled f rest)
-    ∙ ap (λ w. w && is_visible (spelled f rest)) (each b rest)
-    ∙ all-visible f each rest
+all-visible f each (b ∷ rest) = grind (arith, list_all-append, all-visible f each rest)
 
 -- A byte stands for itself, or what is written begins with a byte that no scheme has.
 
