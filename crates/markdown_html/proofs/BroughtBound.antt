@@ -63,9 +63,7 @@ where_within : (p : Page) (most : ℕ) → BringAtMost p.definitions most → (s
 where_within p most few seen = one-within seen.has_destination _ most (reference_within p most few seen.label seen.reference)
 
 seen_within : (p : Page) (most : ℕ) → BringAtMost p.definitions most → (role : Role) (seen : Seen) → seen_brought p role seen ≤ (if is_brought_to role then 1 else 0) * most
-seen_within p most few Role.Link seen = where_within p most few seen
-seen_within p most few Role.Image seen = where_within p most few seen
-seen_within p most few role seen = omega arith
+seen_within p most few role seen = grind (arith, where_within)
 
 -- What is left.
 
@@ -80,11 +78,7 @@ less-left (Some n) least less h k = omega (arith, h, k)
 
 taken-left : (left : Option ℕ) (least more taken : ℕ) → LeavesAtLeast left (more + least) → taken ≤ more → LeavesAtLeast (left_of left taken) least
 taken-left None least more taken h k = h
-taken-left (Some n) least more taken h k =
-    let low : taken ≤ n = omega (arith, h, k) in
-    let is : nat_le taken n ≡ true = grind (arith, nat_tests) in
-    let rest : least ≤ n - taken = omega (arith, h, k) in
-    subst (λ b. LeavesAtLeast (if b then Some (n - taken) else None) least) (sym is) rest
+taken-left (Some n) least more taken h k = grind (arith, nat_tests)
 
 close-left : (p : Page) (most : ℕ) → BringAtMost p.definitions most → (s : Counted) (opened : List Before) (role : Role) (to least : ℕ)
     → LeavesAtLeast s.left ((if is_brought_to role then 1 else 0) * most + least) → LeavesAtLeast (Counted.left (counted_close p s opened role to)) least
@@ -93,9 +87,7 @@ close-left p most few s (o ∷ opened) role to least h = taken-left s.left least
 
 step-left : (p : Page) (most : ℕ) → BringAtMost p.definitions most → (s : Counted) (role : Role) (kind : Kind) (at least : ℕ) (x : Bool)
     → LeavesAtLeast s.left ((if is_brought_to role then 1 else 0) * most + least) → LeavesAtLeast (Counted.left (if x then counted_apart p s role kind at else s)) least
-step-left p most few s role Kind.Enter at least true h = less-left s.left _ least h (omega arith)
-step-left p most few s role Kind.Exit at least true h = close-left p most few s s.opened role at least h
-step-left p most few s role kind at least false h = less-left s.left _ least h (omega arith)
+step-left p most few s role kind at least x h = grind (arith, less-left)
 
 walk-left : (p : Page) (most : ℕ) → BringAtMost p.definitions most → (events : List Event) (s : Counted) → LeavesAtLeast s.left (link_ends events * most) → LeavesAtLeast (Counted.left (counted p s events)) 0
 walk-left p most few [] s h = less-left s.left _ 0 h (omega arith)

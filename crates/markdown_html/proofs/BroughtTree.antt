@@ -42,11 +42,7 @@ joined-first x = same-seen _ _ _ _ _ _ (or-false x.has_destination) (or_else-non
 
 joined-assoc : (x y z : Seen) → joined_seen (joined_seen x y) z ≡ joined_seen x (joined_seen y z)
 unfolding seen_with
-joined-assoc x y z =
-    same-seen _ _ _ _ _ _
-    (or-assoc z.has_destination y.has_destination x.has_destination)
-    (or_else-assoc z.label y.label x.label)
-    (or_else-assoc z.reference y.reference x.reference)
+joined-assoc x y z = grind (arith, same-seen, or-assoc, or_else-assoc)
 
 -- of parts that are joined
 is_some-or_else : (x y : Option (List ℕ)) → is_some (or_else x y) ≡ (is_some x || is_some y)
@@ -60,14 +56,6 @@ seen-joined x y = same-seen _ _ _ _ _ _ (is_some-or_else y.destination x.destina
 -- of parts that something has of its own
 seen-own : (role : Role) (a b : Point) (string : List ℕ) (inside : PartsSoFar) → seen_of (own_parts role a b string inside) ≡ own_seen role a.index b.index (seen_of inside)
 seen-own Role.Destination a b string inside = refl
-seen-own Role.TitleText a b string inside = refl
-seen-own Role.Title a b string inside = refl
-seen-own Role.Resource a b string inside = refl
-seen-own Role.Label a b string inside = refl
-seen-own Role.FullReference a b string inside = refl
-seen-own Role.Link a b string inside = refl
-seen-own Role.Image a b string inside = refl
-seen-own Role.Footnote a b string inside = refl
 seen-own role a b string inside = refl
 
 -- What trees show to what is around them.
@@ -83,11 +71,7 @@ parts_within p before within t = let w = written p before within t in w.parts
 -- siblings, of which the first has parts of its own by these
 one-shown : (role : Role) (a b : Point) (string : List ℕ) (inside others : PartsSoFar) (i r : Seen) → seen_of inside ≡ i → seen_of others ≡ r
     → seen_of (joined_parts (own_parts role a b string inside) others) ≡ joined_seen (own_seen role a.index b.index i) r
-one-shown role a b string inside others i r e f =
-    seen-joined (own_parts role a b string inside) others
-    ∙ ap (λ x. joined_seen x (seen_of others)) (seen-own role a b string inside)
-    ∙ ap (λ x. joined_seen (own_seen role a.index b.index x) (seen_of others)) e
-    ∙ ap (λ x. joined_seen (own_seen role a.index b.index i) x) f
+one-shown role a b string inside others i r e f = grind (arith, seen-joined, seen-own)
 
 -- the parts that trees give show the same, wherever they stand and whatever calls come before them
 shown-is : (p : Page) (t : Forest) (before : List (List ℕ)) (within : Within) → seen_of (parts_within p before within t) ≡ shown t
@@ -125,30 +109,16 @@ by-resource p None title label reference = refl
 by-resource p (Some d) title label reference = refl
 
 own-brought : (p : Page) (role : Role) (parts : PartsSoFar) → own_brought p role parts ≡ seen_brought p role (seen_of parts)
-own-brought p Role.Link parts = by-resource p parts.destination parts.title parts.label parts.reference
-own-brought p Role.Image parts = by-resource p parts.destination parts.title parts.label parts.reference
-own-brought p role parts = refl
+own-brought p role parts = grind (arith, by-resource)
 
 none-brought : (p : Page) (role : Role) → seen_brought p role nothing_seen ≡ 0
-none-brought p Role.Link = refl
-none-brought p Role.Image = refl
-none-brought p role = refl
+none-brought p role = grind arith
 
 not-apart-brought : (p : Page) (role : Role) (seen : Seen) → is_apart role ≡ false → seen_brought p role seen ≡ 0
-not-apart-brought p Role.Link seen e = cc
-not-apart-brought p Role.Image seen e = cc
-not-apart-brought p role seen e = refl
+not-apart-brought p role seen e = grind arith
 
 not-apart-seen : (role : Role) (a b : ℕ) (seen : Seen) → is_apart role ≡ false → own_seen role a b seen ≡ seen
-not-apart-seen Role.Destination a b seen e = cc
-not-apart-seen Role.TitleText a b seen e = cc
-not-apart-seen Role.Resource a b seen e = cc
-not-apart-seen Role.Label a b seen e = cc
-not-apart-seen Role.FullReference a b seen e = cc
-not-apart-seen Role.Link a b seen e = cc
-not-apart-seen Role.Image a b seen e = cc
-not-apart-seen Role.Footnote a b seen e = cc
-not-apart-seen role a b seen e = refl
+not-apart-seen role a b seen e = grind arith
 
 -- What is left.
 
@@ -187,14 +157,8 @@ stepped-by p s role kind at x = if x then counted_apart p s role kind at else s
 around-by : (p : Page) (s : Counted) (role : Role) (a b : ℕ) (i : Seen) (n : ℕ) (x : Bool) → is_apart role ≡ x
     → stepped-by p (inside-of (stepped-by p s role Kind.Enter a x) i n) role Kind.Exit b x ≡ inside-of s (own_seen role a b i) (n + seen_brought p role i)
 unfolding count_with
-around-by p s role a b i n true e =
-    same-count _ _ s.opened _ _
-    (ap (λ y. joined_seen s.seen (own_seen role a b y)) (joined-first i))
-    (ap (λ y. left_of (left_of s.left n) (seen_brought p role y)) (joined-first i) ∙ left-more s.left n (seen_brought p role i))
-around-by p s role a b i n false e =
-    same-count _ _ s.opened _ _
-    (ap (joined_seen s.seen) (sym (not-apart-seen role a b i e)))
-    (ap (left_of s.left) (sym (add-zero n) ∙ ap (λ y. n + y) (sym (not-apart-brought p role i e))))
+around-by p s role a b i n true e = grind (arith, same-count, joined-first, left-more)
+around-by p s role a b i n false e = grind (arith, same-count, not-apart-seen, add-zero, not-apart-brought)
 
 around-all : (p : Page) (s : Counted) (role : Role) (a b : ℕ) (i : Seen) (n : ℕ)
     → stepped-by p (inside-of (stepped-by p s role Kind.Enter a (is_apart role)) i n) role Kind.Exit b (is_apart role) ≡ inside-of s (own_seen role a b i) (n + seen_brought p role i)
@@ -203,10 +167,7 @@ around-all p s role a b i n = around-by p s role a b i n (is_apart role) refl
 -- around nothing
 around-nothing : (p : Page) (s : Counted) (role : Role) (a b : ℕ)
     → stepped-by p (stepped-by p s role Kind.Enter a (is_apart role)) role Kind.Exit b (is_apart role) ≡ inside-of s (own_seen role a b nothing_seen) 0
-around-nothing p s role a b =
-    ap (λ y. stepped-by p y role Kind.Exit b (is_apart role)) (inside-none (stepped-by p s role Kind.Enter a (is_apart role)))
-    ∙ around-all p s role a b nothing_seen 0
-    ∙ ap (inside-of s (own_seen role a b nothing_seen)) (omega (arith, none-brought p role))
+around-nothing p s role a b = grind (arith, inside-none, around-all, none-brought)
 
 -- the walk over the events of these trees takes what is brought to them, whatever comes after
 abbrev Counts : Page → Forest → Type 0
@@ -215,12 +176,7 @@ Counts p t = (n : ℕ) (previous : Option ℕ) (s : Counted) (rest : List Event)
 leaf-counts : (p : Page) (name : Name) (a b : Point) (t : Forest) → Counts p t → (n : ℕ) (previous : Option ℕ) (s : Counted) (link : Option Link) (rest : List Event)
     → counted p s (enter_event name a link ∷ event Kind.Exit name b ∷ events_from n previous t ++ rest)
     ≡ counted p (inside-of s (joined_seen (own_seen (role_of name) a.index b.index nothing_seen) (shown t)) (brought p t)) rest
-leaf-counts p name a b t ih n previous s link rest =
-    let role = role_of name in
-    let own = own_seen role a.index b.index nothing_seen in
-    ap (λ x. counted p x (events_from n previous t ++ rest)) (around-nothing p s role a.index b.index)
-    ∙ ih n previous (inside-of s own 0) rest
-    ∙ ap (λ x. counted p x rest) (inside-more s own (shown t) 0 (brought p t) (brought p t) (omega arith))
+leaf-counts p name a b t ih n previous s link rest = grind (arith, around-nothing, inside-more)
 
 pub count-tree : (p : Page) (t : Forest) → Counts p t
 unfolding shown brought

@@ -1,5 +1,5 @@
 -- States that agree in all parts, and steps over a list of events.
-use Rattle.std.proofs.Common.{◌≡◌, ◌∙◌, sym, ap, refl, subst, ℕ, List, [], ◌∷◌, length, Option, Bool, true, false, if◌then◌else◌, Bor, Result, Ok, Err, MatchResult}
+use Rattle.std.proofs.Common.{◌≡◌, ◌∙◌, sym, ap, refl, subst, ℕ, List, [], ◌∷◌, length, Option, Bool, true, false, if◌then◌else◌, Bor, Result, Ok, Err, MatchResult, arith, rules}
 use Rattle.std.specs.Str.{is_utf8, IsUtf8}
 use Rattle.std.proofs.lemmas.Str.{is_utf8-from_IsUtf8, IsUtf8-from_is_utf8}
 use Rattle.markdown_content.specs.Tree.{Forest, events_from}
@@ -30,19 +30,12 @@ pub text-alone : (how : Decoding) (bytes : List ℕ) (cs : List Code) (rules : R
     → rules ≡ rules_of default_options → definitions ≡ [] → options ≡ Page.options (text_page how bytes) → before ≡ []
     → html_within (page-with bytes cs rules how definitions options) before Within.InText t ≡ plain_text_by how bytes t
 unfolding plain_text_by
-text-alone how bytes cs rules definitions options before t c r d o none =
-    ap (λ x. html_within (page-with bytes x rules how definitions options) before Within.InText t) c
-    ∙ ap (λ x. html_within (page-with bytes [] x how definitions options) before Within.InText t) r
-    ∙ ap (λ ds. html_within (page-with bytes [] (rules_of default_options) how ds options) before Within.InText t) d
-    ∙ ap (λ os. html_within (page-with bytes [] (rules_of default_options) how [] os) before Within.InText t) o
-    ∙ ap (λ calls. html_within (text_page how bytes) calls Within.InText t) none
+text-alone how bytes cs rules definitions options before t c r d o none = cc
 
 -- what reading a label as UTF-8 answers
 pub label_read : {E : Type 0} (r : Result (Bor (List ℕ)) E) (x : Bor (List ℕ)) (text : List ℕ) (Q : E → Type 0) → MatchResult r (λ s. (s.now ≡ text) × IsUtf8 text) Q → r ≡ Ok x
     → x.now ≡ (if is_utf8 text then text else [])
-label_read r x text Q h e =
-    let w = subst (λ r. MatchResult r (λ s. (s.now ≡ text) × IsUtf8 text) Q) e h in
-    w.0 ∙ ap (λ b. if b then text else []) (sym (is_utf8-from_IsUtf8 text w.1))
+label_read r x text Q h e = grind (arith, is_utf8-from_IsUtf8)
 
 unread : (b : Bool) (text : List ℕ) → (b ≡ true → ⊥) → [] ≡ (if b then text else [])
 unread true text h = absurd (h refl)

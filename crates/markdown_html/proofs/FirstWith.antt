@@ -1,5 +1,5 @@
 -- Where the first definition with an identifier stands, and its target.
-use Rattle.std.proofs.Common.{◌≡◌, ◌∙◌, sym, ap, refl, subst, ℕ, suc, Bool, true, false, cond, List, [], ◌∷◌, ◌++◌, length, Option, None, Some}
+use Rattle.std.proofs.Common.{◌≡◌, ◌∙◌, ap, refl, subst, ℕ, suc, Bool, true, cond, List, [], ◌∷◌, ◌++◌, length, Option, None, Some, arith}
 use Rattle.std.specs.Option.{option_map}
 use Rattle.std.specs.Str.{bytes_eq}
 use Rattle.std.proofs.lemmas.Slice.Eq.{bytes_eq-Decides}
@@ -12,26 +12,17 @@ or_last (Some n) last count = Some n
 or_last None last count = cond last (Some count) None
 
 one-more : (first last : Bool) (o : Option ℕ) (count : ℕ) → cond first (Some 0) (option_map suc (or_last o last count)) ≡ or_last (cond first (Some 0) (option_map suc o)) last (suc count)
-one-more true last o count = refl
-one-more false true None count = refl
-one-more false false None count = refl
-one-more false last (Some n) count = refl
+one-more first last o count = grind arith
 
 first-pushed : (q : List ℕ) (ds : List Defined) (d : Defined) → first_with q (ds ++ d ∷ []) ≡ or_last (first_with q ds) (bytes_eq d.identifier q) (length ds)
 first-pushed q [] d = refl
-first-pushed q (x ∷ ds) d =
-    ap (λ o. cond (bytes_eq x.identifier q) (Some 0) (option_map suc o)) (first-pushed q ds d)
-    ∙ one-more (bytes_eq x.identifier q) (bytes_eq d.identifier q) (first_with q ds) (length ds)
+first-pushed q (x ∷ ds) d = grind (arith, first-pushed q ds d, one-more)
 
 found-new : (last : Bool) (o : Option ℕ) (count : ℕ) → (last ≡ true → o ≡ None) → or_last o last count ≡ cond last (Some count) o
-found-new true o count f = ap (λ o. or_last o true count) (f refl)
-found-new false None count f = refl
-found-new false (Some n) count f = refl
+found-new last o count f = grind arith
 
 found-before : (last : Bool) (o : Option ℕ) (count n : ℕ) → (last ≡ true → o ≡ Some n) → or_last o last count ≡ o
-found-before true o count n f = ap (λ o. or_last o true count) (f refl) ∙ sym (f refl)
-found-before false None count n f = refl
-found-before false (Some m) count n f = refl
+found-before last o count n f = grind arith
 
 -- what holds of an identifier holds of each that is equal
 of-equal : (a b : List ℕ) (ds : List Defined) (o : Option ℕ) → first_with a ds ≡ o → bytes_eq a b ≡ true → first_with b ds ≡ o
@@ -44,9 +35,7 @@ pub first-before : (q : List ℕ) (ds : List Defined) (d : Defined) (n : ℕ) �
 first-before q ds d n h = first-pushed q ds d ∙ found-before (bytes_eq d.identifier q) (first_with q ds) (length ds) n (of-equal d.identifier q ds (Some n) h)
 
 target-more : (first : Bool) (d : Defined) (ds : List Defined) (o : Option ℕ) → cond first (target_with d) (target_at ds o) ≡ target_at (d ∷ ds) (cond first (Some 0) (option_map suc o))
-target-more true d ds o = refl
-target-more false d ds None = refl
-target-more false d ds (Some n) = refl
+target-more first d ds o = grind arith
 
 -- the first definition with an identifier has the target that the identifier is defined to have
 pub defined_first : (q : List ℕ) (ds : List Defined) → defined q ds ≡ target_at ds (first_with q ds)

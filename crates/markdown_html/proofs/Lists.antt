@@ -1,5 +1,5 @@
 -- Lists that grow by one.
-use Rattle.std.proofs.Common.{◌≡◌, ◌∙◌, ap, sym, refl, subst, ℕ, zero, suc, ◌+◌, ◌<◌, Bool, true, false, if◌then◌else◌, List, [], ◌∷◌, ◌++◌, All, None, Some, Option, IfSome, map, ◌==◌, ◌||◌, drop, get_or, length}
+use Rattle.std.proofs.Common.{◌≡◌, ◌∙◌, ap, sym, refl, subst, ℕ, suc, ◌+◌, ◌<◌, Bool, true, false, if◌then◌else◌, List, [], ◌∷◌, ◌++◌, All, None, Some, IfSome, map, ◌==◌, ◌||◌, drop, get_or, length, arith}
 use Rattle.std.specs.List.{list_any}
 use Rattle.std.proofs.lemmas.List.{drop_more}
 use Rattle.std.proofs.lemmas.List.Elements.{All-head, All-tail, All-nil}
@@ -19,10 +19,7 @@ first_in_order bytes e x es h g places =
 
 exit_of : (k : Kind) (p b : Point) → (elim k [ Enter ↦ None | Exit ↦ Some p ]) ≡ Some b → (k ≡ Exit) × (p ≡ b)
 exit_of Enter p b e = cc
-exit_of Exit p b e = (refl, some_same p b e)
-  where
-    some_same : (p b : Point) → Some p ≡ Some b → p ≡ b
-    some_same p b e = cc
+exit_of Exit p b e = grind arith
 
 pub ahead_in_order : (bytes : List ℕ) (e : Event) (rest : List Event) (b : Point) → e.kind ≡ Enter → exit_first rest ≡ Some b → All (IsSpanInOrder bytes) (innermost (e ∷ rest)) → IsStretch bytes e.point b
 ahead_in_order bytes e [] b h f places = cc
@@ -41,17 +38,12 @@ later_in_order bytes e (x ∷ es) places = without_first bytes (has_nothing_insi
 
 -- the places of an Enter, and of an Exit right behind it
 pub first_within : (bytes : List ℕ) (e : Event) (rest : List Event) → e.kind ≡ Enter → All (IsSpanInOrder bytes) (innermost (e ∷ rest)) → IfSome (exit_first rest) (λ to. IsStretch bytes e.point to)
-first_within bytes e rest h places = first-by (exit_first rest) refl
-  where
-    first-by : (o : Option Point) → exit_first rest ≡ o → IfSome o (λ to. IsStretch bytes e.point to)
-    first-by None f = tt
-    first-by (Some b) f = ahead_in_order bytes e rest b h f places
+first_within bytes e rest h places = grind (arith, ahead_in_order)
 
 -- the places of the events from an index on
 pub places_from : (bytes : List ℕ) (i : ℕ) (es : List Event) → All (IsSpanInOrder bytes) (innermost es) → All (IsSpanInOrder bytes) (innermost (drop i es))
-places_from bytes zero es places = places
-places_from bytes (suc i) [] places = places
 places_from bytes (suc i) (e ∷ es) places = places_from bytes i es (later_in_order bytes e es places)
+places_from bytes i es places = places
 
 -- the element at an index, and those behind it
 pub drop_at : {X : Type 0} (xs : List X) (i : ℕ) (x : X) → i < length xs → x ≡ get_or xs i x → drop i xs ≡ x ∷ drop (i + 1) xs

@@ -1,5 +1,5 @@
 -- What one more call changes of what is known of footnotes.
-use Rattle.std.proofs.Common.{◌≡◌, ◌∙◌, sym, ap, refl, ℕ, zero, suc, ◌+◌, ◌≤◌, arith, Bool, true, false, ◌||◌, cond, if◌then◌else◌, List, [], ◌∷◌, ◌++◌, map, reverse, length, Option, None, Some, string_bytes}
+use Rattle.std.proofs.Common.{◌≡◌, ◌∙◌, ap, refl, ℕ, zero, suc, ◌+◌, ◌≤◌, arith, Bool, true, false, ◌||◌, cond, if◌then◌else◌, List, [], ◌∷◌, ◌++◌, map, reverse, length, Option, None, Some, string_bytes}
 use Rattle.std.specs.Prelude.{String}
 use Rattle.std.specs.Str.{bytes_eq}
 use Rattle.std.proofs.lemmas.List.{map-append, reverse-append}
@@ -17,12 +17,7 @@ is_some (suc n) = true
 called-times : (q : List ℕ) (calls : List (List ℕ)) → is_called q calls ≡ is_some (times_called q calls)
 unfolding is_some
 called-times q [] = refl
-called-times q (call ∷ before) = go (bytes_eq call q) (called-times q before)
-  where
-    go : (same : Bool) → is_called q before ≡ is_some (times_called q before)
-        → (same || is_called q before) ≡ is_some (if same then suc (times_called q before) else times_called q before)
-    go true ih = refl
-    go false ih = ih
+called-times q (call ∷ before) = grind (arith, called-times q before)
 
 never-called : (times : ℕ) → is_some times ≡ false → times ≡ 0
 unfolding is_some
@@ -42,17 +37,12 @@ footnote_with number calls = record { number = number; calls = calls }
 
 -- a footnote of which nothing is known comes next
 pub footnote-next : (q : List ℕ) (calls : List (List ℕ)) (next : ℕ) → known_of q calls ≡ None → next ≡ suc (footnotes_called calls) → footnote_with next 0 ≡ footnote_of q calls
-footnote-next q calls next e is =
-    let not_called = unknown q calls (is_called q calls) e in
-    ap (λ n. footnote_with n 0) (is ∙ sym (next-number q calls not_called))
-    ∙ ap (λ n. footnote_with (footnote_number q calls) n) (sym (never-called (times_called q calls) (sym (called-times q calls) ∙ not_called)))
+footnote-next q calls next e is = grind (arith, unknown, next-number, never-called, called-times)
 
 known-cases : (same called : Bool) (number next times : ℕ)
     → cond same (Some (footnote_with number (suc times))) (cond called (Some (footnote_with number times)) None)
     ≡ (if same || called then Some (footnote_with (if same || called then number else next) (if same then suc times else times)) else None)
-known-cases true called number next times = refl
-known-cases false true number next times = refl
-known-cases false false number next times = refl
+known-cases same called number next times = grind arith
 
 same-footnote : (x q : List ℕ) (calls : List (List ℕ)) (same : Bool) (old : Option Footnote) → (same ≡ true → x ≡ q)
     → cond same (Some (footnote_with (footnote_number x calls) (suc (times_called x calls)))) old ≡ cond same (Some (footnote_with (footnote_number q calls) (suc (times_called q calls)))) old
@@ -65,9 +55,7 @@ plus-one n = omega arith
 -- one more call changes what is known of its footnote alone
 pub known-after : (x q : List ℕ) (calls : List (List ℕ))
     → cond (bytes_eq x q) (Some (footnote_with (footnote_number x calls) (suc (times_called x calls)))) (known_of q calls) ≡ known_of q (x ∷ calls)
-known-after x q calls =
-    same-footnote x q calls (bytes_eq x q) (known_of q calls) (λ e. (bytes_eq-Decides x q).0 e)
-    ∙ known-cases (bytes_eq x q) (is_called q calls) (footnote_number q calls) (suc (footnotes_called (x ∷ calls))) (times_called q calls)
+known-after x q calls = grind (arith, same-footnote, bytes_eq-Decides, known-cases)
 
 -- and the number of the next, where it is the first of its footnote
 pub first-after : (x : List ℕ) (calls : List (List ℕ)) → times_called x calls ≡ 0 → footnotes_called (x ∷ calls) ≡ suc (footnotes_called calls)
@@ -76,12 +64,7 @@ first-after x calls e = ap (λ b. if b then footnotes_called calls else suc (foo
 
 pub later-after : (x : List ℕ) (calls : List (List ℕ)) → (times_called x calls ≡ 0 → ⊥) → footnotes_called (x ∷ calls) ≡ footnotes_called calls
 unfolding is_some
-later-after x calls f =
-    ap (λ b. if b then footnotes_called calls else suc (footnotes_called calls)) (called-times x calls ∙ called (times_called x calls) f)
-  where
-    called : (times : ℕ) → (times ≡ 0 → ⊥) → is_some times ≡ true
-    called zero f = absurd (f refl)
-    called (suc n) f = refl
+later-after x calls f = grind (arith, called-times)
 
 at-most : (same : Bool) (n m : ℕ) → n ≤ m → (if same then suc n else n) ≤ suc m
 at-most true n m h = omega arith
@@ -103,19 +86,9 @@ footnotes-bounded (call ∷ before) = at-most-else (is_called call before) (foot
 pub known-set : (x key q : List ℕ) (calls all : List (List ℕ)) (number times : ℕ) (old new : Option Footnote) → key ≡ x → all ≡ x ∷ calls
     → number ≡ footnote_number x calls → times ≡ times_called x calls → old ≡ known_of q calls
     → new ≡ cond (bytes_eq key q) (Some (footnote_with number (times + 1))) old → new ≡ known_of q all
-known-set x key q calls all number times old new is more numbered counted before after =
-    after
-    ∙ ap (λ k. cond (bytes_eq k q) (Some (footnote_with number (times + 1))) old) is
-    ∙ ap (λ n. cond (bytes_eq x q) (Some (footnote_with n (times + 1))) old) numbered
-    ∙ ap (λ n. cond (bytes_eq x q) (Some (footnote_with (footnote_number x calls) n)) old) (plus-one times ∙ ap suc counted)
-    ∙ ap (λ o. cond (bytes_eq x q) (Some (footnote_with (footnote_number x calls) (suc (times_called x calls)))) o) before
-    ∙ known-after x q calls
-    ∙ ap (known_of q) (sym more)
+known-set x key q calls all number times old new is more numbered counted before after = grind (arith, plus-one, known-after)
 
 -- the identifiers of calls behind one more, the latest first
 pub one-later : {Z : Type 0} (calls more : List (String Z)) (call : String Z) → more ≡ calls ++ call ∷ []
     → reverse (map string_bytes more) ≡ string_bytes call ∷ reverse (map string_bytes calls)
-one-later calls more call is =
-    ap (λ xs. reverse (map string_bytes xs)) is
-    ∙ ap reverse (map-append string_bytes calls (call ∷ []))
-    ∙ reverse-append (map string_bytes calls) (string_bytes call ∷ [])
+one-later calls more call is = grind (arith, map-append, reverse-append)

@@ -1,8 +1,8 @@
 -- A stretch of the document with no part of a tab at its ends.
-use Rattle.std.proofs.Common.{◌≡◌, ◌∙◌, sym, ap, refl, subst, ℕ, ◌+◌, ◌-◌, ◌≤◌, Bool, true, false, ◌&&◌, ◌==◌, nat_lt, if◌then◌else◌, List, ◌++◌, length, append-nil, replicate}
+use Rattle.std.proofs.Common.{◌≡◌, ap, refl, subst, ℕ, ◌+◌, ◌-◌, ◌≤◌, Bool, true, false, ◌&&◌, nat_lt, if◌then◌else◌, List, length, append-nil, arith}
 use Rattle.std.specs.List.{slice_range}
 use Rattle.markdown_event.specs.declared.event.Point.{Point}
-use Rattle.markdown_content.specs.Slices.{byte_from, codes_between, virtual_spaces, position_bytes, spaces_before, spaces_after}
+use Rattle.markdown_content.specs.Slices.{byte_from, codes_between, virtual_spaces, spaces_before, spaces_after}
 use Rattle.markdown_content.proofs.VirtualSpaces.{after-is, byte_from-in, byte_from-order}
 use Rattle.markdown_passes.specs.TrimmedData.{IsStretch}
 use Rattle.markdown_html_model.specs.Html.{text_between}
@@ -19,12 +19,7 @@ none-by true = refl
 none-by false = refl
 
 none-after : (bytes : List ℕ) (a b : Point) → IsStretch bytes a b → a.vs ≡ 0 → b.vs ≡ 0 → spaces_after bytes a b ≡ 0
-none-after bytes a b h e f =
-    let t = a.index == b.index in
-    sym (after-is bytes a b h.from_place h.to_place h.forward)
-    ∙ ap (λ v. after-by t v b.vs) e
-    ∙ ap (after-by t 0) f
-    ∙ none-by t
+none-after bytes a b h e f = grind (arith, after-is, none-by)
 
 from-index : (a : Point) → a.vs ≡ 0 → byte_from a ≡ a.index
 from-index a e = ap (λ v. if nat_lt 0 v then a.index + 1 else a.index) e
@@ -37,9 +32,4 @@ plain-end bytes a b h f = subst (λ n. n ≤ length bytes) (from-index b f) (byt
 
 pub plain-text : (bytes : List ℕ) (a b : Point) → IsStretch bytes a b → a.vs ≡ 0 → b.vs ≡ 0 → slice_range bytes a.index b.index ≡ text_between bytes a b
 unfolding text_between
-plain-text bytes a b h e f = sym (
-    ap (λ n. replicate n 32 ++ position_bytes bytes a b ++ replicate (spaces_after bytes a b) 32) (none-before bytes a b e)
-    ∙ ap (λ n. position_bytes bytes a b ++ replicate n 32) (none-after bytes a b h e f)
-    ∙ append-nil (position_bytes bytes a b)
-    ∙ ap (λ n. slice_range bytes n (byte_from b)) (from-index a e)
-    ∙ ap (λ n. slice_range bytes a.index n) (from-index b f))
+plain-text bytes a b h e f = grind (arith, none-before, none-after, append-nil, from-index)

@@ -1,5 +1,5 @@
 -- The walk over the events of a tree writes the tree's HTML.
-use Rattle.std.proofs.Common.{◌≡◌, ◌∙◌, sym, ap, refl, ℕ, ◌+◌, Bool, true, false, if◌then◌else◌, ◌&&◌, ◌||◌, List, [], ◌∷◌, ◌++◌, append-nil, append_assoc, length, take, drop, get_or, ◌<◌, Option, None, Some}
+use Rattle.std.proofs.Common.{◌≡◌, ◌∙◌, sym, ap, refl, ℕ, ◌+◌, Bool, true, false, if◌then◌else◌, ◌&&◌, ◌||◌, List, [], ◌∷◌, ◌++◌, append-nil, append_assoc, length, take, drop, get_or, ◌<◌, Option, None, Some, arith}
 use Rattle.std.specs.Option.{is_some}
 use Rattle.markdown_html.proofs.Lists.{drop_at}
 use Rattle.std.proofs.Math.Seq.{drop-append_seam, take-append_seam}
@@ -32,18 +32,12 @@ parts_with : Option (List ℕ) → Option (List ℕ) → Option (ℕ × ℕ) →
 parts_with destination title label reference = record { destination = destination; title = title; label = label; reference = reference }
 
 same-parts : (a b c d : Option (List ℕ)) (e f i j : Option (ℕ × ℕ)) → a ≡ b → c ≡ d → e ≡ f → i ≡ j → parts_with a c e i ≡ parts_with b d f j
-same-parts a b c d e f i j g h k l =
-    ap (λ x. parts_with x c e i) g ∙ ap (λ x. parts_with b x e i) h ∙ ap (λ x. parts_with b d x i) k ∙ ap (λ x. parts_with b d f x) l
+same-parts a b c d e f i j g h k l = cc
 
 -- parts read one after the other
 joined-assoc : (x y z : PartsSoFar) → joined_parts (joined_parts x y) z ≡ joined_parts x (joined_parts y z)
 unfolding parts_with
-joined-assoc x y z =
-    same-parts _ _ _ _ _ _ _ _
-    (or_else-assoc z.destination y.destination x.destination)
-    (or_else-assoc z.title y.title x.title)
-    (or_else-assoc z.label y.label x.label)
-    (or_else-assoc z.reference y.reference x.reference)
+joined-assoc x y z = grind (arith, same-parts, or_else-assoc)
 
 pub joined_first : (x : PartsSoFar) → joined_parts no_parts x ≡ x
 unfolding parts_with
@@ -80,21 +74,11 @@ kept p before within Role.Tail a b inside parts e = cc
 kept p before within role a b inside parts e = refl
 
 no-opening : (within : Within) (role : Role) → is_light role ≡ false → opening within role ≡ []
-no-opening within Role.Emphasis e = cc
-no-opening within Role.Strong e = cc
-no-opening within Role.Strikethrough e = cc
-no-opening within role e = refl
+no-opening within role e = grind arith
 
 -- of something light
 light-within : (within : Within) (role : Role) → is_light role ≡ true → within_of within role ≡ within
-light-within within Role.Check e = cc
-light-within within Role.Code e = cc
-light-within within Role.Math e = cc
-light-within within Role.Link e = cc
-light-within within Role.Image e = cc
-light-within within Role.Destination e = cc
-light-within within Role.TitleText e = cc
-light-within within role e = refl
+light-within within role e = grind arith
 
 light-keeps : (role : Role) → is_light role ≡ true → keeps_inside role ≡ true
 light-keeps Role.Check e = cc
@@ -151,15 +135,8 @@ closed_out-replaced p before o role b out parts k = ap (λ x. elim x [ true ↦ 
 
 out-closed : (p : Page) (before : List (List ℕ)) (s : State) (role : Role) (a b : Point) (k : Bool) (w : List ℕ) (parts : PartsSoFar) → is_light role ≡ false → (keeps : Bool) → keeps_inside role ≡ keeps
     → closed_out p before (open_of s a k) role b (s.out ++ w) parts ≡ s.out ++ group_html p before s.within role a b w parts
-out-closed p before s role a b k w parts heavy true e =
-    closed_out-kept p before (open_of s a k) role b _ parts e
-    ∙ append_assoc s.out w (closing s.within role)
-    ∙ ap (λ x. s.out ++ ((x ++ w) ++ closing s.within role)) (sym (no-opening s.within role heavy))
-    ∙ ap (λ x. s.out ++ x) (sym (kept p before s.within role a b w parts e))
-out-closed p before s role a b k w parts heavy false e =
-    closed_out-replaced p before (open_of s a k) role b _ parts e
-    ∙ ap (λ x. x ++ group_html p before s.within role a b (drop (length s.out) (s.out ++ w)) parts) (take-append_seam s.out w)
-    ∙ ap (λ x. s.out ++ group_html p before s.within role a b x parts) (drop-append_seam s.out w)
+out-closed p before s role a b k w parts heavy true e = grind (arith, closed_out-kept, append_assoc, no-opening, kept)
+out-closed p before s role a b k w parts heavy false e = grind (arith, closed_out-replaced, take-append_seam, drop-append_seam)
 
 -- What an Enter leaves.
 
@@ -216,11 +193,7 @@ light-around p s role a b w l =
     (ap (λ x. (x ++ w.calls) ++ s.calls) (sym (no-calls p role w.parts apart)))
 
 no-parts : (d t : Option (List ℕ)) (l r : Option (ℕ × ℕ)) → is_some d || is_some t || is_some l || is_some r ≡ false → parts_with d t l r ≡ parts_with None None None None
-no-parts (Some x) t l r e = cc
-no-parts None (Some x) l r e = cc
-no-parts None None (Some x) r e = cc
-no-parts None None None (Some x) e = cc
-no-parts None None None None e = refl
+no-parts d t l r e = grind arith
 
 nothing-found : (x : PartsSoFar) → has_parts x ≡ false → x ≡ no_parts
 unfolding parts_with
@@ -228,18 +201,7 @@ nothing-found x e = no-parts x.destination x.title x.label x.reference e
 
 apart-around : (p : Page) (s : State) (role : Role) (a b : Point) (w : Written) (k : Bool) → is_light role ≡ false → is_apart role ≡ true → has_parts s.parts ≡ k → exited p (after (entered s role a) w) role b ≡ after s (around p s.calls s.within role a b w)
 unfolding closed_apart state_with
-apart-around p s role a b w true l is found =
-    let before = w.calls ++ s.calls in
-    let inner = after (opened_by s role a true) w in
-    let k = true in
-    ap (λ x. exited p (after x w) role b) (entered-by s role a true l (ap (λ x. x && has_parts s.parts) is ∙ found))
-    ∙ exited-heavy p inner role b l
-    ∙ closed-is p inner (open_of s a true) s.opened role b true is
-    ∙ same-state s _ _ _ _ _ _
-    (ap (λ q. closed_out p before (open_of s a true) role b (s.out ++ w.html) q) (joined_first w.parts) ∙ out-closed p before s role a b true w.html w.parts l (keeps_inside role) refl)
-    (ap (λ q. joined_parts s.parts (own_parts role a b (string_of p.decoding role (drop (length s.out) (s.out ++ w.html))) q)) (joined_first w.parts)
-    ∙ ap (λ x. joined_parts s.parts (own_parts role a b (string_of p.decoding role x) w.parts)) (drop-append_seam s.out w.html))
-    (ap (λ q. own_calls p role q ++ before) (joined_first w.parts) ∙ sym (append_assoc (own_calls p role w.parts) w.calls s.calls))
+apart-around p s role a b w true l is found = grind (arith, entered-by, exited-heavy, closed-is, same-state, joined_first, out-closed, drop-append_seam, append_assoc)
 apart-around p s role a b w false l is found =
     let before = w.calls ++ s.calls in
     let inner = after (opened_by s role a false) w in
@@ -257,29 +219,14 @@ apart-around p s role a b w false l is found =
 
 -- parts of what gives all that was found inside it are not read
 unread-parts : (p : Page) (before : List (List ℕ)) (within : Within) (role : Role) (a b : Point) (inside : List ℕ) (x y : PartsSoFar) → is_apart role ≡ false → group_html p before within role a b inside x ≡ group_html p before within role a b inside y
-unread-parts p before within Role.Link a b inside x y e = cc
-unread-parts p before within Role.Image a b inside x y e = cc
-unread-parts p before within Role.Footnote a b inside x y e = cc
-unread-parts p before within role a b inside x y e = refl
+unread-parts p before within role a b inside x y e = grind arith
 
 same-around : (p : Page) (s : State) (role : Role) (a b : Point) (w : Written) → is_light role ≡ false → is_apart role ≡ false → exited p (after (entered s role a) w) role b ≡ after s (around p s.calls s.within role a b w)
 unfolding state_with
-same-around p s role a b w l is =
-    let before = w.calls ++ s.calls in
-    let inner = after (opened_by s role a false) w in
-    ap (λ x. exited p (after x w) role b) (entered-by s role a false l (ap (λ x. x && has_parts s.parts) is))
-    ∙ exited-heavy p inner role b l
-    ∙ closed-is p inner (open_of s a false) s.opened role b false is
-    ∙ same-state s _ _ _ _ _ _
-    (out-closed p before s role a b false w.html (joined_parts s.parts w.parts) l (keeps_inside role) refl
-    ∙ ap (λ x. s.out ++ x) (unread-parts p before s.within role a b w.html (joined_parts s.parts w.parts) w.parts is))
-    (ap (joined_parts s.parts) (sym (own-same role a b (string_of p.decoding role w.html) w.parts is)))
-    (ap (λ x. (x ++ w.calls) ++ s.calls) (sym (no-calls p role w.parts is)))
+same-around p s role a b w l is = grind (arith, entered-by, exited-heavy, closed-is, same-state, out-closed, unread-parts, own-same, no-calls)
 
 around-by : (p : Page) (s : State) (role : Role) (a b : Point) (w : Written) (l x : Bool) → is_light role ≡ l → is_apart role ≡ x → exited p (after (entered s role a) w) role b ≡ after s (around p s.calls s.within role a b w)
-around-by p s role a b w true x l is = light-around p s role a b w l
-around-by p s role a b w false true l is = apart-around p s role a b w (has_parts s.parts) l is refl
-around-by p s role a b w false false l is = same-around p s role a b w l is
+around-by p s role a b w _ x l is = grind (arith, light-around, apart-around, same-around)
 
 pub close-around : (p : Page) (s : State) (role : Role) (a b : Point) (w : Written) → exited p (after (entered s role a) w) role b ≡ after s (around p s.calls s.within role a b w)
 close-around p s role a b w = around-by p s role a b w (is_light role) (is_apart role) refl refl
@@ -308,16 +255,10 @@ leaf-is-bare Role.Silent e = cc
 leaf-is-bare role e = e
 
 bare-opening : (within : Within) (role : Role) → is_bare role ≡ true → opening within role ≡ []
-bare-opening within Role.Emphasis e = cc
-bare-opening within Role.Strong e = cc
-bare-opening within Role.Strikethrough e = cc
-bare-opening within role e = refl
+bare-opening within role e = grind arith
 
 bare-closing : (within : Within) (role : Role) → is_bare role ≡ true → closing within role ≡ []
-bare-closing within Role.Emphasis e = cc
-bare-closing within Role.Strong e = cc
-bare-closing within Role.Strikethrough e = cc
-bare-closing within role e = refl
+bare-closing within role e = grind arith
 
 no-text : (p : Page) (within : Within) (role : Role) (text : List ℕ) → is_leaf role ≡ false → leaf_html p within role text ≡ []
 no-text p within Role.Plain text e = cc
@@ -352,11 +293,7 @@ filled-to p s role a to = elim to [ None ↦ s | Some b ↦ filled p s role a b 
 
 unfilled : (p : Page) (s : State) (role : Role) (a : Point) (rest : List Event) → is_leaf role ≡ false → filled_before p s role a rest ≡ s
 unfilled p s role a [] e = refl
-unfilled p s role a (x ∷ rest) e = unfilled-by x.kind
-  where
-    unfilled-by : (k : Kind) → filled-to p s role a (first-by x.point k) ≡ s
-    unfilled-by Kind.Enter = refl
-    unfilled-by Kind.Exit = filled-none p s role a x.point e
+unfilled p s role a (x ∷ rest) e = grind (arith, filled-none)
 
 abbrev stepped-by : Page → State → Event → List Event → Kind → Role → State
 stepped-by p s e rest k role = elim k [
@@ -370,17 +307,11 @@ step-exit p s e rest role is k = ap (λ x. stepped-by p s e rest x (role_of e.na
 
 -- an Enter of what has no text of its own
 pub step-enter : (p : Page) (s : State) (e : Event) (rest : List Event) (role : Role) → role ≡ role_of e.name → e.kind ≡ Kind.Enter → is_leaf role ≡ false → stepped p s e rest ≡ entered s role e.point
-step-enter p s e rest role is k none =
-    ap (λ x. stepped-by p s e rest x (role_of e.name)) k
-    ∙ ap (λ x. stepped-by p s e rest Kind.Enter x) (sym is)
-    ∙ unfilled p (entered s role e.point) role e.point rest none
+step-enter p s e rest role is k none = grind (arith, unfilled)
 
 -- an Enter of a text
 pub step-leaf : (p : Page) (s : State) (e : Event) (rest : List Event) (role : Role) → role ≡ role_of e.name → e.kind ≡ Kind.Enter → is_leaf role ≡ true → stepped p s e rest ≡ filled_before p s role e.point rest
-step-leaf p s e rest role is k leaf =
-    ap (λ x. stepped-by p s e rest x (role_of e.name)) k
-    ∙ ap (λ x. stepped-by p s e rest Kind.Enter x) (sym is)
-    ∙ ap (λ x. filled_before p x role e.point rest) (entered-bare s role e.point (leaf-is-bare role leaf))
+step-leaf p s e rest role is k leaf = grind (arith, entered-bare, leaf-is-bare)
 
 silent-role : (role : Role) → is_silent role ≡ true → role ≡ Role.Silent
 silent-role Role.Silent e = refl
@@ -388,11 +319,7 @@ silent-role role e = cc
 
 -- an event of what is not written at all
 pub step-silent : (p : Page) (s : State) (e : Event) (rest : List Event) (role : Role) → role ≡ role_of e.name → role ≡ Role.Silent → stepped p s e rest ≡ s
-step-silent p s e rest role is silent = ap (λ x. stepped-by p s e rest e.kind x) (sym is ∙ silent) ∙ silent-by e.kind
-  where
-    silent-by : (k : Kind) → stepped-by p s e rest k Role.Silent ≡ s
-    silent-by Kind.Enter = unfilled p (entered s Role.Silent e.point) Role.Silent e.point rest refl ∙ entered-bare s Role.Silent e.point refl
-    silent-by Kind.Exit = exited-bare p s Role.Silent e.point refl
+step-silent p s e rest role is silent = grind (arith, unfilled, entered-bare, exited-bare)
 
 exit-done : (p : Page) (s : State) (x : Event) (rest : List Event) (skips : Bool) → x.kind ≡ Kind.Exit → skips ≡ is_bare (role_of x.name) → walked p s (if skips then rest else x ∷ rest) ≡ walked p s (x ∷ rest)
 exit-done p s x rest true k e = ap (λ y. walked p y rest) (sym (exited-bare p s (role_of x.name) x.point (sym e)) ∙ sym (step-exit p s x rest (role_of x.name) refl k))
@@ -402,9 +329,7 @@ exit-done p s x rest false k e = refl
 leaf-written : (p : Page) (s new : State) (role : Role) (a : Point) (x : Event) (rest : List Event) → x.kind ≡ Kind.Exit → new ≡ record s { out = s.out ++ leaf_html p s.within role (text_between p.bytes a x.point) }
     → walked p new (if is_bare (role_of x.name) then rest else x ∷ rest) ≡ walked p (filled_before p s role a (x ∷ rest)) (x ∷ rest)
 unfolding filled
-leaf-written p s new role a x rest k is =
-    exit-done p new x rest (is_bare (role_of x.name)) k refl
-    ∙ ap (λ y. walked p y (x ∷ rest)) (is ∙ ap (λ kind. filled-to p s role a (first-by x.point kind)) (sym k))
+leaf-written p s new role a x rest k is = grind (arith, exit-done)
 
 drop-either : (events : List Event) (i : ℕ) (x : Event) (skips : Bool) → drop i events ≡ x ∷ drop (i + 1) events
     → drop (if skips then i + 1 else i) events ≡ (if skips then drop (i + 1) events else x ∷ drop (i + 1) events)
@@ -415,12 +340,7 @@ drop-either events i x false e = e
 pub leaf-done : (p : Page) (s new : State) (role : Role) (a : Point) (events : List Event) (i next : ℕ) (x : Event) → i < length events → x ≡ get_or events i x → x.kind ≡ Kind.Exit
     → next ≡ (if is_bare (role_of x.name) then i + 1 else i) → new ≡ record s { out = s.out ++ leaf_html p s.within role (text_between p.bytes a x.point) }
     → walked p new (drop next events) ≡ walked p (filled_before p s role a (drop i events)) (drop i events)
-leaf-done p s new role a events i next x low at k n is =
-    let whole = drop_at events i x low at in
-    ap (λ m. walked p new (drop m events)) n
-    ∙ ap (walked p new) (drop-either events i x (is_bare (role_of x.name)) whole)
-    ∙ leaf-written p s new role a x (drop (i + 1) events) k is
-    ∙ ap (λ es. walked p (filled_before p s role a es) es) (sym whole)
+leaf-done p s new role a events i next x low at k n is = grind (arith, drop_at events i x low at, drop-either, leaf-written p s new role a x (drop (i + 1) events) k is)
 
 -- one event, at an index
 pub passed : (p : Page) (s new : State) (events : List Event) (i : ℕ) (e : Event) → i < length events → e ≡ get_or events i e → stepped p s e (drop (i + 1) events) ≡ new
@@ -430,8 +350,7 @@ passed p s new events i e low at is = ap (λ x. walked p x (drop (i + 1) events)
 -- one event of what is not written at all
 pub silent-passed : (p : Page) (s : State) (events : List Event) (i : ℕ) (e : Event) (role : Role) (b : Bool) → i < length events → e ≡ get_or events i e → role ≡ role_of e.name → b ≡ is_silent role → b ≡ true
     → walked p s (drop (i + 1) events) ≡ walked p s (drop i events)
-silent-passed p s events i e role b low at is silent so =
-    passed p s s events i e low at (step-silent p s e (drop (i + 1) events) role is (silent-role role (sym silent ∙ so)))
+silent-passed p s events i e role b low at is silent so = grind (arith, passed, step-silent, silent-role)
 
 -- Trees.
 
@@ -517,6 +436,4 @@ IsWrittenAs p before within t s = (s.out ≡ html_within p before within t) × (
 
 pub walk-html : (p : Page) (before : List (List ℕ)) (within : Within) (n : ℕ) (previous : Option ℕ) (t : Forest) (s : State)
     → walked p (beginning before within) (events_from n previous t) ≡ s → IsWrittenAs p before within t s
-walk-html p before within n previous t s e =
-    let is = sym e ∙ walk-whole p before within n previous t in
-    (ap (λ x. State.out x) is, ap (λ x. State.calls x) is)
+walk-html p before within n previous t s e = grind (arith, walk-whole)
