@@ -1,44 +1,33 @@
 -- The nodes of a forest's events are its trees.
 use Rattle.std.proofs.Common.{◌≡◌, ℕ, zero, suc, ◌+◌, Option, Some, None, List, [], ◌∷◌, ◌++◌, length, take, drop, map, slice_get, refl, sym, ap, subst, ◌∙◌, arith}
 use Rattle.std.specs.List.{All}
-use Rattle.std.specs.Option.{option_and_then, option_map}
+use Rattle.std.specs.Option.{option_and_then}
 use Rattle.std.proofs.lemmas.List.{append-nil, append_assoc, length-append, take_at, drop_at, map-append}
 use Rattle.std.proofs.lemmas.List.Elements.{All-nil, All-cons, All-append}
 use Rattle.markdown_content.specs.Codes.{stop_of, document_start}
-use Rattle.markdown_content.specs.Nesting.{outer, opened, open_after, own_enter}
+use Rattle.markdown_content.specs.Nesting.{outer, opened, open_after}
 use Rattle.markdown_content.specs.Tree.{Forest, empty, leaf_then, group_then, start_of, event, event_count, next_linked, events_from, events_of}
 use Rattle.markdown_event.specs.declared.event.Event.{Event}
 use Rattle.markdown_event.specs.declared.event.Kind.TheVariants.{Enter, Exit}
 use Rattle.markdown_event.specs.declared.event.Name.{Name}
 use Rattle.markdown_event.specs.declared.event.Point.{Point}
-use Rattle.markdown_tree.specs.declared.node.Node.{Node}
-use Rattle.markdown_tree.specs.Nodes.{closed, exits_ahead, own_exit, if_enter, enter_at, exit_at, parent_at, node_of, node_at}
+use Rattle.markdown_tree.specs.Nodes.{closed, exits_ahead, if_enter, enter_at, exit_at, parent_at, node_of, node_at}
 use Rattle.markdown_tree.specs.ForestNodes.{Placed, first_of, placed_leaf, placed_group, placed_from, placed_of, StandsIn, enters_from, NodesAreTrees}
 
 -- Events of siblings open and end alike.
 
 pub length-events : (n : ℕ) (p : Option ℕ) (f : Forest) → length (events_from n p f) ≡ event_count f
 length-events n p empty = refl
-length-events n p (leaf_then name None codes rest) =
-    let h = length-events (n + 2) p rest in omega (arith, h)
-length-events n p (leaf_then name (Some content) codes rest) =
-    let h = length-events (n + 2) (Some n) rest in omega (arith, h)
-length-events n p (group_then name enter exit inside rest) =
-    let h = length-events (n + 1) None inside in
-    let g = length-events (n + 2 + event_count inside) p rest in
-    let s = length-append (events_from (n + 1) None inside) (event Exit name exit ∷ events_from (n + 2 + event_count inside) p rest) in
-    omega (arith, h, g, s)
+length-events n p (leaf_then name None codes rest) = grind (arith, length-events (n + 2) p rest)
+length-events n p (leaf_then name (Some content) codes rest) = grind (arith, length-events (n + 2) (Some n) rest)
+length-events n p (group_then name enter exit inside rest) = grind (arith, length-events (n + 1) None inside, length-events (n + 2 + event_count inside) p rest, length-append)
 
 -- read from the end, what is open before siblings is open behind them
 pub ahead-past : (n m : ℕ) (p : Option ℕ) (f : Forest) (r : List Event) →
     exits_ahead n (events_from m p f ++ r) ≡ exits_ahead (n + event_count f) r
 ahead-past n m p empty r = let s : n ≡ n + 0 = omega arith in ap (λ k. exits_ahead k r) s
-ahead-past n m p (leaf_then name None codes rest) r =
-    let s : suc (suc n) + event_count rest ≡ n + (2 + event_count rest) = omega arith in
-    ahead-past (suc (suc n)) (m + 2) p rest r ∙ ap (λ k. exits_ahead k r) s
-ahead-past n m p (leaf_then name (Some content) codes rest) r =
-    let s : suc (suc n) + event_count rest ≡ n + (2 + event_count rest) = omega arith in
-    ahead-past (suc (suc n)) (m + 2) (Some m) rest r ∙ ap (λ k. exits_ahead k r) s
+ahead-past n m p (leaf_then name None codes rest) r = grind (arith, ahead-past (suc (suc n)) (m + 2) p rest r)
+ahead-past n m p (leaf_then name (Some content) codes rest) r = grind (arith, ahead-past (suc (suc n)) (m + 2) (Some m) rest r)
 ahead-past n m p (group_then name enter exit inside rest) r =
     let c = event_count inside in
     let i = events_from (m + 1) None inside in
@@ -53,12 +42,8 @@ ahead-past n m p (group_then name enter exit inside rest) r =
 pub open-past : (n m : ℕ) (o : List ℕ) (p : Option ℕ) (f : Forest) (r : List Event) →
     open_after n o (events_from m p f ++ r) ≡ open_after (n + event_count f) o r
 open-past n m o p empty r = let s : n ≡ n + 0 = omega arith in ap (λ k. open_after k o r) s
-open-past n m o p (leaf_then name None codes rest) r =
-    let s : suc (suc n) + event_count rest ≡ n + (2 + event_count rest) = omega arith in
-    open-past (suc (suc n)) (m + 2) o p rest r ∙ ap (λ k. open_after k o r) s
-open-past n m o p (leaf_then name (Some content) codes rest) r =
-    let s : suc (suc n) + event_count rest ≡ n + (2 + event_count rest) = omega arith in
-    open-past (suc (suc n)) (m + 2) o (Some m) rest r ∙ ap (λ k. open_after k o r) s
+open-past n m o p (leaf_then name None codes rest) r = grind (arith, open-past (suc (suc n)) (m + 2) o p rest r)
+open-past n m o p (leaf_then name (Some content) codes rest) r = grind (arith, open-past (suc (suc n)) (m + 2) o (Some m) rest r)
 open-past n m o p (group_then name enter exit inside rest) r =
     let c = event_count inside in
     let i = events_from (m + 1) None inside in
@@ -71,17 +56,13 @@ open-past n m o p (group_then name enter exit inside rest) r =
 
 pub open-append : (n : ℕ) (o : List ℕ) (a b : List Event) → open_after n o (a ++ b) ≡ open_after (n + length a) (open_after n o a) b
 open-append n o [] b = let s : n ≡ n + 0 = omega arith in ap (λ k. open_after k o b) s
-open-append n o (e ∷ a) b =
-    let s : suc n + length a ≡ n + suc (length a) = omega arith in
-    open-append (suc n) (opened n e.kind o) a b ∙ ap (λ k. open_after k (open_after (suc n) (opened n e.kind o) a) b) s
+open-append n o (e ∷ a) b = grind (arith, open-append (suc n) (opened n e.kind o) a b)
 
 -- One node among other events.
 
 pub seam-get : (b : List Event) (e : Event) (t : List Event) (n : ℕ) → length b ≡ n → slice_get (b ++ e ∷ t) n ≡ Some e
-seam-get [] e t zero h = refl
-seam-get [] e t (suc n) h = absurd (omega (arith, h))
-seam-get (x ∷ b) e t zero h = absurd (omega (arith, h))
 seam-get (x ∷ b) e t (suc n) h = seam-get b e t n (omega (arith, h))
+seam-get b e t n h = cc
 
 seam-end : (b : List Event) (n : ℕ) → length b ≡ n → slice_get (b ++ []) n ≡ None
 seam-end [] n h = refl
@@ -89,8 +70,7 @@ seam-end (x ∷ b) zero h = absurd (omega (arith, h))
 seam-end (x ∷ b) (suc n) h = seam-end b n (omega (arith, h))
 
 pub enter-here : (b : List Event) (e : Event) (t : List Event) (n : ℕ) → length b ≡ n → e.kind ≡ Enter → enter_at (b ++ e ∷ t) n ≡ Some n
-enter-here b e t n h k =
-    ap (option_and_then (λ (x : Event). if_enter x.kind n)) (seam-get b e t n h) ∙ ap (λ y. if_enter y n) k
+enter-here b e t n h k = grind (arith, seam-get)
 
 -- behind siblings stands no Enter
 abbrev EndsThere : List Event → Type 0
@@ -99,41 +79,19 @@ EndsThere (e ∷ es) = e.kind ≡ Exit
 
 pub first-here : (b a : List Event) (n : ℕ) (p : Option ℕ) (f : Forest) → length b ≡ n → EndsThere a →
     enter_at (b ++ (events_from n p f ++ a)) n ≡ first_of n f
-first-here b [] n p empty h k = ap (option_and_then (λ (x : Event). if_enter x.kind n)) (seam-end b n h)
-first-here b (e ∷ a) n p empty h k =
-    ap (option_and_then (λ (x : Event). if_enter x.kind n)) (seam-get b e a n h) ∙ ap (λ y. if_enter y n) k
-first-here b a n p (leaf_then name None codes rest) h k = enter-here b _ _ n h refl
-first-here b a n p (leaf_then name (Some content) codes rest) h k = enter-here b _ _ n h refl
-first-here b a n p (group_then name enter exit inside rest) h k = enter-here b _ _ n h refl
+first-here b a n p f h k = grind (arith, seam-end, seam-get, enter-here)
 
 exit-here : (b : List Event) (e : Event) (t : List Event) (n : ℕ) (k : ℕ) (ks : List ℕ) → length b ≡ n → e.kind ≡ Enter →
     exits_ahead (n + 1) t ≡ k ∷ ks → exit_at (b ++ e ∷ t) n ≡ Some k
-exit-here b e t n k ks h d x =
-    let es = b ++ e ∷ t in
-    let size : length (b ++ e ∷ []) ≡ n + 1 = omega (arith, h, length-append b (e ∷ [])) in
-    let cut : drop (n + 1) es ≡ t =
-    ap (drop (n + 1)) (sym (append_assoc b (e ∷ []) t)) ∙ drop_at (b ++ e ∷ []) t (n + 1) size
-    in
-    ap (option_and_then (own_exit es)) (enter-here b e t n h d)
-    ∙ ap (λ y. slice_get (exits_ahead (n + 1) y) 0) cut
-    ∙ ap (λ y. slice_get y 0) x
+exit-here b e t n k ks h d x = grind (arith, length-append b (e ∷ []), append_assoc b (e ∷ []) t, drop_at, enter-here b e t n h d)
 
 node-here : (b : List Event) (e : Event) (t : List Event) (x : Event) (n k : ℕ) → length b ≡ n →
     exit_at (b ++ e ∷ t) n ≡ Some k → slice_get (b ++ e ∷ t) k ≡ Some x → node_at (b ++ e ∷ t) n ≡ Some (node_of n k e x)
-node-here b e t x n k h d g =
-    let es = b ++ e ∷ t in
-    let at : ℕ → Option Node = λ j. option_and_then (λ (y : Event). option_map (λ (z : Event). node_of n j y z) (slice_get es j)) (slice_get es n) in
-    ap (option_and_then at) d
-    ∙ ap (option_and_then (λ (y : Event). option_map (λ (z : Event). node_of n k y z) (slice_get es k))) (seam-get b e t n h)
-    ∙ ap (option_map (λ (z : Event). node_of n k e z)) g
+node-here b e t x n k h d g = grind (arith, seam-get b e t n h)
 
 parent-here : (b : List Event) (e : Event) (t : List Event) (n : ℕ) (p : Option ℕ) → length b ≡ n → e.kind ≡ Enter →
     slice_get (open_after 0 [] b) 0 ≡ p → parent_at (b ++ e ∷ t) n ≡ p
-parent-here b e t n p h d g =
-    let es = b ++ e ∷ t in
-    ap (option_and_then (own_enter es)) (enter-here b e t n h d)
-    ∙ ap (λ y. slice_get (open_after 0 [] y) 0) (take_at b (e ∷ t) n h)
-    ∙ g
+parent-here b e t n p h d g = grind (arith, enter-here b e t n h d, take_at b (e ∷ t) n h)
 
 own-events : (b a : List Event) (n : ℕ) (p : Option ℕ) (f : Forest) → length b ≡ n →
     take (event_count f) (drop n (b ++ (events_from n p f ++ a))) ≡ events_from n p f
@@ -145,16 +103,8 @@ own-events b a n p f h =
 pub enters-are : (k n : ℕ) (q p : Option ℕ) (f : Forest) (r : List Event) → k ≡ n →
     enters_from k (events_from n p f ++ r) ≡ map (λ (t : Placed). t.node.enter) (placed_from n q p f) ++ enters_from (k + event_count f) r
 enters-are k n q p empty r h = let s : k ≡ k + 0 = omega arith in ap (λ j. enters_from j r) s
-enters-are k n q p (leaf_then name None codes rest) r h =
-    let s : suc (suc k) + event_count rest ≡ k + (2 + event_count rest) = omega arith in
-    let ns = map (λ (t : Placed). t.node.enter) (placed_from (n + 2) q p rest) in
-    ap (λ xs. k ∷ xs) (enters-are (suc (suc k)) (n + 2) q p rest r (omega (arith, h)) ∙ ap (λ j. ns ++ enters_from j r) s)
-    ∙ ap (λ j. j ∷ (ns ++ enters_from (k + (2 + event_count rest)) r)) h
-enters-are k n q p (leaf_then name (Some content) codes rest) r h =
-    let s : suc (suc k) + event_count rest ≡ k + (2 + event_count rest) = omega arith in
-    let ns = map (λ (t : Placed). t.node.enter) (placed_from (n + 2) q (Some n) rest) in
-    ap (λ xs. k ∷ xs) (enters-are (suc (suc k)) (n + 2) q (Some n) rest r (omega (arith, h)) ∙ ap (λ j. ns ++ enters_from j r) s)
-    ∙ ap (λ j. j ∷ (ns ++ enters_from (k + (2 + event_count rest)) r)) h
+enters-are k n q p (leaf_then name None codes rest) r h = grind (arith, enters-are (suc (suc k)) (n + 2) q p rest r (omega (arith, h)))
+enters-are k n q p (leaf_then name (Some content) codes rest) r h = grind (arith, enters-are (suc (suc k)) (n + 2) q (Some n) rest r (omega (arith, h)))
 enters-are k n q p (group_then name enter exit inside rest) r h =
     let c = event_count inside in
     let i = events_from (n + 1) None inside in
@@ -182,18 +132,7 @@ node-stands : (b : List Event) (e : Event) (t : List Event) (x : Event) (n k : �
     slice_get (b ++ e ∷ t) k ≡ Some x → enter_at (b ++ e ∷ t) (n + 1) ≡ child → enter_at (b ++ e ∷ t) (k + 1) ≡ next →
     take (event_count f) (drop n (b ++ e ∷ t)) ≡ events_from n p f →
     StandsIn (b ++ e ∷ t) (record { node = node_of n k e x; parent = q; child = child; next = next; linked = p; trees = f })
-node-stands b e t x n k ks q child next p f h d g a s i j w =
-    let es = b ++ e ∷ t in
-    let here = enter-here b e t n h d in
-    let exit = exit-here b e t n k ks h d a in
-    record {
-      enter = here;
-      node = node-here b e t x n k h exit s;
-      parent = parent-here b e t n q h d g;
-      child = ap (option_and_then (λ m. enter_at es (m + 1))) here ∙ i;
-      next = ap (option_and_then (λ m. enter_at es (m + 1))) exit ∙ j;
-      events = w;
-    }
+node-stands b e t x n k ks q child next p f h d g a s i j w = grind (arith, enter-here b e t n h d, exit-here b e t n k ks h d a, node-here, parent-here b e t n q h d g)
 
 -- a leaf whose two events these are
 leaf-stands : (b : List Event) (e x : Event) (n : ℕ) (q p linked : Option ℕ) (rest f : Forest) (a : List Event) →
@@ -231,16 +170,7 @@ group-parts : (b : List Event) (e x : Event) (i r a : List Event) →
     (b ++ e ∷ ((i ++ x ∷ r) ++ a) ≡ (b ++ e ∷ []) ++ (i ++ (x ∷ (r ++ a))))
     × ((b ++ e ∷ ((i ++ x ∷ r) ++ a) ≡ (b ++ e ∷ i) ++ x ∷ (r ++ a))
     × (b ++ e ∷ ((i ++ x ∷ r) ++ a) ≡ (b ++ e ∷ (i ++ x ∷ [])) ++ (r ++ a)))
-group-parts b e x i r a =
-    let first : b ++ e ∷ ((i ++ x ∷ r) ++ a) ≡ b ++ e ∷ (i ++ (x ∷ (r ++ a))) = ap (λ y. b ++ e ∷ y) (append_assoc i (x ∷ r) a) in (
-      first ∙ sym (append_assoc b (e ∷ []) (i ++ (x ∷ (r ++ a)))),
-      (
-        first ∙ sym (append_assoc b (e ∷ i) (x ∷ (r ++ a))),
-        first
-            ∙ ap (λ y. b ++ e ∷ y) (sym (append_assoc i (x ∷ []) (r ++ a)))
-            ∙ sym (append_assoc b (e ∷ (i ++ x ∷ [])) (r ++ a)),
-      ),
-    )
+group-parts b e x i r a = grind (arith, append_assoc i (x ∷ r) a, append_assoc b (e ∷ []) (i ++ (x ∷ (r ++ a))), append_assoc b (e ∷ i) (x ∷ (r ++ a)), append_assoc i (x ∷ []) (r ++ a), append_assoc b (e ∷ (i ++ x ∷ [])) (r ++ a))
 
 group-stands : (b a : List Event) (n : ℕ) (q p : Option ℕ) (name : Name) (enter exit : Point) (inside rest : Forest) →
     length b ≡ n → slice_get (open_after 0 [] b) 0 ≡ q → EndsThere a →

@@ -1,5 +1,5 @@
 -- What an index has for one event.
-use Rattle.std.proofs.Common.{◌≡◌, ℕ, zero, suc, ◌+◌, ◌<◌, ◌≤◌, Option, Some, None, IfSome, List, [], ◌∷◌, length, take, drop, get_or, slice_get, refl, sym, ap, subst, ◌∙◌, arith}
+use Rattle.std.proofs.Common.{◌≡◌, ℕ, zero, suc, ◌+◌, ◌<◌, ◌≤◌, Option, Some, None, IfSome, List, [], ◌∷◌, length, take, drop, get_or, slice_get, refl, sym, ap, ◌∙◌, arith}
 use Rattle.markdown_content.specs.Nesting.{outer, opened, open_after, own_enter}
 use Rattle.markdown_event.specs.declared.event.Event.{Event}
 use Rattle.markdown_event.specs.declared.event.Kind.{Kind}
@@ -41,9 +41,7 @@ pub own-enter : (es : List Event) (i : ℕ) (d : Option ℕ) → i < length es �
 own-enter es i d l = get-parents 0 [] es i d l
 
 pub own-exit : (es : List Event) (i : ℕ) (d : Option ℕ) → i < length es → get_or (exits_of es) i d ≡ own_exit es i
-own-exit es i d l =
-    let s : 0 + i + 1 ≡ i + 1 = omega arith in
-    get-exits 0 es i d l ∙ ap (λ m. slice_get (exits_ahead m (drop (i + 1) es)) 0) s
+own-exit es i d l = grind (arith, get-exits 0 es i d l)
 
 same-number : (x y : ℕ) → Some x ≡ Some y → y ≡ x
 same-number x y g = cc
@@ -54,15 +52,10 @@ is-enter Enter i n h = same-number i n h
 is-enter Exit i n h = absurd (none-some n h)
 
 pub enter-own : (es : List Event) (i n : ℕ) → enter_at es i ≡ Some n → n ≡ i
-enter-own es i n h =
-    option_and_then_some (λ (e : Event). if_enter e.kind i) (slice_get es i) n h (λ e g k. is-enter e.kind i n k)
+enter-own es i n h = grind (arith, option_and_then_some, is-enter)
 
 pub enter-within : (es : List Event) (i n : ℕ) → enter_at es i ≡ Some n → n < length es
-enter-within es i n h =
-    let w : i < length es =
-    option_and_then_some (λ (e : Event). if_enter e.kind i) (slice_get es i) n h (λ e g k. slice_get_within es i e g)
-    in
-    subst (λ m. m < length es) (sym (enter-own es i n h)) w
+enter-within es i n h = grind (arith, option_and_then_some, slice_get_within, enter-own es i n h)
 
 -- the entry of a node in the index
 pub exit-read : (es : List Event) (i n : ℕ) (d : Option ℕ) → enter_at es i ≡ Some n → get_or (exits_of es) n d ≡ exit_at es i
@@ -83,22 +76,11 @@ ahead-within n (e ∷ es) d k h = by-kind e.kind d h (λ c g. ahead-within (suc 
   where
     by-kind : (y : Kind) (d : ℕ) → slice_get (closed n y (exits_ahead (suc n) es)) d ≡ Some k →
         ((c : ℕ) → slice_get (exits_ahead (suc n) es) c ≡ Some k → (suc n ≤ k) × (k < suc n + length es)) → (n ≤ k) × (k < n + suc (length es))
-    by-kind Enter d g rest =
-        let t = rest (suc d) (sym (past-outer (exits_ahead (suc n) es) d) ∙ g) in (omega (arith, t.0), omega (arith, t.1))
-    by-kind Exit zero g rest = let s = same-number n k g in (omega (arith, s), omega (arith, s))
-    by-kind Exit (suc d) g rest = let t = rest d g in (omega (arith, t.0), omega (arith, t.1))
+    by-kind y d g rest = grind (arith, past-outer, same-number)
 
 -- a node ends behind its Enter, within the events
 pub exit-within : (es : List Event) (i k : ℕ) → exit_at es i ≡ Some k → (i < k) × (k < length es)
-exit-within es i k h = option_and_then_some (own_exit es) (enter_at es i) k h (λ n a b. bounds n a b)
-  where
-    bounds : (n : ℕ) → enter_at es i ≡ Some n → own_exit es n ≡ Some k → (i < k) × (k < length es)
-    bounds n a b =
-        let t = ahead-within (n + 1) (drop (n + 1) es) 0 k b in
-        let s = enter-own es i n a in
-        let w = enter-within es i n a in
-        let d = length-drop (n + 1) es in
-        (omega (arith, t.0, s), omega (arith, t.1, w, d))
+exit-within es i k h = grind (arith, option_and_then_some, ahead-within, enter-own, enter-within, length-drop)
 
 pub exit-bounds : (es : List Event) (i : ℕ) (o : Option ℕ) → o ≡ exit_at es i → IfSome o (λ k. (i < k) × (k < length es))
 exit-bounds es i None h = tt

@@ -1,5 +1,5 @@
 -- The numbers of definitions where one more is added.
-use Rattle.std.proofs.Common.{◌≡◌, ℕ, ◌+◌, Bool, List, [], ◌∷◌, ◌++◌, length, Option, None, Some, cond, arith, refl}
+use Rattle.std.proofs.Common.{◌≡◌, ℕ, ◌+◌, Bool, List, [], ◌∷◌, ◌++◌, length, Option, None, Some, cond, arith}
 use Rattle.std.specs.List.{position_from}
 use Rattle.std.specs.Option.{IsSome}
 use Rattle.std.specs.Str.{bytes_eq}
@@ -18,23 +18,8 @@ from-more p i [] y = grind arith
 from-more p i (x ∷ xs) y = let h = from-more p (i + 1) xs y in grind (arith, h)
 
 pub number-more : (q key : List ℕ) (ids : List (List ℕ)) → number_of key ids ≡ None → number_of q (ids ++ key ∷ []) ≡ cond (bytes_eq key q) (Some (length ids)) (number_of q ids)
-number-more q key ids h =
-    let a = position_from-zero (bytes_eq q) ids in
-    let b = position_from-zero (bytes_eq q) (ids ++ key ∷ []) in
-    let c = from-more (bytes_eq q) 0 ids key in
-    let d = bytes_eq-Decides key q in
-    let e = bytes_eq-Decides q key in
-    grind (arith, a, b, c, d, e, h)
+number-more q key ids h = grind (arith, position_from-zero (bytes_eq q) ids, position_from-zero (bytes_eq q) (ids ++ key ∷ []), from-more (bytes_eq q) 0 ids key, bytes_eq-Decides key q, bytes_eq-Decides q key)
 
 -- one that is there already changes no number
 pub number-later : (q key : List ℕ) (ids : List (List ℕ)) → IsSome (number_of key ids) → number_of q (ids ++ key ∷ []) ≡ number_of q ids
-number-later q key ids there = later (number_of key ids) refl there
-  where
-    later : (o : Option ℕ) → number_of key ids ≡ o → IsSome o → number_of q (ids ++ key ∷ []) ≡ number_of q ids
-    later None h there = absurd (false≢true there)
-    later (Some n) h there =
-        let a = position_from-zero (bytes_eq q) ids in
-        let b = position_from-zero (bytes_eq q) (ids ++ key ∷ []) in
-        let c = from-more (bytes_eq q) 0 ids key in
-        let e = bytes_eq-Decides q key in
-        grind (arith, a, b, c, e, h)
+number-later q key ids there = grind (arith, false≢true, position_from-zero, from-more, bytes_eq-Decides)
