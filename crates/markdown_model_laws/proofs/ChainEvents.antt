@@ -1,5 +1,5 @@
 -- The events of a tree with linked leaves in groups of their own: a chain is events that stand one after another.
-use Rattle.std.proofs.Common.{◌≡◌, ℕ, zero, suc, ◌+◌, List, [], ◌∷◌, ◌++◌, slice_get, Option, Some, None, option_map, sym, ap, subst, ◌∙◌, arith, append_assoc, append-nil, inl, inr}
+use Rattle.std.proofs.Common.{◌≡◌, ℕ, zero, suc, ◌+◌, List, [], ◌∷◌, ◌++◌, slice_get, Option, Some, None, option_map, ap, subst, ◌∙◌, arith, append_assoc, append-nil, inl, inr}
 use Rattle.markdown_content.specs.Codes.{Code, document_start, stop_of}
 use Rattle.markdown_content.specs.Content.{content_of}
 use Rattle.markdown_content.specs.Tree.{Forest, empty, leaf_then, group_then, event, event_count, events_from, events_of, next_linked, start_of}
@@ -44,10 +44,7 @@ plain-leaf n name a b es h = ((λ l e. no-link l e), ((λ l e. no-link l e), sub
 first-linked : (n m : ℕ) (t : Forest) → AreLinkedLeaves t → next_linked n t ≡ Some m → m ≡ n
 first-linked n m empty h e = cc
 first-linked n m (leaf_then name None cs rest) h e = absurd h
-first-linked n m (leaf_then name (Some link) cs rest) h e = some-same m n (sym e)
-  where
-    some-same : (a b : ℕ) → Some a ≡ Some b → a ≡ b
-    some-same a b k = cc
+first-linked n m (leaf_then name (Some link) cs rest) h e = grind arith
 first-linked n m (group_then name a b inside rest) h e = absurd h
 
 linked-leaf : (n : ℕ) (name : Name) (p : Option ℕ) (content : Content) (cs : List Code) (t : Forest) (es : List Event) → AreLinkedLeaves t → Go (n + 2) es →
@@ -61,19 +58,17 @@ none n = omega arith
 
 linked-go : (t : Forest) → AreLinkedLeaves t → (n : ℕ) (p : Option ℕ) (more : List Event) → Go (n + event_count t) more → Go n (events_from n p t ++ more)
 linked-go empty h n p more k = subst (λ i. Go i more) (none n) k
-linked-go (leaf_then name None cs rest) h n p more k = absurd h
 linked-go (leaf_then name (Some link) cs rest) h n p more k =
     linked-leaf n name p link cs rest (events_from (n + 2) (Some n) rest ++ more) h.1
     (linked-go rest h.1 (n + 2) (Some n) more (subst (λ i. Go i more) (further n (event_count rest)) k))
   where
     further : (a b : ℕ) → a + (2 + b) ≡ a + 2 + b
     further a b = omega arith
-linked-go (group_then name a b inside rest) h n p more k = absurd h
+linked-go t h n p more k = absurd h
 
 group-go : (name : Name) (a b : Point) (inner outer : List Event) (n count : ℕ) (more : List Event) → Go (n + 1) (inner ++ (event Kind.Exit name b ∷ (outer ++ more))) →
     Go n ((event Kind.Enter name a ∷ inner ++ event Kind.Exit name b ∷ outer) ++ more)
-group-go name a b inner outer n count more h =
-    ((λ l e. no-link l e), subst (Go (n + 1)) (sym (append_assoc inner (event Kind.Exit name b ∷ outer) more)) h)
+group-go name a b inner outer n count more h = grind (arith, no-link, append_assoc)
 
 exit-go : (name : Name) (b : Point) (n : ℕ) (es : List Event) → Go (n + 1) es → Go n (event Kind.Exit name b ∷ es)
 exit-go name b n es h = ((λ l e. no-link l e), h)

@@ -1,5 +1,5 @@
 -- The passes keep rows of linked leaves as they are, so the inline tree of each content has linked leaves in groups of their own.
-use Rattle.std.proofs.Common.{◌≡◌, ℕ, suc, Bool, true, false, ◌&&◌, ◌||◌, List, Some, None, refl, sym, subst, inl, inr}
+use Rattle.std.proofs.Common.{◌≡◌, ℕ, suc, Bool, true, false, ◌&&◌, ◌||◌, List, Some, None, refl, sym, subst, inl, inr, arith}
 use Rattle.markdown_event.specs.declared.event.Name.{Name}
 use Rattle.markdown_event.specs.declared.event.Name.TheVariants as N
 use Rattle.markdown_event.specs.declared.event.Content.{Content}
@@ -14,7 +14,7 @@ use Rattle.markdown_model.specs.Runs.{Run, run_of, runs_of}
 use Rattle.markdown_model.specs.Setting.{Setting, within}
 use Rattle.markdown_model.proofs.BracketGroupFacts.{word-append}
 use Rattle.markdown_model.proofs.PairGroupFacts.{Any, any-parts, HasWord, run-has, assembled-has}
-use Rattle.markdown_model.proofs.PassedTrees.{trimmed_data-has, with_emails-has}
+use Rattle.markdown_model.proofs.PassedTrees.{with_emails-has}
 use Rattle.markdown_model_laws.proofs.EachPass.{labels_in, trees-have}
 use Rattle.markdown_model_laws.proofs.ChainTrees.{AreLinkedLeaves, HasChains, row, one-leaf, text-labels, string-labels}
 
@@ -34,10 +34,9 @@ module _ (s : Setting) (pairs_of : List Run → List Pair) where
   linked-assembled : (t : Forest) (pairs : List Pair) (n : ℕ) → AreLinkedLeaves t → AreLinkedLeaves (assembled (tokens_of s pairs_of t pairs n))
   unfolding tokens_of
   linked-assembled empty pairs n h = tt
-  linked-assembled (leaf_then name None cs rest) pairs n h = absurd h
   linked-assembled (leaf_then N.AttentionSequence (Some link) cs rest) pairs n h = let no : true ≡ false = h.0 in cc
   linked-assembled (leaf_then name (Some link) cs rest) pairs n h = (h.0, linked-assembled rest pairs n h.1)
-  linked-assembled (group_then name a b inside rest) pairs n h = absurd h
+  linked-assembled t pairs n h = absurd h
 
   tokens-chains : (f : Forest) (pairs : List Pair) (n : ℕ) → HasChains f → WordHasChains (tokens_of s pairs_of f pairs n)
   unfolding tokens_of
@@ -48,8 +47,7 @@ module _ (s : Setting) (pairs_of : List Run → List Pair) where
   tokens-chains (group_then name a b inside rest) pairs n (inl h, more) =
       let own : List Pair = pairs_of (runs_of s inside) in
       ((inl (assembled-chains (tokens_of s pairs_of inside own 0) (tokens-chains inside own 0 h)), tt), tokens-chains rest pairs n more)
-  tokens-chains (group_then name a b inside rest) pairs n (inr h, more) =
-      ((inr (linked-assembled inside (pairs_of (runs_of s inside)) 0 h), tt), tokens-chains rest pairs n more)
+  tokens-chains (group_then name a b inside rest) pairs n (inr h, more) = grind (arith, linked-assembled, tokens-chains rest pairs n more)
 
   paired-chains : (f : Forest) → HasChains f → HasChains (paired s pairs_of f)
   unfolding paired
@@ -62,11 +60,9 @@ module _ (s : Setting) (pairs_of : List Run → List Pair) where
 linked-kept : (f : Forest → Forest) → f empty ≡ empty
     → ((name : Name) (link : Content) (cs : List Code) (rest : Forest) → f (leaf_then name (Some link) cs rest) ≡ leaf_then name (Some link) cs (f rest))
     → (t : Forest) → AreLinkedLeaves t → AreLinkedLeaves (f t)
-linked-kept f none keeps empty h = subst AreLinkedLeaves (sym none) tt
-linked-kept f none keeps (leaf_then name None cs rest) h = absurd h
 linked-kept f none keeps (leaf_then name (Some link) cs rest) h =
     subst AreLinkedLeaves (sym (keeps name link cs rest)) (h.0, linked-kept f none keeps rest h.1)
-linked-kept f none keeps (group_then name a b inside rest) h = absurd h
+linked-kept f none keeps t h = grind arith
 
 -- Merging.
 
@@ -94,17 +90,14 @@ merged-chains (group_then name a b inside rest) (inr h, more) = (inr (linked-mer
 -- Trimming.
 
 cut-chains : (front back : Bool) (hard : HardBreaks) (cs : List Code) → HasChains (trimmed_data front back hard cs)
-cut-chains front back hard cs =
-    trimmed_data-has HasChains row (λ ds. one-leaf N.Data ds) (λ ds. one-leaf N.HardBreakTrailing ds) (λ ds. one-leaf N.SpaceOrTab ds) front back hard cs
+cut-chains front back hard cs = grind (arith, row, one-leaf)
 
 module _ (hard : HardBreaks) where
   linked-trimmed : (front whole : Bool) (t : Forest) → AreLinkedLeaves t → AreLinkedLeaves (trimmed hard front whole t)
   unfolding trimmed
-  linked-trimmed front whole empty h = tt
-  linked-trimmed front whole (leaf_then name None cs rest) h = absurd h
   linked-trimmed front whole (leaf_then N.LineEnding (Some link) cs rest) h = (refl, linked-trimmed true whole rest h.1)
   linked-trimmed front whole (leaf_then name (Some link) cs rest) h = (h.0, linked-trimmed false whole rest h.1)
-  linked-trimmed front whole (group_then name a b inside rest) h = absurd h
+  linked-trimmed front whole t h = grind arith
 
   trimmed-chains : (front whole : Bool) (t : Forest) → HasChains t → HasChains (trimmed hard front whole t)
   unfolding trimmed
@@ -133,8 +126,7 @@ linked-mailed = linked-kept with_emails_apart refl keeps
 mailed-chains : (t : Forest) → HasChains t → HasChains (with_emails_apart t)
 unfolding with_emails_apart
 mailed-chains empty h = tt
-mailed-chains (leaf_then N.Data None cs rest) h =
-    row (with_emails cs) (with_emails_apart rest) (emails-chains cs) (mailed-chains rest h.1)
+mailed-chains (leaf_then N.Data None cs rest) h = grind (arith, row, emails-chains, mailed-chains rest h.1)
 mailed-chains (leaf_then name link cs rest) h = (h.0, mailed-chains rest h.1)
 mailed-chains (group_then N.Link a b inside rest) h = (h.0, mailed-chains rest h.1)
 mailed-chains (group_then name a b inside rest) (inl h, more) = (inl (mailed-chains inside h), mailed-chains rest more)

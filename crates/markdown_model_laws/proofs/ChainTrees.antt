@@ -1,5 +1,5 @@
 -- Trees in which linked leaves stand among linked leaves alone, each row of them in a group of its own.
-use Rattle.std.proofs.Common.{◌≡◌, ℕ, false, ◌⊎◌, inl, inr, List, [], ◌∷◌, Option, Some, None, refl, sym, subst, arith}
+use Rattle.std.proofs.Common.{◌≡◌, ℕ, false, ◌⊎◌, inl, List, [], ◌∷◌, Option, Some, None, refl, arith}
 use Rattle.markdown_event.specs.declared.event.Name.{Name}
 use Rattle.markdown_event.specs.declared.event.Name.TheVariants as N
 use Rattle.markdown_event.specs.declared.event.Content.{Content}
@@ -61,18 +61,14 @@ unlinked name [] = tt
 unlinked name (c ∷ cs) = (refl, tt)
 
 string-chain : (name : Name) (t : Forest) → AreLinkedLeaves t → HasChains (string_group name t)
-string-chain name empty h = tt
-string-chain name (leaf_then n l cs rest) h = (inr h, tt)
-string-chain name (group_then n a b inside rest) h = absurd h
+string-chain name t h = grind arith
 
 some-link : (c : Content) → None ≡ Some c → ⊥
 some-link c e = cc
 
 linked-leaves : (t : Forest) → Leaves (λ name link cs. (is_run name ≡ false) × (link ≡ Some Content.String)) t → AreLinkedLeaves t
-linked-leaves empty h = tt
-linked-leaves (leaf_then name None cs rest) h = absurd (some-link Content.String h.0.1)
 linked-leaves (leaf_then name (Some link) cs rest) h = (h.0.0, linked-leaves rest h.1)
-linked-leaves (group_then name a b inside rest) h = absurd h
+linked-leaves t h = grind (arith, some-link)
 
 linked-lines : (cs : List Code) → AreLinkedLeaves (lines N.Data (Some Content.String) cs)
 linked-lines cs =
@@ -91,9 +87,7 @@ own-leaves bytes (leaf_then name link cs rest) h = (h.0.unlinked, own-leaves byt
 own-leaves bytes (group_then name a b inside rest) h = absurd h
 
 plain-chains : (bytes : List ℕ) (t : Forest) → IsPlainTree bytes t → HasChains t
-plain-chains bytes empty h = absurd h
-plain-chains bytes (leaf_then name link cs rest) h = (h.0.unlinked, subst HasChains (sym h.1) tt)
-plain-chains bytes (group_then name a b inside rest) h = (inl (own-leaves bytes inside h.0.leaves), subst HasChains (sym h.1) tt)
+plain-chains bytes t h = grind (arith, own-leaves)
 
 -- What follows a label.
 

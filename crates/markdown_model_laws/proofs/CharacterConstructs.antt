@@ -1,5 +1,5 @@
 -- Each leaf that a construct reads begins with a character, and so do the codes behind the construct.
-use Rattle.std.proofs.Common.{◌≡◌, ◌≢◌, ◌==◌, ◌+◌, ◌&&◌, ◌||◌, not, nat_lt, ℕ, Bool, true, false, List, [], ◌∷◌, ◌++◌, length, Option, Some, None, refl, sym, subst, arith, ◌⊎◌, inl, inr}
+use Rattle.std.proofs.Common.{◌≡◌, ◌≢◌, ◌==◌, ◌+◌, ◌&&◌, ◌||◌, not, nat_lt, ℕ, Bool, true, false, List, [], ◌∷◌, ◌++◌, length, Option, Some, None, refl, sym, subst, arith, ◌⊎◌, inl, inr, rules}
 use Rattle.std.specs.Prelude.{codes}
 use Rattle.std.specs.Str.{byte}
 use Rattle.std.proofs.lemmas.Bool.{and_parts, or_cases}
@@ -10,11 +10,10 @@ use Rattle.markdown_event.specs.declared.event.Content.{Content}
 use Rattle.markdown_content.specs.Codes.{Code, is_blank, is_line_ending}
 use Rattle.markdown_content.specs.declared.configuration.Rules.{Rules}
 use Rattle.markdown_content.specs.Tree.{Forest, empty, leaf_then, group_then, leaf, linked, ◌⊕◌}
-use Rattle.markdown_util.specs.Neighbours.{class_of, after_index}
 use Rattle.markdown_util.specs.Reference.{Table}
 use Rattle.markdown_model.specs.CodeTests.{is_value, is_among, next_is, is_digit, is_hex_digit, is_letter, is_alphanumeric, is_ascii_punctuation, is_whitespace_code, is_later_byte}
 use Rattle.markdown_model.specs.Grammar.{Reading, ◌>>◌, provided, one, some, span, word_of, word, up_to_word, through, ◌then_◌, optional_tree}
-use Rattle.markdown_model.specs.GfmAutolinkLiteral.{schemes, letters, one_word_of, domain_from, is_domain, domain, ends_path, path_from, path, trails, is_space, count_if, gfm_autolink_literal_protocol, www_from_here, gfm_autolink_literal_www, may_precede_www, begins_with_www}
+use Rattle.markdown_model.specs.GfmAutolinkLiteral.{schemes, letters, one_word_of, domain_from, is_domain, domain, ends_path, path_from, path, count_if, gfm_autolink_literal_protocol, www_from_here, gfm_autolink_literal_www, may_precede_www, begins_with_www}
 use Rattle.markdown_model.specs.HtmlText.{html_codes, html_text, open_tag, closing_tag, comment, instruction, declaration, cdata}
 use Rattle.markdown_model.specs.LabelEnd.{full_reference, collapsed_reference, shortcut, shortcut_before_bracket, reference_after_label, after_label}
 use Rattle.markdown_model.specs.Laws.{is_run}
@@ -71,9 +70,7 @@ leads-linked [] h = tt
 leads-linked (c ∷ cs) h = ((h, ((λ e. cc), refl)), tt)
 
 leads-string : (name : Name) (t : Forest) → HasLeads t → HasLeads (string_group name t)
-leads-string name empty h = tt
-leads-string name (leaf_then n l cs rest) h = (h, tt)
-leads-string name (group_then n a b inside rest) h = (h, tt)
+leads-string name t h = grind arith
 
 -- Stretches.
 
@@ -102,13 +99,10 @@ cuts-marked : (p : Code → Bool) → IsLowTest p → CutsLow p
 cuts-marked p test c d h = grind (arith, cuts-by, ending-low)
 
 cuts-line : (a b : Bool) → (not (a || b) && ((true && true) || not (true || true))) ≡ false → (a ≡ true) ⊎ (b ≡ true)
-cuts-line true b h = inl refl
-cuts-line false true h = inr refl
-cuts-line false false h = cc
+cuts-line a b h = grind arith
 
 cuts-lines : CutsLow (λ c. true)
-cuts-lines c d h =
-    elim (cuts-line (is_line_ending c) (is_line_ending d) h) [ inl e ↦ inl (ending-low c e) | inr e ↦ inr (ending-low d e) ]
+cuts-lines c d h = grind (arith, cuts-line, ending-low)
 
 onto-early : (p : Code → Bool) → CutsLow p → (c : Code) (ss : List (List Code)) → LaterEarly ss → (is_low c ≡ true → Early (joined_codes ss)) →
     LaterEarly (onto_stretch p c ss)
@@ -116,8 +110,7 @@ onto-early p c ss h0 h1 h2 = grind (arith, low-early)
 
 later-early : (p : Code → Bool) → CutsLow p → (cs : List Code) → HasNoStrays cs → LaterEarly (stretches p cs)
 later-early p cut [] s = tt
-later-early p cut (c ∷ cs) s =
-    onto-early p cut c (stretches p cs) (later-early p cut cs s.1) (λ l. subst Early (sym (joined_codes-stretches p cs)) (s.0 l))
+later-early p cut (c ∷ cs) s = grind (arith, onto-early, later-early p cut cs s.1, joined_codes-stretches)
 
 first-early : (ss : List (List Code)) → Early (joined_codes ss) → LaterEarly ss → EachEarly ss
 first-early [] e h = tt
@@ -132,8 +125,7 @@ leads-line_leaf name link s n h = grind (arith, leads-linked_leaf)
 
 leads-line_leaves : (name : Name) (ss : List (List Code)) → is_run name ≡ false → EachEarly ss → HasLeads (line_leaves name ss)
 leads-line_leaves name [] n h = tt
-leads-line_leaves name (s ∷ ss) n h =
-    leads-row (line_leaf name None s) (line_leaves name ss) (leads-line_leaf name None s n h.0) (leads-line_leaves name ss n h.1)
+leads-line_leaves name (s ∷ ss) n h = grind (arith, leads-row, leads-line_leaf, leads-line_leaves name ss n h.1)
 
 leads-lines_from : (name : Name) (link : Option Content) → is_run name ≡ false → (later : Bool) (ss : List (List Code)) → HasNoStrays (joined_codes ss) → EachEarly ss →
     HasLeads (lines_from name link later ss)
@@ -434,9 +426,7 @@ schemes-lows = record {
 
 module _ (bytes : List ℕ) (end : ℕ) where
   not-later : (a b d : Bool) → ((a || b) || d) ≡ false → b ≡ false
-  not-later true b d h = cc
-  not-later false true d h = cc
-  not-later false false d h = refl
+  not-later a b d h = grind arith
 
   domain-early : (cs : List Code) → Early (domain_from bytes end cs).1
   domain-early [] = tt
@@ -459,14 +449,11 @@ module _ (bytes : List ℕ) (end : ℕ) where
       by_test (ends_path bytes end opened closed (c ∷ cs)) refl (path-early (count_if (byte "(") c opened) (count_if (byte ")") c closed) cs)
     where
       by_kind : (l a b d e : Bool) → ((not l && a) || ((b && d) && e)) ≡ true → is_later_byte c ≡ l → is_among (codes "!\"&'),*.:;<?]_~") c ≡ b → is_later_byte c ≡ false
-      by_kind false a b d e h k m = k
-      by_kind true a true d e h k m = low-early c (among-low (codes "!\"&'),*.:;<?]_~") refl c m)
-      by_kind true a false d e h k m = cc
+      by_kind l a b d e h k m = grind (arith, low-early, among-low)
 
       by_test : (b : Bool) → ends_path bytes end opened closed (c ∷ cs) ≡ b → Early (path_from bytes end (count_if (byte "(") c opened) (count_if (byte ")") c closed) cs).1 →
           (let r : List Code × List Code = elim b [ true ↦ ([], c ∷ cs) | false ↦ let s = path_from bytes end (count_if (byte "(") c opened) (count_if (byte ")") c closed) cs in (c ∷ s.0, s.1) ] in Early r.1)
-      by_test true e more =
-          by_kind (is_later_byte c) (is_space (class_of (after_index bytes c.start.index))) (is_among (codes "!\"&'),*.:;<?]_~") c) (not (is_value (byte ")") c && nat_lt closed opened)) (trails bytes end (c ∷ cs)) e refl refl
+      by_test true e more = grind (arith, by_kind)
       by_test false e more = more
 
   reads_path : ReadsFrom false true (λ _. Unit {0}) (path bytes end)
@@ -531,8 +518,7 @@ record AreTextNames (names : StringNames) : Type 0 where
 
 leads-between : (names : StringNames) (front text back : List Code) → AreTextNames names → Lows front → Starts text → Lows back →
     HasLeads (between_markers names front text back)
-leads-between names front text back n f t b =
-    (leads-row (leaf names.marker front) _ (marker-leaf names.marker front n.marker f) (leads-row (string_group names.text (lines N.Data (Some Content.String) text)) (leaf names.marker back) (leads-string names.text (lines N.Data (Some Content.String) text) (leads-lines N.Data (Some Content.String) text refl t)) (marker-leaf names.marker back n.marker b)), tt)
+leads-between names front text back n f t b = grind (arith, leads-row, marker-leaf, leads-string, leads-lines)
 
 leads_label : (characters : Bool) → ReadsFrom false true HasLeads (label characters reference_names)
 unfolding label

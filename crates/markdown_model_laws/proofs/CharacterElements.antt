@@ -1,5 +1,5 @@
 -- Elements, labels and pairs: each leaf begins with a character, but for data behind data.
-use Rattle.std.proofs.Common.{◌≡◌, ◌≢◌, ◌==◌, ◌&&◌, ◌||◌, not, nat_lt, ℕ, zero, suc, ◌-◌, Bool, true, false, List, [], ◌∷◌, ◌++◌, take, drop, map, Option, Some, None, refl, sym, ap, subst, ◌∙◌, ◌⊎◌, inl, inr, append_assoc, arith}
+use Rattle.std.proofs.Common.{◌≡◌, ◌≢◌, ◌==◌, ◌&&◌, ◌||◌, not, nat_lt, ℕ, zero, suc, Bool, true, false, List, [], ◌∷◌, ◌++◌, take, drop, map, Option, Some, None, refl, sym, ap, subst, ◌∙◌, ◌⊎◌, inl, inr, append_assoc, arith}
 use Rattle.std.specs.Prelude.{codes, is_none}
 use Rattle.std.specs.List.{list_any, list_all}
 use Rattle.std.proofs.lemmas.Bool.{both_ways, and_parts}
@@ -27,7 +27,7 @@ use Rattle.markdown_model.proofs.GrammarSteps.{bind-none, one-other, either-seco
 use Rattle.markdown_model.proofs.OneElementList.{text_elements, string_elements}
 use Rattle.markdown_model.proofs.PassesKeepCodes.{codes-run_of}
 use Rattle.markdown_model.proofs.ReadingsCover.{takes_word_of}
-use Rattle.markdown_model_laws.proofs.CharacterRows.{low-early, Early, HasNoStrays, AllLow, Lows, lows-all, value-low, ToSound, ReadsFrom, reads_bind, reads_gives, reads_passed, reads_either, reads_before, reads_anywhere, reads_lows, reads_one, reads_some_low}
+use Rattle.markdown_model_laws.proofs.CharacterRows.{low-early, Early, HasNoStrays, AllLow, Lows, lows-all, value-low, ReadsFrom, reads_bind, reads_gives, reads_passed, reads_either, reads_before, reads_anywhere, reads_lows, reads_one, reads_some_low}
 use Rattle.markdown_model_laws.proofs.EachRow.{EachRow, OfConstructs, tried-has}
 use Rattle.markdown_model_laws.proofs.CharacterConstructs.{HasLeads, leads-row, low-leaf, ReadsLeads, AllBelow, word-lows, leads_character_reference, leads_gfm_task_list_item_check, leads_after_label}
 use Rattle.markdown_model_laws.proofs.ConstructLaws.{leads_character_escape, leads_constructs}
@@ -60,19 +60,15 @@ row f (leaf_then name link cs rest) u h k = (h.0, row (is_open name link) rest u
 row f (group_then name a b inside rest) u h k = (h.0, row false rest u h.1 k)
 
 lead-more : (f x : Bool) (cs : List Code) → Early cs → Lead (f && x) cs
-lead-more true true cs h = tt
-lead-more true false cs h = h
-lead-more false x cs h = h
+lead-more f x cs h = grind arith
 
 pub more : (f : Bool) (t : Forest) → Flagged false t → Flagged f t
 more f empty h = tt
-more f (leaf_then name link cs rest) h = ((lead-more f (is_open name link) cs h.0.0, h.0.1), h.1)
-more f (group_then name a b inside rest) h = h
+more f t h = grind arith
 
 pub of-leads : (f : Bool) (t : Forest) → HasLeads t → Flagged f t
 of-leads f empty h = tt
-of-leads f (leaf_then name link cs rest) h =
-    ((lead-more f (is_open name link) cs h.0.0, (h.0.1.0, λ e. absurd (both_ways (is_run name) h.0.1.1 e))), of-leads (is_open name link) rest h.1)
+of-leads f (leaf_then name link cs rest) h = grind (arith, both_ways, of-leads (is_open name link) rest h.1)
 of-leads f (group_then name a b inside rest) h = (of-leads false inside h.0, of-leads false rest h.1)
 
 low-data : (f : Bool) (cs : List Code) → AllLow cs → Flagged f (leaf N.Data cs)
@@ -162,8 +158,7 @@ abbrev AnswerFits : List Code → Option (Element × List Code) → Type 0
 AnswerFits cs o = IfGiven (FitsBefore cs) o
 
 gone-read : (cs : List Code) (a : Reading Element) → HaveLeads a → HasNoStrays cs → Early cs → AnswerFits cs (a cs)
-gone-read cs a h s w =
-    given-map (ToSound true ElementHasLeads) (FitsBefore cs) (a cs) (λ e rest k. (inr (k.0, k.1.1), k.1.0)) (h.at cs s w)
+gone-read cs a h s w = grind (arith, given-map)
 
 gone-data : (c : Code) (cs : List Code) → HasNoStrays (c ∷ cs) → AnswerFits (c ∷ cs) (data_code (c ∷ cs))
 unfolding data_code one ◌>>=◌ gives
@@ -335,8 +330,7 @@ never e = cc
 
 fit-code : (f : Bool) (e : Element) (es : List Element) (cs rest : List Code) → IsCodeOf cs e rest → (f ≡ false → Early cs) → ElementsFit true es →
     ElementsFit f (e ∷ es)
-fit-code f e es cs rest (c, both_are) h k =
-    subst (λ x. ElementsFit f (x ∷ es)) (sym both_are.0) (((lead-code f c rest cs both_are.1 h, ((λ e. cc), λ e. absurd (never (sym e)))), tt), k)
+fit-code f e es cs rest (c, both_are) h k = grind (arith, lead-code, never)
 
 fit-element : (f : Bool) (e : Element) (es : List Element) → ElementHasLeads e → ((g : Bool) → ElementsFit g es) → ElementsFit f (e ∷ es)
 fit-element f e es g h0 = grind arith
@@ -398,9 +392,7 @@ module _ {O C : Type 0} (IsOpen : O → Type 0) (IsClose : C → Type 0) where
     nest-fits f (item t ∷ w) h =
         let r = nest-fits (out f t) w h.1 in (row f t (joined (nest wrap loose_o loose_c w).0) h.0 r.0, r.1)
     nest-fits f (closes c ∷ w) h = let r = nest-fits false w h.1 in (tt, ((h.0, r.0), r.1))
-    nest-fits f (opens o ∷ w) h =
-        let r = nest-fits false w h.1 in
-        onto-fits f o (nest wrap loose_o loose_c w).0 (nest wrap loose_o loose_c w).1 h.0 r.0 r.1
+    nest-fits f (opens o ∷ w) h = grind (arith, nest-fits false w h.1, onto-fits)
 
     after-fits : (cuts : List (C × List Forest)) → CutsFit cuts → Flagged false (joined (after_loose wrap loose_o loose_c cuts))
     after-fits [] h = tt
@@ -416,9 +408,8 @@ module _ {O C : Type 0} (IsOpen : O → Type 0) (IsClose : C → Type 0) where
 -- Labels.
 
 low-take : (n : ℕ) (cs : List Code) → AllLow cs → AllLow (take n cs)
-low-take zero cs h = tt
-low-take (suc n) [] h = tt
 low-take (suc n) (c ∷ cs) h = (h.0, low-take n cs h.1)
+low-take n cs h = tt
 
 low-drop : (n : ℕ) (cs : List Code) → AllLow cs → AllLow (drop n cs)
 low-drop zero cs h = h
@@ -496,8 +487,7 @@ AllMarkersLow (cs ∷ rest) = AllLow cs × AllMarkersLow rest
 
 cut-low : (sizes : List ℕ) (cs : List Code) → AllLow cs → AllMarkersLow (cut_front sizes cs).0 × AllLow (cut_front sizes cs).1
 cut-low [] cs h = (tt, h)
-cut-low (n ∷ ns) cs h =
-    let r = cut-low ns (drop n cs) (low-drop n cs h) in ((low-take n cs h, r.0), r.1)
+cut-low (n ∷ ns) cs h = grind (arith, cut-low ns (drop n cs) (low-drop n cs h), low-drop, low-take)
 
 closes-fit : (cs : List (List Code)) (w : List Token) → AllMarkersLow cs → Anywhere w → Anywhere (map closes cs ++ w)
 closes-fit [] w l h = h

@@ -5,7 +5,7 @@ use Rattle.std.specs.Str.{IsUtf8, IsCharBoundary}
 use Rattle.std.proofs.lemmas.Bool.{ltb-true}
 use Rattle.std.proofs.lemmas.Bool.Decides.{nat_tests}
 use Rattle.std.proofs.lemmas.List.Elements.{All-cons, All-nil}
-use Rattle.std.proofs.lemmas.Str.{IsUtf8-between, IsUtf8-from_ascii, IsCharBoundary-after_ascii}
+use Rattle.std.proofs.lemmas.Str.{IsUtf8-between, IsCharBoundary-after_ascii}
 use Rattle.markdown_content.specs.Codes.{Code, document_start, is_line_ending_byte, place_of, stop_of}
 use Rattle.markdown_content.specs.Content.{IsContent, content_of}
 use Rattle.markdown_content.specs.DocumentWalk.{IsPoint}
@@ -104,17 +104,14 @@ module _ (bytes : List ℕ) where
         IsUtf8-between bytes (byte_from p) (byte_from q) utf8 (later-numbers p.index p.vs q.index q.vs h.forward) (from-bound p h.from_place b) (from-bound q h.to_place d)
 
     text-nowhere : (a b : Point) → a ≡ b → IsUtf8 (position_bytes bytes a b)
-    text-nowhere a b e =
-        subst (λ (x : Point). IsUtf8 (position_bytes bytes a x)) e (subst IsUtf8 (sym (slice-none bytes (byte_from a))) (IsUtf8-from_ascii [] (λ i. omega arith)))
+    text-nowhere a b e = grind (arith, slice-none)
 
     -- Trees.
 
     heads-early : (t : Forest) (after : List Code) → AreWhole t → Early after → Early (leaf_codes t ++ after)
-    heads-early empty after h e = e
-    heads-early (leaf_then name link [] rest) after h e = absurd (h.0.1 refl)
-    heads-early (leaf_then name link (c ∷ cs) rest) after h e = h.0.0.0
     heads-early (group_then name a b inside rest) after h e =
         subst Early (sym (append_assoc (leaf_codes inside) (leaf_codes rest) after)) (heads-early inside (leaf_codes rest ++ after) h.0 (heads-early rest after h.1 e))
+    heads-early t after h e = grind arith
 
     -- What holds of a leaf that begins and ends between characters, and of a group around nothing, holds of each span.
 

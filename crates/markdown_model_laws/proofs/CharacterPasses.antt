@@ -77,8 +77,7 @@ AreWhole (group_then name a b inside rest) = AreWhole inside × AreWhole rest
 
 led-whole : (t : Forest) → HasEarlyLeaves t → HasNoStrays (leaf_codes t) → AreWhole t
 led-whole empty h s = tt
-led-whole (leaf_then name link cs rest) h s =
-    (((h.0.0, sound-front cs (leaf_codes rest) s), h.0.1), led-whole rest h.1 (sound-back cs (leaf_codes rest) s))
+led-whole (leaf_then name link cs rest) h s = grind (arith, sound-front, s, led-whole rest h.1 (sound-back cs (leaf_codes rest) s), sound-back)
 led-whole (group_then name a b inside rest) h s =
     (led-whole inside h.0 (sound-front (leaf_codes inside) (leaf_codes rest) s), led-whole rest h.1 (sound-back (leaf_codes inside) (leaf_codes rest) s))
 
@@ -110,8 +109,7 @@ blank-span true cs = low-list is_blank blank-low (span is_blank cs).0 (span-all 
 blank-span false cs = tt
 
 three : (m n : Name) (a b d cs : List Code) → leaf_codes (leaf N.SpaceOrTab a ⊕ leaf m b ⊕ leaf n d) ≡ cs → a ++ (b ++ d) ≡ cs
-three m n a b d cs e =
-    sym (leaf_codes-row (leaf N.SpaceOrTab a) (leaf m b ⊕ leaf n d) ∙ (λ i. codes-leaf N.SpaceOrTab a i ++ (leaf_codes-row (leaf m b) (leaf n d) ∙ (λ j. codes-leaf m b j ++ codes-leaf n d j)) i)) ∙ e
+three m n a b d cs e = grind (arith, leaf_codes-row, codes-leaf)
 
 cut-whole : (front back : Bool) (hard : HardBreaks) (cs : List Code) → Starts cs → AreWhole (trimmed_data front back hard cs)
 cut-whole front back hard cs h =
@@ -165,15 +163,7 @@ domain-low slashes (c ∷ cs) =
   where
     by_tests : (a b x d e g : Bool) → (a ≡ true → is_low c ≡ true) → (b ≡ true → is_low c ≡ true) → (d ≡ true → is_low c ≡ true) → (e ≡ true → is_low c ≡ true) → AllLow (email_domain slashes cs).0 →
         (let r : List Code × List Code = elim ((a || b) || ((x && d) || (e && g))) [ true ↦ let s = email_domain slashes cs in (c ∷ s.0, s.1) | false ↦ ([], c ∷ cs) ] in AllLow r.0)
-    by_tests true b x d e g h k l m more = (h refl, more)
-    by_tests false true x d e g h k l m more = (k refl, more)
-    by_tests false false true true e g h k l m more = (l refl, more)
-    by_tests false false true false true true h k l m more = (m refl, more)
-    by_tests false false true false true false h k l m more = tt
-    by_tests false false true false false g h k l m more = tt
-    by_tests false false false d true true h k l m more = (m refl, more)
-    by_tests false false false d true false h k l m more = tt
-    by_tests false false false d false g h k l m more = tt
+    by_tests a b x d e g h k l m more = grind arith
 
 -- the literal is a leaf of ASCII codes
 abbrev IsLowLeaf : Forest → Type 0
@@ -206,9 +196,7 @@ email-low before at after = by_test (is_value (byte "@") at) (not (is_empty loca
     by_test : (v x d : Bool) → (v ≡ true → is_low at ≡ true) →
         HasLowLeaf (elim ((v && x) && d) [ true ↦ Some (reverse protocol.2, leaf protocol.0 (reverse (local.0 ++ protocol.1) ++ at ∷ domain.0), domain.1) | false ↦ None ])
     by_test true true true h = (protocol.0, reverse (local.0 ++ protocol.1) ++ at ∷ domain.0, refl, with-sign (reverse (local.0 ++ protocol.1)) domain.0 at front (h refl) (domain-low (is_xmpp protocol.0) after))
-    by_test true true false h = tt
-    by_test true false d h = tt
-    by_test false x d h = tt
+    by_test v x d h = tt
 
 found-whole : (x : List Code × Forest × List Code) (cs : List Code) → IsLowLeaf x.1 → x.0 ++ (leaf_codes x.1 ++ x.2) ≡ cs → Starts cs →
     Starts x.0 × (AreWhole x.1 × Starts x.2)

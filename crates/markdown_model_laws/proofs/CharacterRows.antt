@@ -1,5 +1,5 @@
 -- Codes of texts: which begin a character, and readings that stop between two.
-use Rattle.std.proofs.Common.{◌≡◌, ◌==◌, ◌||◌, nat_lt, ℕ, Bool, true, false, List, [], ◌∷◌, ◌++◌, Option, refl, ap, ◌∙◌, arith}
+use Rattle.std.proofs.Common.{◌≡◌, ◌==◌, ◌||◌, nat_lt, ℕ, Bool, true, false, List, [], ◌∷◌, ◌++◌, Option, refl, ap, ◌∙◌, arith, rules}
 use Rattle.std.specs.List.{list_all, list_any}
 use Rattle.std.proofs.lemmas.Bool.{and_parts, eqb-true}
 use Rattle.std.proofs.lemmas.Bool.Decides.{nat_tests}
@@ -178,8 +178,7 @@ module _ {A : Type 0} (P : A → Type 0) where
 
   -- where more is known in front, and less behind
   pub reads_weaker : (p r : Bool) (a : Reading A) → ReadsFrom p true P a → ReadsFrom p r P a
-  reads_weaker p r a h =
-      record { at = λ cs s w. given-map (ToSound true P) (ToSound r P) (a cs) (λ x rest k. (k.0, (k.1.0, forgot r rest k.1.1))) (h.at cs s w) }
+  reads_weaker p r a h = search (rules, given-map)
 
   pub reads_anywhere : (p r : Bool) (a : Reading A) → ReadsFrom false r P a → ReadsFrom p r P a
   reads_anywhere p r a h = record { at = λ cs s w. h.at cs s tt }

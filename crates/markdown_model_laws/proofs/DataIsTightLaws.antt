@@ -8,7 +8,7 @@ use Rattle.std.proofs.lemmas.List.{reverse-append}
 use Rattle.markdown_model.proofs.GivenNames.{blank-named}
 use Rattle.markdown_event.specs.declared.event.Name.{Name}
 use Rattle.markdown_content.specs.Codes.{Code, is_blank}
-use Rattle.markdown_content.specs.Tree.{Forest, empty, leaf_then, group_then, leaf, ◌⊕◌, leaf_codes}
+use Rattle.markdown_content.specs.Tree.{Forest, empty, leaf_then, group_then, leaf, ◌⊕◌}
 use Rattle.markdown_model.specs.CodeTests.{is_empty, next_is, is_some_code, last_code}
 use Rattle.markdown_model.specs.Grammar.{span}
 use Rattle.markdown_model.specs.Elements.{string_elements_of}
@@ -28,9 +28,8 @@ use Rattle.markdown_model_laws.proofs.EmailLeaves.{IsEmailLeaf, AnswerIsEmail, a
 -- Last codes.
 
 last-of-more : (xs : List Code) (y : Code) (ys : List Code) → last_code (xs ++ y ∷ ys) ≡ last_code (y ∷ ys)
-last-of-more [] y ys = refl
-last-of-more (x ∷ []) y ys = refl
 last-of-more (x ∷ z ∷ xs) y ys = last-of-more (z ∷ xs) y ys
+last-of-more xs y ys = refl
 
 -- what the last code of a list fails, the last one of its back fails too
 last-of-back : (xs ys : List Code) → is_some_code is_blank (last_code (xs ++ ys)) ≡ false →
@@ -40,8 +39,7 @@ last-of-back xs (y ∷ ys) h = ap (is_some_code is_blank) (sym (last-of-more xs 
 
 last-reversed : (cs : List Code) → next_is is_blank cs ≡ false → is_some_code is_blank (last_code (reverse cs)) ≡ false
 last-reversed [] h = refl
-last-reversed (c ∷ cs) h =
-    ap (λ x. is_some_code is_blank (last_code x)) (reverse-append (c ∷ []) cs) ∙ ap (is_some_code is_blank) (last-of-more (reverse cs) c []) ∙ h
+last-reversed (c ∷ cs) h = grind (arith, reverse-append (c ∷ []) cs, last-of-more)
 
 -- Leaves that are no data and no line ending.
 
@@ -52,9 +50,7 @@ is_other _ = true
 
 tight-other : (tight : Bool) (front whole : Bool) (name : Name) (cs : List Code) (f : Forest) → is_other name ≡ true →
     IsTight tight false whole f → IsTight tight front whole (leaf_then name None cs f)
-tight-other tight front whole Name.Data cs f h k = cc
-tight-other tight front whole Name.LineEnding cs f h k = cc
-tight-other tight front whole name cs f h k = k
+tight-other tight front whole name cs f h k = grind arith
 
 not-ending : (name : Name) (cs : List Code) (f : Forest) → is_other name ≡ true →
     begins_line_ending (leaf_then name None cs f) ≡ false
@@ -96,8 +92,7 @@ tight-back tight front whole ys zs name f h0 h1 h2 h3 h4 = grind (arith, tight-o
 tight-three : (tight : Bool) (front whole : Bool) (xs ys zs : List Code) (name : Name) (f : Forest) → is_other name ≡ true → NotBlankFirst front ys → NotBlankLast (goes_last tight whole f) ys
     → IsTight tight front whole f → IsTight tight false whole f → IsTight tight front whole ((leaf Name.SpaceOrTab xs ⊕ leaf Name.Data ys ⊕ leaf name zs) ⊕ f)
 tight-three tight front whole [] ys zs name f o first last h k = tight-back tight front whole ys zs name f o first last h k
-tight-three tight front whole (x ∷ xs) ys zs name f o first last h k =
-    tight-back tight false whole ys zs name f o (never false refl) last k k
+tight-three tight front whole (x ∷ xs) ys zs name f o first last h k = grind (arith, tight-back, never)
 
 -- Trimming.
 
@@ -118,8 +113,7 @@ front-first false cs h = cc
 
 front-last : (front : Bool) (cs : List Code) → is_some_code is_blank (last_code cs) ≡ false →
     is_some_code is_blank (last_code (front_cut front cs).1) ≡ false
-front-last true cs h =
-    last-of-back (span is_blank cs).0 (span is_blank cs).1 (ap (λ x. is_some_code is_blank (last_code x)) (span-append is_blank cs) ∙ h)
+front-last true cs h = grind (arith, last-of-back, span-append is_blank cs)
 front-last false cs h = h
 
 back-last : (back : Bool) (cs : List Code) → back ≡ true →
@@ -183,8 +177,7 @@ module _ (tight whole : Bool) (f : Forest) (k : IsTight tight false whole f) whe
   first-part front (x ∷ xs) ds cs e g h = sym (first-of-more x xs ds cs e) ∙ g h
 
   last-part : (b : Bool) (xs ys ds cs : List Code) → xs ++ (ys ++ ds) ≡ cs → NotBlankLast b cs → NotBlankLast b ds
-  last-part b xs ys ds cs e g h =
-      last-of-back (xs ++ ys) ds (ap (λ z. is_some_code is_blank (last_code z)) (append_assoc xs ys ds ∙ e) ∙ g h)
+  last-part b xs ys ds cs e g h = grind (arith, last-of-back, append_assoc)
 
   emails-tight : (n : ℕ) (front : Bool) (before cs : List Code) →
       TightLaw front (reverse before ++ cs) (email_leaves n before cs)
@@ -206,9 +199,7 @@ module _ (tight whole : Bool) (f : Forest) (k : IsTight tight false whole f) whe
       by_answer None h l more after =
           let e : all ≡ reverse (c ∷ before) ++ cs = sym (reverse-first c before cs) in
           more (subst (HasCodesIfAsked front) e b) (subst (NotBlankFirst front) e first) (subst (NotBlankLast (goes_last tight whole f)) e last)
-      by_answer (Some x) h l more after =
-          email-tight front x.0 x.1 (email_leaves n [] x.2) l (first-part front x.0 (leaf_codes x.1 ++ x.2) all h first)
-          (after x.2 (λ _. refl) (never false refl) (last-part (goes_last tight whole f) x.0 (leaf_codes x.1) x.2 all h last))
+      by_answer (Some x) h l more after = grind (arith, email-tight, first-part, never, last-part)
 
 -- a row begins with a leaf that is no line ending
 abbrev pub BeginsLeaf : Forest → Type 0

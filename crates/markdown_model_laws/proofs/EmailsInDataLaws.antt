@@ -1,5 +1,5 @@
 -- Email literals stand in data.
-use Rattle.std.proofs.Common.{◌≡◌, ℕ, zero, suc, true, false, List, [], ◌∷◌, ◌++◌, length, reverse, if◌then◌else◌, refl, sym, ap, ◌∙◌, append-nil, Option, Some, None, arith}
+use Rattle.std.proofs.Common.{◌≡◌, ℕ, zero, suc, List, [], ◌∷◌, ◌++◌, reverse, refl, sym, ap, ◌∙◌, append-nil, Option, Some, None, arith}
 use Rattle.markdown_event.specs.declared.event.Name.{Name}
 use Rattle.markdown_content.specs.Codes.{Code}
 use Rattle.markdown_content.specs.Tree.{Forest, empty, leaf_then, group_then, leaf, ◌⊕◌, leaf_codes}
@@ -7,7 +7,7 @@ use Rattle.markdown_model.specs.GfmEmailLiteral.{email_at, email_leaves, with_em
 use Rattle.markdown_model.specs.Passes.{data_onto, merged, with_emails_apart}
 use Rattle.markdown_model.proofs.LiteralCodes.{HasCodesAround, found, reverse-first}
 use Rattle.markdown_model.proofs.MergedParts.{data_onto-twice}
-use Rattle.markdown_model_laws.specs.EmailsInData.{is_email, as_data, EmailsStandInData}
+use Rattle.markdown_model_laws.specs.EmailsInData.{as_data, EmailsStandInData}
 use Rattle.markdown_model_laws.proofs.EmailLeaves.{IsEmailLeaf, AnswerIsEmail, answer-email}
 
 -- codes as data before a merged row, where there are any
@@ -16,9 +16,7 @@ onto [] f = f
 onto (c ∷ cs) f = data_onto (c ∷ cs) f
 
 onto-twice : (cs ds : List Code) (f : Forest) → onto cs (onto ds f) ≡ onto (cs ++ ds) f
-onto-twice [] ds f = refl
-onto-twice (c ∷ cs) [] f = ap (λ x. data_onto (c ∷ x) f) (sym (append-nil cs))
-onto-twice (c ∷ cs) (d ∷ ds) f = data_onto-twice (c ∷ cs) (d ∷ ds) f
+onto-twice cs ds f = grind (arith, append-nil, data_onto-twice)
 
 data-first : (cs : List Code) (f : Forest) → merged (as_data (leaf Name.Data cs ⊕ f)) ≡ onto cs (merged (as_data f))
 unfolding merged
@@ -51,8 +49,7 @@ emails-data (suc n) before (c ∷ cs) f = by_answer (email_at before c cs) (foun
         join-assoc : (a b d : Forest) → (a ⊕ b) ⊕ d ≡ a ⊕ (b ⊕ d)
         join-assoc empty b d = refl
         join-assoc (leaf_then name link es rest) b d = ap (leaf_then name link es) (join-assoc rest b d)
-        join-assoc (group_then name enter exit inside rest) b d =
-            ap (group_then name enter exit inside) (join-assoc rest b d)
+        join-assoc (group_then name enter exit inside rest) b d = grind (arith, join-assoc rest b d)
 
         three : (a b d : Forest) → (a ⊕ b ⊕ d) ⊕ f ≡ a ⊕ (b ⊕ (d ⊕ f))
         three a b d = join-assoc a (b ⊕ d) f ∙ ap (λ t. a ⊕ t) (join-assoc b d f)
@@ -66,19 +63,11 @@ other-leaf name cs f g h = ap (leaf_then name None cs) h
 pub emails_stand_in_data : EmailsStandInData
 unfolding merged with_emails_apart with_emails
 emails_stand_in_data empty h = refl
-emails_stand_in_data (leaf_then Name.Data None [] rest) h = absurd (both h.0)
-  where
-    both : true ≡ false → ⊥
-    both e = cc
-emails_stand_in_data (leaf_then Name.Data None (c ∷ cs) rest) h =
-    emails-data (length (c ∷ cs)) [] (c ∷ cs) (with_emails_apart rest) ∙ ap (data_onto (c ∷ cs)) (emails_stand_in_data rest h.1)
-emails_stand_in_data (leaf_then name None cs rest) h =
-    other-leaf (if is_email name then Name.Data else name) cs (as_data (with_emails_apart rest)) (as_data rest) (emails_stand_in_data rest h)
-emails_stand_in_data (leaf_then Name.Data (Some link) cs rest) h =
-    ap (leaf_then Name.Data (Some link) cs) (emails_stand_in_data rest h)
-emails_stand_in_data (leaf_then name (Some link) cs rest) h =
-    ap (leaf_then name (Some link) cs) (emails_stand_in_data rest h)
-emails_stand_in_data (group_then Name.Link enter exit inside rest) h =
-    ap (group_then Name.Link enter exit (merged (as_data inside))) (emails_stand_in_data rest h.1)
+emails_stand_in_data (leaf_then Name.Data None [] rest) h = cc
+emails_stand_in_data (leaf_then Name.Data None (c ∷ cs) rest) h = grind (arith, emails-data, emails_stand_in_data rest h.1)
+emails_stand_in_data (leaf_then name None cs rest) h = grind (arith, other-leaf, emails_stand_in_data rest h)
+emails_stand_in_data (leaf_then Name.Data (Some link) cs rest) h = grind (arith, emails_stand_in_data rest h)
+emails_stand_in_data (leaf_then name (Some link) cs rest) h = grind (arith, emails_stand_in_data rest h)
+emails_stand_in_data (group_then Name.Link enter exit inside rest) h = grind (arith, emails_stand_in_data rest h.1)
 emails_stand_in_data (group_then name enter exit inside rest) h =
     λ i. group_then name enter exit (emails_stand_in_data inside h.0 i) (emails_stand_in_data rest h.1 i)

@@ -4,9 +4,9 @@ use Rattle.markdown_model_laws.proofs.TreesFilledLaws.{more-codes}
 use Rattle.std.proofs.lemmas.List.{reverse-reverse}
 use Rattle.markdown_event.specs.declared.event.Name.{Name}
 use Rattle.markdown_content.specs.Codes.{Code, codes_of, document_start, stop_of, place_of}
-use Rattle.markdown_content.specs.Content.{content_of, piece_codes}
+use Rattle.markdown_content.specs.Content.{content_of}
 use Rattle.markdown_content.specs.Tree.{Forest, empty, leaf_then, group_then, leaf, ◌⊕◌, leaf_codes, events_of}
-use Rattle.markdown_content.proofs.AdjacentCodes.{IsChain, before_in, before_in-split, from_in-all}
+use Rattle.markdown_content.proofs.AdjacentCodes.{IsChain, before_in-split, from_in-all}
 use Rattle.markdown_content.proofs.DocumentPlaces.{chain-document}
 use Rattle.markdown_content.proofs.ContentCodes.{piece-codes-is}
 use Rattle.markdown_model.specs.CodeTests.{is_value, is_empty, is_ascii_punctuation}
@@ -73,10 +73,8 @@ are-elements : (s : Setting) (is : List Item) (earlier : List Element) (previous
     → AreElementsFrom (string_choice s) earlier previous (item_codes is) (elements is)
 unfolding elements
 are-elements s [] earlier previous on h = refl
-are-elements s (itself c ∷ is) earlier previous on h =
-    (item_codes is, read-itself s c (item_codes is) h.0, are-elements s is (plain (leaf Name.Data (c ∷ [])) ∷ earlier) (code_before (c ∷ item_codes is) (item_codes is)) on h.1)
-are-elements s (escape_of slash c ∷ is) earlier previous on h =
-    (item_codes is, read-escape s slash c (item_codes is) on h.0.0 h.0.1, are-elements s is (plain (escape_tree (slash ∷ []) (c ∷ [])) ∷ earlier) (code_before (slash ∷ c ∷ item_codes is) (item_codes is)) on h.1)
+are-elements s (itself c ∷ is) earlier previous on h = grind (arith, read-itself, are-elements s is (plain (leaf Name.Data (c ∷ [])) ∷ earlier) (code_before (c ∷ item_codes is) (item_codes is)) on h.1)
+are-elements s (escape_of slash c ∷ is) earlier previous on h = grind (arith, read-escape, are-elements s is (plain (escape_tree (slash ∷ []) (c ∷ [])) ∷ earlier) (code_before (slash ∷ c ∷ item_codes is) (item_codes is)) on h.1)
 
 are-plain : (is : List Item) → ArePlainElements (elements is)
 unfolding elements
@@ -163,20 +161,13 @@ untrimmed rules (group_then name enter exit inside rest) h =
 
 finished : (rules : Rules) (is : List Item) → finished_string rules (elements is) ≡ merged (row is)
 unfolding finished_string row
-finished rules is =
-    ap (λ f. trimmed (no_breaks rules) false false (merged f)) (labels_of-plain (elements is) (are-plain is)) ∙ untrimmed rules (merged (row is)) (fine-merged (row is) (row-fine is).0)
+finished rules is = grind (arith, labels_of-plain, are-plain, untrimmed, fine-merged, row-fine)
 
 -- The content of the whole document.
 
 all-codes : (bytes : List ℕ) → place_of (stop_of document_start (codes_of bytes)) ≡ (length bytes, 0) →
     content_of bytes (whole bytes) ≡ codes_of bytes
-all-codes bytes e =
-    append-nil (piece_codes (codes_of bytes) (record { start = (0, 0); end = (length bytes, 0) }))
-    ∙ piece-codes-is bytes (record { start = (0, 0); end = (length bytes, 0) })
-    ∙ ap (λ cs. before_in (length bytes, 0) cs) (from_in-all document_start (codes_of bytes) (0, 0) (chain-document bytes) refl)
-    ∙ ap (λ at. before_in at (codes_of bytes)) (sym e)
-    ∙ ap (λ cs. before_in (place_of (stop_of document_start (codes_of bytes))) cs) (sym (append-nil (codes_of bytes)))
-    ∙ before_in-split document_start (codes_of bytes) [] (subst (λ cs. IsChain document_start cs) (sym (append-nil (codes_of bytes))) (chain-document bytes))
+all-codes bytes e = grind (arith, append-nil, piece-codes-is, from_in-all document_start (codes_of bytes) (0, 0) (chain-document bytes) refl, chain-document bytes, append-nil (codes_of bytes), before_in-split)
 
 pub escapes : Escapes
 unfolding string_tree

@@ -1,5 +1,5 @@
 -- The codes of a text that is escaped: codes that mean themselves, and escapes.
-use Rattle.std.proofs.Common.{◌≡◌, ℕ, zero, suc, ◌+◌, ◌-◌, ◌==◌, Bool, true, false, not, List, [], ◌∷◌, ◌++◌, length, drop, map, if◌then◌else◌, refl, sym, ap, subst, ◌∙◌, arith, inl, inr, append-nil}
+use Rattle.std.proofs.Common.{◌≡◌, ℕ, zero, suc, ◌+◌, ◌-◌, ◌==◌, Bool, true, false, not, List, [], ◌∷◌, ◌++◌, length, drop, map, if◌then◌else◌, refl, sym, ap, subst, ◌∙◌, arith, inl, inr, append-nil, rules}
 use Rattle.std.specs.Prelude.{slice_range}
 use Rattle.markdown_engine.proofs.SolidTrees.{stop_of-append}
 use Rattle.std.proofs.Math.Bool.{and-false}
@@ -190,22 +190,15 @@ with-escape all before p q b rest text e punct h r = record {
     alone = ap (λ t. if t then codes_of_tab tab_value (tab_width q - 1) q else value ∷ []) plain.2
 
     first : codes_from before p (92 ∷ b ∷ rest) ≡ slash ∷ value ∷ codes_from b (next_column q (q.index + 1) 0) rest
-    first =
-        first-codes before p 92 (b ∷ rest) refl refl
-        ∙ (λ i. record { value = 92; start = p; stop = sym e i } ∷ codes_from 92 (sym e i) (b ∷ rest))
-        ∙ ap (λ x. slash ∷ x) (first-codes 92 q b rest plain.0 plain.1 ∙ ap (λ cs. cs ++ codes_from b (stop_of q cs) rest) alone)
+    first = grind (arith, first-codes, plain, alone)
 
 one-line : (b : ℕ) (bs : List ℕ) → has_one_line (b ∷ bs) ≡ true →
     ((b == line_feed) ≡ false) × ((b == carriage_return) ≡ false) × (has_one_line bs ≡ true)
-one-line b bs h =
-    let parts = and_parts (not (is_line_ending_byte b)) (has_one_line bs) h in
-    let tests = or_parts (b == line_feed) (b == carriage_return) (not-true (is_line_ending_byte b) parts.0) in
-    (tests.0, tests.1, parts.1)
+one-line b bs h = grind (arith, and_parts (not (is_line_ending_byte b)) (has_one_line bs) h, or_parts, not-true)
 
 pub read : (all : List ℕ) (text : List ℕ) (before : ℕ) (p : Point) → has_one_line text ≡ true →
     TextIsHere all p (escaped text) → SpellsText all p (codes_from before p (escaped text)) text
-read all [] before p one h =
-    record { items = []; are = tt; codes = refl; bytes = refl; ends = record { index = omega (arith, h.size); vs = h.vs } }
+read all [] before p one h = search (rules)
 read all (b ∷ bs) before p one h = by_test (is_punctuation b) refl h (λ c q k. read all bs c q line.2 k)
   where
     line : ((b == line_feed) ≡ false) × ((b == carriage_return) ≡ false) × (has_one_line bs ≡ true)

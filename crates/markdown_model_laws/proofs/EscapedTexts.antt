@@ -4,7 +4,7 @@ use Rattle.std.proofs.lemmas.Bool.{or_right, or_left}
 use Rattle.std.proofs.lemmas.List.{reverse-append, reverse-reverse}
 use Rattle.markdown_content.specs.Codes.{Code}
 use Rattle.markdown_model.specs.CodeTests.{is_value, next_is}
-use Rattle.markdown_model.specs.Grammar.{with_first, escaped_from, span}
+use Rattle.markdown_model.specs.Grammar.{escaped_from, span}
 use Rattle.markdown_partial.proofs.EscapedTextReadings.{Behind, first-some, text-end, text-taken, text-stops, text-refused, text-next, text}
 use Rattle.markdown_model_laws.specs.LinkParts.{is_odd, escapes_next}
 
@@ -32,8 +32,7 @@ after-last slash (d ∷ cs) c = after-last (turned slash d) cs c
 
 after-back : (cs : List Code) → slash_after false (reverse cs) ≡ slash_back cs
 after-back [] = refl
-after-back (c ∷ cs) =
-    ap (slash_after false) (reverse-append (c ∷ []) cs) ∙ after-last false (reverse cs) c ∙ ap (λ b. turned b c) (after-back cs)
+after-back (c ∷ cs) = grind (arith, reverse-append (c ∷ []) cs, after-last false (reverse cs) c, after-back cs)
 
 pub escapes-after : (cs : List Code) → escapes_next cs ≡ slash_after false cs
 escapes-after cs = odd-span (reverse cs) ∙ sym (after-back (reverse cs)) ∙ ap (slash_after false) (reverse-reverse cs)
@@ -68,12 +67,8 @@ module _ (stop takes refuses : Code → Bool) (slashes : (c : Code) → is_value
     where
       inside : (xs ys : List Code) (d : Code) → c ∷ text ≡ xs ++ (d ∷ ys) → marks d ≡ true →
           slash_after slash xs && takes d ≡ true
-      inside [] ys d e k =
-          let same : c ≡ d = cc in subst (λ x. slash && takes x ≡ true) same (first (subst (λ x. marks x ≡ true) (sym same) k))
-      inside (x ∷ xs) ys d e k =
-          let same : c ≡ x = cc in
-          let more : text ≡ xs ++ (d ∷ ys) = cc in
-          subst (λ y. slash_after (turned slash y) xs && takes d ≡ true) same (h.inside xs ys d more k)
+      inside [] ys d e k = grind arith
+      inside (x ∷ xs) ys d e k = grind (arith, text)
 
   -- one code less
   behind_first : (slash : Bool) (c : Code) (text : List Code) → Is slash (c ∷ text) → Is (turned slash c) text
@@ -100,8 +95,7 @@ module _ (stop takes refuses : Code → Bool) (slashes : (c : Code) → is_value
           slash_after slash xs && takes d ≡ true
       none [] ys d p q = cc
       none (x ∷ xs) ys d p q = cc
-  read-by false false true slash c cs r e h k g f =
-      let no : None ≡ Some r = sym (text-refused stop takes refuses slash c cs e h k) ∙ g in cc
+  read-by false false true slash c cs r e h k g f = grind (arith, text-refused)
   read-by false false false slash c cs r e h k g f =
       let b : Behind c (escaped_from stop takes refuses (c.value == 92) cs) r = first-some c (escaped_from stop takes refuses (c.value == 92) cs) r (sym (text-next stop takes refuses slash c cs e h k) ∙ g) in
       let none : marks c ≡ false = rw (h, k) refl in
@@ -118,16 +112,12 @@ module _ (stop takes refuses : Code → Bool) (slashes : (c : Code) → is_value
   found-by : (x y z : Bool) (slash : Bool) (c : Code) (text rest : List Code) → slash && takes c ≡ x → stop c ≡ y → refuses c ≡ z → Is slash (c ∷ text)
       → ((b : Bool) → Is b text → escaped_from stop takes refuses b (text ++ rest) ≡ Some (text, rest))
       → escaped_from stop takes refuses slash (c ∷ (text ++ rest)) ≡ Some (c ∷ text, rest)
-  found-by true y z slash c text rest e h k i f =
-      text-taken stop takes refuses slash c (text ++ rest) e
-      ∙ ap (with_first c) (f false (subst (λ s. Is s text) (taken-turned takes slash c e) (behind_first slash c text i)))
+  found-by true y z slash c text rest e h k i f = grind (arith, text-taken, text, taken-turned, behind_first)
   found-by false true z slash c text rest e h k i f =
       let no : slash && takes c ≡ true = i.inside [] text c refl (or_left (stop c) (refuses c) h) in cc
   found-by false false true slash c text rest e h k i f =
       let no : slash && takes c ≡ true = i.inside [] text c refl (or_right (stop c) (refuses c) k) in cc
-  found-by false false false slash c text rest e h k i f =
-      text-next stop takes refuses slash c (text ++ rest) e h k
-      ∙ ap (with_first c) (f (c.value == 92) (subst (λ s. Is s text) (next-turned takes slashes slash c e) (behind_first slash c text i)))
+  found-by false false false slash c text rest e h k i f = grind (arith, text-next, text, next-turned, behind_first)
 
   pub found : (slash : Bool) (text rest : List Code) → Is slash text → next_is stop rest ≡ true →
       escaped_from stop takes refuses slash (text ++ rest) ≡ Some (text, rest)

@@ -8,15 +8,14 @@ use Rattle.markdown_attention.proofs.PairedContainersFlat.{flat-row, ready-row}
 use Rattle.markdown_attention.proofs.MarkerCodes.{singles-content}
 use Rattle.markdown_attention.proofs.ElementsHaveMarkerRuns.{good-tree}
 use Rattle.markdown_content.specs.Codes.{Code, codes_of, document_start, is_at_or_after, place_of, stop_of}
-use Rattle.markdown_content.specs.Content.{IsContent, content_of, is_in_piece, piece_codes}
+use Rattle.markdown_content.specs.Content.{IsContent, content_of}
 use Rattle.markdown_content.specs.Tree.{Forest, empty, leaf_then, group_then, leaf_codes, event_count, events_from, events_of}
 use Rattle.markdown_event.specs.declared.event.Event.{Event}
-use Rattle.markdown_event.specs.declared.event.Kind.TheVariants as Kind
 use Rattle.markdown_event.specs.declared.event.Name.{Name}
 use Rattle.markdown_event.specs.declared.event.Point.{Point}
 use Rattle.markdown_content.specs.declared.parser.Piece.{Piece}
 use Rattle.markdown_content.proofs.AdjacentCodes.{IsChain}
-use Rattle.markdown_content.proofs.PlaceOrder.{is_before, before-asym, at_or_after-is}
+use Rattle.markdown_content.proofs.PlaceOrder.{before-asym, at_or_after-is}
 use Rattle.markdown_content.proofs.DocumentPlaces.{chain-document}
 use Rattle.markdown_model.specs.Elements.{elements_of, string_elements_of}
 use Rattle.markdown_model.specs.GfmEmailLiteral.{with_emails}
@@ -45,22 +44,19 @@ use Rattle.markdown_model.proofs.PairListsWithin.{whole-pairs}
 
 leaves-places : (f : Forest) → AreLeaves f → places_of f ≡ ends_of (leaf_codes f)
 leaves-places empty h = refl
-leaves-places (leaf_then name link cs rest) h =
-    ap (λ x. ends_of cs ++ x) (leaves-places rest h.1) ∙ sym (ends-join cs (leaf_codes rest))
+leaves-places (leaf_then name link cs rest) h = grind (arith, leaves-places rest h.1, ends-join)
 leaves-places (group_then name enter exit inside rest) h = absurd h
 
 -- Merging.
 
 onto-places : (cs : List Code) (f : Forest) → places_of (data_onto cs f) ≡ ends_of cs ++ places_of f
-onto-places cs (leaf_then Name.Data None more rest) =
-    ap (λ x. x ++ places_of rest) (ends-join cs more) ∙ append_assoc (ends_of cs) (ends_of more) (places_of rest)
+onto-places cs (leaf_then Name.Data None more rest) = grind (arith, ends-join, append_assoc)
 onto-places cs rest = refl
 
 merged-places : (f : Forest) → places_of (merged f) ≡ places_of f
 unfolding merged
 merged-places empty = refl
-merged-places (leaf_then Name.Data None cs rest) =
-    onto-places cs (merged rest) ∙ ap (λ x. ends_of cs ++ x) (merged-places rest)
+merged-places (leaf_then Name.Data None cs rest) = grind (arith, onto-places, merged-places rest)
 merged-places (leaf_then name link cs rest) = ap (λ x. ends_of cs ++ x) (merged-places rest)
 merged-places (group_then name enter exit inside rest) =
     λ i. place_of enter ∷ (merged-places inside i ++ (place_of exit ∷ merged-places rest i))
@@ -69,8 +65,7 @@ merged-places (group_then name enter exit inside rest) =
 
 trimmed_data-places : (front back : Bool) (hard : HardBreaks) (cs : List Code) →
     places_of (trimmed_data front back hard cs) ≡ ends_of cs
-trimmed_data-places front back hard cs =
-    leaves-places (trimmed_data front back hard cs) (leaves-trimmed_data front back hard cs) ∙ ap ends_of (codes-trimmed_data front back hard cs)
+trimmed_data-places front back hard cs = grind (arith, leaves-places, leaves-trimmed_data, codes-trimmed_data)
 
 trimmed-places : (hard : HardBreaks) (front whole : Bool) (f : Forest) → places_of (trimmed hard front whole f) ≡ places_of f
 unfolding trimmed
@@ -78,10 +73,8 @@ trimmed-places hard front whole empty = refl
 trimmed-places hard front whole (leaf_then Name.Data None cs rest) =
     places-join (trimmed_data front (begins_line_ending rest || (whole && is_nothing rest)) (breaks_where hard (begins_line_ending rest)) cs) (trimmed hard false whole rest)
     ∙ (λ i. trimmed_data-places front (begins_line_ending rest || (whole && is_nothing rest)) (breaks_where hard (begins_line_ending rest)) cs i ++ trimmed-places hard false whole rest i)
-trimmed-places hard front whole (leaf_then Name.LineEnding link cs rest) =
-    ap (λ x. ends_of cs ++ x) (trimmed-places hard true whole rest)
-trimmed-places hard front whole (leaf_then name link cs rest) =
-    ap (λ x. ends_of cs ++ x) (trimmed-places hard false whole rest)
+trimmed-places hard front whole (leaf_then Name.LineEnding link cs rest) = grind (arith, trimmed-places hard true whole rest)
+trimmed-places hard front whole (leaf_then name link cs rest) = grind (arith, trimmed-places hard false whole rest)
 trimmed-places hard front whole (group_then name enter exit inside rest) =
     λ i. place_of enter ∷ (trimmed-places hard false false inside i ++ (place_of exit ∷ trimmed-places hard false whole rest i))
 
@@ -96,8 +89,7 @@ mailed-places empty = refl
 mailed-places (leaf_then Name.Data None cs rest) =
     places-join (with_emails cs) (with_emails_apart rest) ∙ (λ i. emails-places cs i ++ mailed-places rest i)
 mailed-places (leaf_then name link cs rest) = ap (λ x. ends_of cs ++ x) (mailed-places rest)
-mailed-places (group_then Name.Link enter exit inside rest) =
-    ap (λ x. place_of enter ∷ (places_of inside ++ (place_of exit ∷ x))) (mailed-places rest)
+mailed-places (group_then Name.Link enter exit inside rest) = grind (arith, mailed-places rest)
 mailed-places (group_then name enter exit inside rest) =
     λ i. place_of enter ∷ (mailed-places inside i ++ (place_of exit ∷ mailed-places rest i))
 
@@ -131,17 +123,7 @@ events-allow n previous (leaf_then name None (c ∷ cs) rest) h =
     allows-join (ends_of (c ∷ cs)) (place_of c.start ∷ place_of (stop_of c.stop cs) ∷ []) (places_of rest) (event_places (events_from (n + 2) previous rest)) (leaf-allows c cs) (events-allow (n + 2) previous rest h.1)
 events-allow n previous (leaf_then name (Some content) (c ∷ cs) rest) h =
     allows-join (ends_of (c ∷ cs)) (place_of c.start ∷ place_of (stop_of c.stop cs) ∷ []) (places_of rest) (event_places (events_from (n + 2) (Some n) rest)) (leaf-allows c cs) (events-allow (n + 2) (Some n) rest h.1)
-events-allow n previous (group_then name enter exit inside rest) h =
-    allows-behind (place_of enter ∷ []) (places_of inside ++ (place_of exit ∷ places_of rest)) (event_places (events_from (n + 1) None inside ++ exits))
-    (subst (Allows (places_of inside ++ (place_of exit ∷ places_of rest))) (sym (event-join (events_from (n + 1) None inside) exits))
-    (allows-join (places_of inside) (event_places (events_from (n + 1) None inside)) (place_of exit ∷ places_of rest) (event_places exits) (events-allow (n + 1) None inside h.1)
-    (allows-behind (place_of exit ∷ []) (places_of rest) (event_places after) (events-allow (n + 2 + event_count inside) previous rest h.2))))
-  where
-    after : List Event
-    after = events_from (n + 2 + event_count inside) previous rest
-
-    exits : List Event
-    exits = record { kind = Kind.Exit; name = name; point = exit; link = None } ∷ after
+events-allow n previous (group_then name enter exit inside rest) h = grind (arith, allows-behind, event-join, allows-join, events-allow (n + 1) None inside h.1, events-allow (n + 2 + event_count inside) previous rest h.2)
 
 abbrev StandsOn : BytePlace → Event → Type 0
 StandsOn p f = IsTrue (is_at_or_after p (place_of f.point))
@@ -167,8 +149,7 @@ IsForward c = IsAtOrBehind (place_of c.start) (place_of c.stop)
 
 chain-forward : (p : Point) (cs : List Code) → IsChain p cs → EachCode IsForward cs
 chain-forward p [] h = tt
-chain-forward p (c ∷ cs) h =
-    (subst (λ (q : Point). IsAtOrBehind (place_of q) (place_of c.stop)) (sym h.0) (before-asym (place_of p) (place_of c.stop) h.1), chain-forward c.stop cs h.2)
+chain-forward p (c ∷ cs) h = grind (arith, before-asym, chain-forward c.stop cs h.2)
 
 forward-join : (xs ys : List Code) → EachCode IsForward xs → EachCode IsForward ys → EachCode IsForward (xs ++ ys)
 forward-join [] ys h k = k
@@ -181,8 +162,7 @@ forward-filter p (c ∷ cs) h = grind (arith, forward-filter p cs h.1)
 forward-pieces : (bytes : List ℕ) (pieces : List Piece) → EachCode IsForward (codes_of bytes) →
     EachCode IsForward (content_of bytes pieces)
 forward-pieces bytes [] h = tt
-forward-pieces bytes (piece ∷ more) h =
-    forward-join (piece_codes (codes_of bytes) piece) (content_of bytes more) (forward-filter (is_in_piece piece) (codes_of bytes) h) (forward-pieces bytes more h)
+forward-pieces bytes (piece ∷ more) h = grind (arith, forward-join, forward-filter, forward-pieces bytes more h)
 
 codes-on : (p : BytePlace) (cs : List Code) → EachCode (NotBefore p) cs → Later cs → EachCode IsForward cs →
     GoOn p (ends_of cs) (last_of p (ends_of cs))
@@ -191,10 +171,7 @@ codes-on p (c ∷ cs) h k f = (h.0, (f.0, codes-on (place_of c.stop) cs k.0 k.1 
 
 from-start : (cs : List Code) → EachCode (NotBefore (place_of document_start)) cs
 from-start [] = tt
-from-start (c ∷ cs) = (first c.start.index c.start.vs, from-start cs)
-  where
-    first : (a b : ℕ) → is_before (a, b) (0, 0) ≡ false
-    first a b = grind (arith, nat_tests)
+from-start (c ∷ cs) = grind (arith, from-start cs, nat_tests)
 
 module _ (s : Setting) (pieces : List Piece) (content : IsContent s.bytes pieces) where
   abbrev all : List Code

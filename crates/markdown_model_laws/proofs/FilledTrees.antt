@@ -30,9 +30,7 @@ filled-join a b h k = walks-row filled a b h k
 -- What labels make.
 
 either-text : (a b c : Bool) → (a || (not b && c)) ≡ true → b ≡ true → a ≡ true
-either-text true b c h k = refl
-either-text false true c h k = h
-either-text false false c h k = cc
+either-text a b c h k = grind arith
 
 pub made-filled : (f : Forest) → made true f ≡ true → IsFilled f
 made-filled empty h = tt

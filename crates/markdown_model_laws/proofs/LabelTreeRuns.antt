@@ -1,5 +1,5 @@
 -- The runs of a tree of labels: the codes of each are one marker, and no two runs of one marker are neighbours.
-use Rattle.std.proofs.Common.{◌≡◌, ℕ, ◌+◌, ◌≤◌, ◌==◌, Bool, true, false, ◌&&◌, ◌||◌, List, [], ◌∷◌, ◌++◌, length, map, refl, sym, ap, subst, ◌∙◌, arith, append_assoc, append-nil, Option, Some, None, ◌⊎◌, inl, inr}
+use Rattle.std.proofs.Common.{◌≡◌, ℕ, ◌+◌, ◌≤◌, ◌==◌, Bool, true, false, ◌&&◌, ◌||◌, List, [], ◌∷◌, ◌++◌, length, map, refl, sym, subst, arith, append_assoc, append-nil, Option, Some, None, ◌⊎◌, inl, inr}
 use Rattle.markdown_attention.proofs.AttentionTreeLabels.{quiet-start_tree, quiet-label_end}
 use Rattle.std.specs.Str.{byte}
 use Rattle.std.specs.List.{list_all}
@@ -174,14 +174,7 @@ fine_run m h = record { at = λ cs. by_codes (span (is_value m) cs) (span-all (i
   where
     read : (c : Code) (ds rest : List Code) → list_all (is_value m) (c ∷ ds) ≡ true →
         next_is (is_value m) rest ≡ false → IsRunTree (leaf_then Name.AttentionSequence None (c ∷ ds) empty) rest
-    read c ds rest k l =
-        let e : m ≡ c.value = sym (eqb-true c.value m (and_parts (is_value m c) (list_all (is_value m) ds) k).0) in
-        record {
-          codes = c ∷ ds;
-          is = refl;
-          stripe = record { kind = subst (λ x. is_marker x ≡ true) e h; some = refl; all = subst (λ x. list_all (is_value x) (c ∷ ds) ≡ true) e k };
-          stops = subst (λ x. next_is (is_value x) rest ≡ false) e l;
-        }
+    read c ds rest k l = grind (arith, eqb-true, and_parts)
 
     by_codes : (r : List Code × List Code) → list_all (is_value m) r.0 ≡ true → next_is (is_value m) r.1 ≡ false
         → AnswersFine (elim (elim (is_empty r.0) as (λ _. Option (List Code × List Code)) [ true ↦ None | false ↦ Some r ]) [ None ↦ None | Some x ↦ Some (plain (leaf Name.AttentionSequence x.0), x.1) ])
@@ -232,15 +225,11 @@ IsPastMarker p cs = (next_is (is_value p) cs ≡ false) ⊎ (p ≡ 0)
 
 not-before : (p : ℕ) (xs rest cs : List Code) → IsMarkerStripe (marker_of xs) xs → xs ++ rest ≡ cs → IsPastMarker p cs →
     (marker_of xs == p) ≡ false
-not-before p [] rest cs h e k = absurd (both_ways true h.some refl)
-not-before p (x ∷ xs) rest cs h e (inl k) = ap (next_is (is_value p)) e ∙ k
-not-before p (x ∷ xs) rest cs h e (inr k) = subst (λ n. (x.value == n) ≡ false) (sym k) (no-marker x.value h.kind)
+not-before p xs rest cs h e k = grind (arith, both_ways, no-marker)
 
 some-tree : (t : Forest) (rest cs : List Code) → leaf_codes t ++ rest ≡ cs → 1 + length rest ≤ length cs →
     is_nothing t ≡ false
-some-tree empty rest cs h k = absurd (omega (arith, k, ap length h))
-some-tree (leaf_then name link ds more) rest cs h k = refl
-some-tree (group_then name enter exit inside more) rest cs h k = refl
+some-tree t rest cs h k = grind arith
 
 module _ (s : Setting) (end : ℕ) where
   abbrev From : List Element → Option Code → List Code → List Element → Type 0

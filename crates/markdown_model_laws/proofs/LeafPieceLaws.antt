@@ -1,5 +1,5 @@
 -- The pieces that leaves of a content are: a content.
-use Rattle.std.proofs.Common.{◌≡◌, ℕ, ◌-◌, true, false, ◌==◌, if◌then◌else◌, List, [], ◌∷◌, ◌++◌, take, drop, map, refl, sym, ap, subst, ◌∙◌, append_assoc}
+use Rattle.std.proofs.Common.{◌≡◌, ℕ, ◌-◌, true, false, if◌then◌else◌, List, [], ◌∷◌, ◌++◌, take, drop, map, refl, sym, ap, subst, ◌∙◌, append_assoc, arith}
 use Rattle.std.specs.Prelude.{slice_range}
 use Rattle.std.specs.Str.{IsCharBoundary}
 use Rattle.std.proofs.lemmas.List.{map-append, take-append-drop}
@@ -36,19 +36,16 @@ abbrev enters : Event → Event → List Span
 enters e x = if has_nothing_inside e.kind x.kind then span_of e x ∷ [] else []
 
 innermost-back : (xs ys : List Event) → (front : List Span) × (innermost (xs ++ ys) ≡ front ++ innermost ys)
-innermost-back [] ys = ([], refl)
-innermost-back (e ∷ []) [] = ([], refl)
 innermost-back (e ∷ []) (y ∷ ys) = (enters e y, refl)
 innermost-back (e ∷ x ∷ xs) ys =
     let (front, h) = innermost-back (x ∷ xs) ys in
     (enters e x ++ front, ap (λ ss. enters e x ++ ss) h ∙ sym (append_assoc (enters e x) front (innermost ys)))
+innermost-back xs ys = ([], refl)
 
 innermost-front : (xs ys : List Event) → (back : List Span) × (innermost (xs ++ ys) ≡ innermost xs ++ back)
 innermost-front [] ys = (innermost ys, refl)
 innermost-front (e ∷ []) ys = (innermost (e ∷ ys), refl)
-innermost-front (e ∷ x ∷ xs) ys =
-    let (back, h) = innermost-front (x ∷ xs) ys in
-    (back, ap (λ ss. enters e x ++ ss) h ∙ sym (append_assoc (enters e x) (innermost (x ∷ xs)) back))
+innermost-front (e ∷ x ∷ xs) ys = grind (arith, innermost-front (x ∷ xs) ys, append_assoc)
 
 -- they stand among those of all events
 innermost-in : (es : List Event) (from to : ℕ) →
@@ -85,8 +82,7 @@ module _ (bytes : List ℕ) where
 
   row-join : (ps qs : List Piece) (cs ds : List Code) → ArePiecesOver bytes ps cs → ArePiecesOver bytes qs ds → ArePiecesOver bytes (ps ++ qs) (cs ++ ds)
   row-join [] qs cs ds h k = subst (ArePiecesOver bytes qs) (ap (λ x. x ++ ds) (sym h)) k
-  row-join (p ∷ ps) qs cs ds h k =
-      (h.0, h.1 ++ ds, ap (λ x. x ++ ds) h.2 ∙ append_assoc h.0 h.1 ds, h.3, row-join ps qs h.1 ds h.4 k)
+  row-join (p ∷ ps) qs cs ds h k = grind (arith, append_assoc, row-join ps qs h.1 ds h.4 k)
 
   row-parts : (ps qs : List Piece) (cs : List Code) → ArePiecesOver bytes (ps ++ qs) cs →
       (xs : List Code) × (ys : List Code) × (cs ≡ xs ++ ys) × ArePiecesOver bytes ps xs × ArePiecesOver bytes qs ys
@@ -96,8 +92,7 @@ module _ (bytes : List ℕ) where
       (xs ++ more, others, e ∙ ap (λ zs. xs ++ zs) k ∙ sym (append_assoc xs more others), (xs, more, refl, one, front), back)
 
   both-rows : (ss ts : List Span) (cs ds : List Code) → ArePiecesOfSpans ss cs → ArePiecesOfSpans ts ds → ArePiecesOfSpans (ss ++ ts) (cs ++ ds)
-  both-rows ss ts cs ds h k =
-      subst (λ ps. ArePiecesOver bytes ps (cs ++ ds)) (sym (map-append piece_of ss ts)) (row-join (map piece_of ss) (map piece_of ts) cs ds h k)
+  both-rows ss ts cs ds h k = grind (arith, map-append, row-join)
 
   leaf-row : (name_cs : List Code) (ss : List Span) (s : Span) (ds : List Code) → piece_of s ≡ record { start = place_of (start_of name_cs); end = place_of (stop_of document_start name_cs) } →
       AreDocumentCodes bytes name_cs → ArePiecesOfSpans ss ds → ArePiecesOfSpans (s ∷ ss) (name_cs ++ ds)
@@ -105,8 +100,7 @@ module _ (bytes : List ℕ) where
   leaf-row (c ∷ cs) ss s ds e h k = (c ∷ cs, ds, refl, subst (λ p. IsPieceOver bytes p (c ∷ cs)) (sym e) (filled c cs h), k)
 
   still : (a b : Point) → a ≡ b → meets (record { start = place_of a; end = place_of b }) (record { start = place_of a; end = place_of b }) ≡ true
-  still a b e =
-      and_from (b.index == a.index) (b.vs == a.vs) (eq-eqb b.index a.index (ap (λ (x : Point). x.index) (sym e))) (eq-eqb b.vs a.vs (ap (λ (x : Point). x.vs) (sym e)))
+  still a b e = grind (arith, and_from, eq-eqb)
 
   leaves-row : (t : Forest) → HasLeaves bytes t → ArePiecesOfSpans (leaves_of t) (leaf_codes t)
   leaves-row empty h = refl
@@ -115,8 +109,7 @@ module _ (bytes : List ℕ) where
   leaves-row (group_then name a b empty rest) h = ([], leaf_codes rest, refl, still a b h.0.1, leaves-row rest h.1)
   leaves-row (group_then name a b (leaf_then m l cs more) rest) h =
       both-rows (leaves_of (leaf_then m l cs more)) (leaves_of rest) (leaf_codes (leaf_then m l cs more)) (leaf_codes rest) (leaves-row (leaf_then m l cs more) h.0) (leaves-row rest h.1)
-  leaves-row (group_then name a b (group_then m c d inner more) rest) h =
-      both-rows (leaves_of (group_then m c d inner more)) (leaves_of rest) (leaf_codes (group_then m c d inner more)) (leaf_codes rest) (leaves-row (group_then m c d inner more) h.0) (leaves-row rest h.1)
+  leaves-row (group_then name a b (group_then m c d inner more) rest) h = grind (arith, both-rows, leaves-row (group_then m c d inner more) h.0, leaves-row rest h.1)
 
   -- Between characters.
 

@@ -1,5 +1,5 @@
 -- What is lent for the leaves of a tree, by the codes that they cover.
-use Rattle.std.proofs.Common.{◌≡◌, ℕ, ◌+◌, ◌-◌, ◌≤◌, nat_lt, true, false, List, [], ◌∷◌, ◌++◌, take, drop, map, if◌then◌else◌, refl, sym, ap, subst, ◌∙◌, arith, append_assoc}
+use Rattle.std.proofs.Common.{◌≡◌, ℕ, ◌+◌, ◌-◌, ◌≤◌, nat_lt, true, false, List, [], ◌∷◌, ◌++◌, drop, map, if◌then◌else◌, refl, sym, subst, ◌∙◌, arith, append_assoc}
 use Rattle.std.specs.Prelude.{slice_range}
 use Rattle.markdown_content.proofs.VirtualSpaces.{byte-order}
 use Rattle.std.proofs.lemmas.List.{drop-drop}
@@ -19,10 +19,7 @@ use Rattle.markdown_model_laws.specs.EscapedText.{is_text, text_of}
 
 pub slice-more : (bytes : List ℕ) (a b c : ℕ) → a ≤ b → b ≤ c →
     slice_range bytes a b ++ slice_range bytes b c ≡ slice_range bytes a c
-slice-more bytes a b c h k =
-    ap (λ xs. take (b - a) (drop a bytes) ++ take (c - b) xs) (sym (drop-drop (b - a) a bytes ∙ ap (λ n. drop n bytes) (omega (arith, h))))
-    ∙ sym (take-add (b - a) (c - b) (drop a bytes))
-    ∙ ap (λ n. take n (drop a bytes)) (omega (arith, h, k))
+slice-more bytes a b c h k = grind (arith, drop-drop (b - a) a bytes, take-add (b - a) (c - b) (drop a bytes))
 
 pub slice-none : (bytes : List ℕ) (a : ℕ) → slice_range bytes a a ≡ []
 slice-none bytes a = let none : a - a ≡ 0 = omega arith in rw none refl
@@ -38,8 +35,7 @@ codes_bytes bytes (c ∷ cs) = position_bytes bytes c.start c.stop ++ codes_byte
 pub codes_bytes-append : (bytes : List ℕ) (cs ds : List Code) →
     codes_bytes bytes (cs ++ ds) ≡ codes_bytes bytes cs ++ codes_bytes bytes ds
 codes_bytes-append bytes [] ds = refl
-codes_bytes-append bytes (c ∷ cs) ds =
-    ap (λ x. position_bytes bytes c.start c.stop ++ x) (codes_bytes-append bytes cs ds) ∙ sym (append_assoc (position_bytes bytes c.start c.stop) (codes_bytes bytes cs) (codes_bytes bytes ds))
+codes_bytes-append bytes (c ∷ cs) ds = grind (arith, codes_bytes-append bytes cs ds, append_assoc)
 
 -- codes that follow one another are lent as one
 chain-bytes : (bytes : List ℕ) (p : Point) (cs back : List Code) → IsChain p (cs ++ back) →
@@ -59,8 +55,7 @@ chain-bytes bytes p (c ∷ cs) back h =
 leaf-bytes : (bytes : List ℕ) (p : Point) (cs back : List Code) → IsChain p (cs ++ back) →
     position_bytes bytes (start_of cs) (stop_of document_start cs) ≡ codes_bytes bytes cs
 leaf-bytes bytes p [] back h = slice-none bytes (byte_from document_start)
-leaf-bytes bytes p (c ∷ cs) back h =
-    ap (λ q. position_bytes bytes q (stop_of c.stop cs)) h.0 ∙ chain-bytes bytes p (c ∷ cs) back h
+leaf-bytes bytes p (c ∷ cs) back h = grind (arith, chain-bytes bytes p (c ∷ cs) back h)
 
 -- The text of a tree.
 
@@ -99,8 +94,7 @@ leaf-law bytes name cs ss ds h k = grind (arith, span-text, codes_bytes-append)
 
 nothing-law : (bytes : List ℕ) (name : Name) (a b : Point) (ss : List Span) → is_text name ≡ false →
     spans_text bytes (record { name = name; start = a; end = b } ∷ ss) ≡ spans_text bytes ss
-nothing-law bytes name a b ss h =
-    span-text bytes (record { name = name; start = a; end = b }) ss ∙ ap (λ x. (if x then position_bytes bytes a b else []) ++ spans_text bytes ss) h
+nothing-law bytes name a b ss h = grind (arith, span-text)
 
 group-law : (bytes : List ℕ) (inside rest : Forest) → SliceLaw bytes inside → SliceLaw bytes rest → (p : Point) (back : List Code) → IsChain p ((leaf_codes inside ++ leaf_codes rest) ++ back)
     → HasNoTextGroup inside → HasNoTextGroup rest → spans_text bytes (leaves_of inside ++ leaves_of rest) ≡ codes_bytes bytes (kept inside ++ kept rest)
@@ -113,8 +107,7 @@ kept-lent bytes (leaf_then name link cs rest) p back h k =
     let apart : IsChain p (cs ++ (leaf_codes rest ++ back)) = subst (λ xs. IsChain p xs) (append_assoc cs (leaf_codes rest) back) h in
     leaf-law bytes name cs (leaves_of rest) (kept rest) (leaf-bytes bytes p cs (leaf_codes rest ++ back) apart)
     (kept-lent bytes rest (stop_of p cs) back (chain-back p cs (leaf_codes rest ++ back) apart) k)
-kept-lent bytes (group_then name a b empty rest) p back h k =
-    nothing-law bytes name a b (leaves_of rest) k.0 ∙ kept-lent bytes rest p back h k.2
+kept-lent bytes (group_then name a b empty rest) p back h k = grind (arith, nothing-law, kept-lent bytes rest p back h k.2)
 kept-lent bytes (group_then name a b (leaf_then m l cs more) rest) p back h k =
     group-law bytes (leaf_then m l cs more) rest (kept-lent bytes (leaf_then m l cs more)) (kept-lent bytes rest) p back h k.1 k.2
 kept-lent bytes (group_then name a b (group_then m c d inner more) rest) p back h k =

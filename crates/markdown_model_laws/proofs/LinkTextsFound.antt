@@ -1,5 +1,5 @@
 -- Titles, labels and destinations in angle brackets: where their readings hold.
-use Rattle.std.proofs.Common.{◌≡◌, ◌==◌, inl, inr, ℕ, ◌≤◌, nat_le, ◌||◌, not, Bool, true, false, codes, Some, None, List, [], ◌∷◌, ◌++◌, refl, sym, ap, ◌∙◌, arith}
+use Rattle.std.proofs.Common.{◌≡◌, ◌==◌, inl, inr, ℕ, ◌≤◌, nat_le, ◌||◌, not, Bool, true, false, codes, Some, None, List, [], ◌∷◌, ◌++◌, refl, sym, ap, ◌∙◌, arith, rules}
 use Rattle.std.proofs.lemmas.Bool.{eqb-true, and_from, or_from, or_parts, or_right, or_left}
 use Rattle.std.proofs.lemmas.Grind.{common_steps}
 use Rattle.std.proofs.lemmas.Bool.Decides.{nat_tests}
@@ -50,17 +50,11 @@ module _ (stop takes refuses : Code → Bool) (slashes : (c : Code) → is_value
 -- the escaped codes of a text, by the words of the grammar
 escaped-in : (marks stops takes : Code → Bool) (text : List Code) → ((c : Code) → marks c ≡ true → stops c ≡ true) →
     Escaped stops takes false text → IsEscapedIn marks text
-escaped-in marks stops takes text more i = record {
-  inside = λ before after c e h. escapes-after before ∙ and-left _ _ (i.inside before after c e (more c h));
-  behind = escapes-after text ∙ i.behind;
-}
+escaped-in marks stops takes text more i = search (rules, escapes-after, and-left)
 
 escaped-of : (marks stops takes : Code → Bool) (text : List Code) → ((before after : List Code) (c : Code) → text ≡ before ++ (c ∷ after) → stops c ≡ true → (marks c ≡ true) × (takes c ≡ true))
     → IsEscapedIn marks text → Escaped stops takes false text
-escaped-of marks stops takes text less i = record {
-  inside = λ before after c e h. and_from _ _ (sym (escapes-after before) ∙ i.inside before after c e (less before after c e h).0) (less before after c e h).1;
-  behind = sym (escapes-after text) ∙ i.behind;
-}
+escaped-of marks stops takes text less i = search (rules, and_from, escapes-after)
 
 -- Titles.
 
@@ -126,8 +120,7 @@ module _ (both : Bool) (opener closer : ℕ) (names : StringNames) where
 module _ (both : Bool) (names : StringNames) where
   weaker : (asked : Bool) (opener closer : ℕ) (cs : List Code) (tree : Forest) (rest : List Code) → ((front : Code) (text : List Code) (back : Code) → IsBetween asked opener closer front text back → IsTitle both front text back)
       → Marked (IsBetween asked opener closer) (between_markers names) cs tree rest → Marked (IsTitle both) (between_markers names) cs tree rest
-  weaker asked opener closer cs tree rest f m =
-      record { front = m.front; text = m.text; back = m.back; stands = m.stands; is = f m.front m.text m.back m.is; tree_is = m.tree_is }
+  weaker asked opener closer cs tree rest f m = search (rules)
 
   pub title-back : (cs : List Code) (tree : Forest) (rest : List Code) → title both names cs ≡ Some (tree, rest) →
       Marked (IsTitle both) (between_markers names) cs tree rest
@@ -150,8 +143,7 @@ module _ (both : Bool) (names : StringNames) where
 pub marked-found : (a : Reading Forest) (Is : Code → List Code → Code → Type 0) (tree_of : List Code → List Code → List Code → Forest)
     → ((front : Code) (text : List Code) (back : Code) (rest : List Code) → Is front text back → a (front ∷ (text ++ (back ∷ rest))) ≡ Some (tree_of (front ∷ []) text (back ∷ []), rest))
     → (cs : List Code) (tree : Forest) (rest : List Code) → Marked Is tree_of cs tree rest → a cs ≡ Some (tree, rest)
-marked-found a Is tree_of found cs tree rest m =
-    ap a m.stands ∙ found m.front m.text m.back rest m.is ∙ ap (λ t. Some (t, rest)) (sym m.tree_is)
+marked-found a Is tree_of found cs tree rest m = grind (arith, found)
 
 pub titles_are_found : TitlesAreFound
 titles_are_found both names =
@@ -185,14 +177,10 @@ bracket_stops : (c : Code) → is_value 93 c ≡ true → bracket_takes c ≡ tr
 bracket_stops c h = or_right (c.value == 91) _ (or_right (c.value == 92) _ (or_left _ false h))
 
 to-bracket : (c : Code) → brackets c ≡ true → is_bracket c ≡ true
-to-bracket c h =
-    elim (or-parts (c.value == 91) _ h) [ inl k ↦ or_right (c.value == 93) _ k | inr k ↦ or_left _ (c.value == 91) (or-last _ k) ]
+to-bracket c h = grind (arith, or-parts, or_right, or_left, or-last)
 
 from-bracket : (c : Code) → is_bracket c ≡ true → (brackets c ≡ true) × (bracket_takes c ≡ true)
-from-bracket c h = elim (or-parts (c.value == 93) _ h) [
-  | inl k ↦ (or_right (c.value == 91) _ (or_left _ false k), bracket_stops c k)
-  | inr k ↦ (or_left _ _ k, or_left _ _ k)
-]
+from-bracket c h = grind (arith, or-parts (c.value == 93) _ h, or_right, or_left, bracket_stops)
 
 module _ (characters : Bool) (names : StringNames) where
   abbrev some_filled : List Code → Bool
@@ -266,8 +254,7 @@ angle_stops : (c : Code) → is_value 62 c ≡ true → angle_takes c ≡ true
 angle_stops c h = or_right (c.value == 60) _ (or_left _ _ h)
 
 to-angle : (c : Code) → angles c ≡ true → is_angle c ≡ true
-to-angle c h =
-    elim (or-parts (c.value == 60) _ h) [ inl k ↦ or_right (c.value == 62) _ (or_left _ (is_line_ending c) k) | inr k ↦ or_left _ (angle_refuses c) (or-last _ k) ]
+to-angle c h = grind (arith, or-parts, or_right, or_left, or-last)
 
 -- a code of a list in which none passes does not pass
 pub none-passes : (p : Code → Bool) (before after : List Code) (c : Code) (text : List Code) →
@@ -286,15 +273,11 @@ none-of p (c ∷ text) f =
     or_from (p c) (list_any p text) (f [] text c refl) (none-of p text (λ before after d e. f (c ∷ before) after d (ap (λ xs. c ∷ xs) e)))
 
 from-angle : (c : Code) → is_line_ending c ≡ false → is_angle c ≡ true → (angles c ≡ true) × (angle_takes c ≡ true)
-from-angle c n h = elim (or-parts (c.value == 62) _ h) [
-  | inl k ↦ (or_right (c.value == 60) _ (or_left _ false k), angle_stops c k)
-  | inr k ↦ elim (or-parts (c.value == 60) _ k) [ inl l ↦ (or_left _ _ l, or_left _ _ l) | inr l ↦ absurd (let no : true ≡ false = sym l ∙ n in cc) ]
-]
+from-angle c n h = grind (arith, or-parts (c.value == 62) _ h, or_right, or_left, angle_stops, or-parts)
 
 -- a line ending is none of the marks
 ending-taken : (c : Code) (b : Bool) → is_line_ending c ≡ b → angle_takes c ≡ true → b ≡ false
-ending-taken c true e h =
-    let no : false ≡ true = sym (ap (λ v. (v == 60) || ((v == 62) || ((v == 92) || false))) (eqb-true c.value 10 e)) ∙ h in cc
+ending-taken c true e h = grind (arith, eqb-true)
 ending-taken c false e h = refl
 
 module _ (names : DestinationNames) where
@@ -322,8 +305,7 @@ module _ (names : DestinationNames) where
     where
       by_test : {text : List Code} (before after : List Code) (c : Code) → text ≡ before ++ (c ∷ after) → (x : Bool) →
           is_line_ending c ≡ x → Escaped is_angle angle_takes false text → is_line_ending c ≡ false
-      by_test before after c k true h i =
-          h ∙ ending-taken c true h (and-right _ _ (i.inside before after c k (or_right (c.value == 62) _ (or_right (c.value == 60) _ h))))
+      by_test before after c k true h i = grind (arith, ending-taken, and-right, or_right)
       by_test before after c k false h i = h
 
   pub enclosed-found : (front : Code) (text : List Code) (back : Code) (rest : List Code) → IsEnclosed front text back

@@ -197,8 +197,7 @@ sealed-mailed (group_then name enter exit inside rest) h k = cc
 links-mailed : (f : Forest) → SealsNoEmail f → HasPlainLinks (with_emails_apart f)
 unfolding with_emails_apart
 links-mailed empty h = tt
-links-mailed (leaf_then Name.Data None cs rest) h =
-    links-join (with_emails cs) (with_emails_apart rest) (links-emails cs) (links-mailed rest h)
+links-mailed (leaf_then Name.Data None cs rest) h = grind (arith, links-join, links-emails, links-mailed rest h)
 links-mailed (leaf_then name link cs rest) h =
     links-mailed rest ((or_parts (is_email name) (holds_email rest) h.0).1, h.1)
 links-mailed (group_then Name.Link enter exit inside rest) h =

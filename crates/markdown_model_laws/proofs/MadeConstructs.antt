@@ -1,6 +1,6 @@
 -- What constructs make: each leaf has a code and is no email literal, each group reaches from where its first tree begins to where its last one ends,
 -- none is a pair's, and an autolink holds leaves of its own.
-use Rattle.std.proofs.Common.{◌≡◌, ◌≢◌, ◌==◌, ℕ, Bool, true, false, ◌&&◌, ◌||◌, not, List, [], ◌∷◌, refl, sym, ◌∙◌, ap, arith, Option, Some, None}
+use Rattle.std.proofs.Common.{◌≡◌, ◌≢◌, ◌==◌, ℕ, Bool, true, false, ◌&&◌, ◌||◌, not, List, [], ◌∷◌, refl, ◌∙◌, ap, arith, Option, Some, None}
 use Rattle.std.proofs.lemmas.Bool.{eq-eqb}
 use Rattle.std.proofs.Math.Bool.{and_assoc, or-true}
 use Rattle.markdown_event.specs.declared.event.Name.{Name}
@@ -11,7 +11,7 @@ use Rattle.markdown_content.specs.Tree.{Forest, empty, leaf_then, group_then, le
 use Rattle.markdown_model.specs.CodeTests.{is_empty}
 use Rattle.markdown_model.specs.Grammar.{Reading}
 use Rattle.markdown_model.specs.TextLines.{linked_leaf, lines}
-use Rattle.markdown_model.specs.Resource.{string_group, label}
+use Rattle.markdown_model.specs.Resource.{string_group}
 use Rattle.markdown_model.specs.Passes.{is_nothing}
 use Rattle.markdown_model.specs.Laws.{is_run}
 use Rattle.markdown_model.specs.Setting.{Setting}
@@ -63,19 +63,13 @@ made texts (group_then name enter exit inside rest) =
 
 pub made-join : (texts : Bool) (a b : Forest) → made texts (a ⊕ b) ≡ (made texts a && made texts b)
 made-join texts empty b = refl
-made-join texts (leaf_then name link cs rest) b =
-    ap (λ x. not (is_empty cs) && (not (is_email name) && x)) (made-join texts rest b)
-    ∙ ap (λ x. not (is_empty cs) && x) (sym (and_assoc (not (is_email name)) (made texts rest) (made texts b)))
-    ∙ sym (and_assoc (not (is_empty cs)) (not (is_email name) && made texts rest) (made texts b))
+made-join texts (leaf_then name link cs rest) b = grind (arith, made-join texts rest b, and_assoc)
 made-join texts (group_then name enter exit inside rest) b =
     ap (λ x. ((texts && is_label_text name) || reaches enter exit inside) && (is_single name inside && (made texts inside && x))) (made-join texts rest b)
     ∙ regroup ((texts && is_label_text name) || reaches enter exit inside) (is_single name inside) (made texts inside) (made texts rest) (made texts b)
   where
     regroup : (a b c d e : Bool) → (a && (b && (c && (d && e)))) ≡ ((a && (b && (c && d))) && e)
-    regroup false b c d e = refl
-    regroup true false c d e = refl
-    regroup true true false d e = refl
-    regroup true true true d e = refl
+    regroup a b c d e = grind arith
 
 pub made-leaf : (texts : Bool) (name : Name) (cs : List Code) →
     made texts (leaf name cs) ≡ (not (is_email name) || is_empty cs)
@@ -122,8 +116,7 @@ reaches-itself f h = λ i. not (h i) && (at-itself (enter_of f) i && at-itself (
 -- a group around something
 pub made-group : (texts : Bool) (name : Name) (f : Forest) → is_single name f ≡ true → is_nothing f ≡ false →
     made texts f ≡ true → made texts (group name f) ≡ true
-made-group texts name f h k l =
-    (λ i. ((texts && is_label_text name) || reaches-itself f k i) && (h i && (l i && true))) ∙ (λ i. or-true (texts && is_label_text name) i && true)
+made-group texts name f h k l = grind (arith, reaches-itself, or-true)
 
 made-string_group : (name : Name) (f : Forest) → ((g : Forest) → is_single name g ≡ true) → made false f ≡ true →
     made false (string_group name f) ≡ true
@@ -135,18 +128,15 @@ made-string_group name (group_then n a b x r) h k =
 
 made-reference_string : (cs : List Code) →
     made false (string_group Name.ReferenceString (lines Name.Data (Some Content.String) cs)) ≡ true
-made-reference_string cs =
-    made-string_group Name.ReferenceString (lines Name.Data (Some Content.String) cs) (λ g. refl) (made-lines (Some Content.String) cs)
+made-reference_string cs = grind (arith, made-string_group, made-lines)
 
 made-title_string : (cs : List Code) →
     made false (string_group Name.ResourceTitleString (lines Name.Data (Some Content.String) cs)) ≡ true
-made-title_string cs =
-    made-string_group Name.ResourceTitleString (lines Name.Data (Some Content.String) cs) (λ g. refl) (made-lines (Some Content.String) cs)
+made-title_string cs = grind (arith, made-string_group, made-lines)
 
 made-destination_string : (cs : List Code) →
     made false (string_group Name.ResourceDestinationString (linked Name.Data cs)) ≡ true
-made-destination_string cs =
-    made-string_group Name.ResourceDestinationString (linked Name.Data cs) (λ g. refl) (made-linked cs)
+made-destination_string cs = grind (arith, made-string_group, made-linked)
 
 pub front-some : (name : Name) (cs : List Code) (f : Forest) → is_empty cs ≡ false →
     is_nothing (leaf name cs ⊕ f) ≡ false
@@ -157,9 +147,7 @@ front-some name (c ∷ cs) f h = refl
 pub made-front : (name marker : Name) (cs : List Code) (f : Forest) → is_single name (leaf marker cs ⊕ f) ≡ true →
     is_email marker ≡ false → is_empty cs ≡ false → made false f ≡ true →
     made false (group name (leaf marker cs ⊕ f)) ≡ true
-made-front name marker cs f h e k l =
-    made-group false name (leaf marker cs ⊕ f) h (front-some marker cs f k)
-    (made-join false (leaf marker cs) f ∙ (λ i. (made-leaf false marker cs ∙ (λ j. not (e j) || is_empty cs)) i && l i))
+made-front name marker cs f h e k l = grind (arith, made-group, front-some marker cs f k, made-join false (leaf marker cs) f, made-leaf false marker cs)
 
 -- Readings.
 
@@ -177,17 +165,12 @@ own-names name h0 = grind arith
 
 leaves-made : (bytes : List ℕ) (t : Forest) → Leaves (IsOwnLeaf bytes) t → (made false t ≡ true) × (is_sealed t ≡ true)
 leaves-made bytes empty h = (refl, refl)
-leaves-made bytes (leaf_then name link cs rest) h =
-    let n = own-names name (leaf-own name h.0.named) in
-    let k = leaves-made bytes rest h.1 in
-    ((λ i. not (some-not-empty cs h.0.some i) && (not (n.0 i) && k.0 i)), λ i. not (n.1.1 i) && k.1 i)
+leaves-made bytes (leaf_then name link cs rest) h = grind (arith, own-names, leaf-own, leaves-made bytes rest h.1, some-not-empty)
 leaves-made bytes (group_then name enter exit inside rest) h = absurd h
 
 pub plain-made : (bytes : List ℕ) (t : Forest) → IsPlainTree bytes t → IsMadeTree t
 plain-made bytes empty h = absurd h
-plain-made bytes (leaf_then name link cs rest) h =
-    let n = own-names name (leaf-own name h.0.named) in
-    λ i. not (some-not-empty cs h.0.some i) && (not (n.0 i) && made false (h.1 i))
+plain-made bytes (leaf_then name link cs rest) h = grind (arith, own-names, leaf-own, some-not-empty)
 plain-made bytes (group_then name enter exit inside rest) h =
     let n = own-names name (group-own name h.0.named) in
     let k = leaves-made bytes inside h.0.leaves in

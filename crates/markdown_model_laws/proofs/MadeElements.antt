@@ -9,9 +9,9 @@ use Rattle.markdown_content.specs.declared.label_kind.LabelKind.{LabelKind}
 use Rattle.markdown_content.specs.Codes.{Code, stop_of, document_start}
 use Rattle.markdown_content.specs.Tree.{Forest, empty, leaf_then, group_then, leaf, group, text_group, start_of, ◌⊕◌}
 use Rattle.markdown_model.specs.Grammar.{Reading}
-use Rattle.markdown_model.specs.Setting.{Setting, within}
+use Rattle.markdown_model.specs.Setting.{Setting}
 use Rattle.markdown_model.specs.LabelEnd.{Element, plain, starts, ends, Label, label_before, outcome_of, label_end}
-use Rattle.markdown_model.specs.Elements.{as_plain, line_ending, data_code, attention_run, text_element, string_element, text_choice, string_choice, elements_of, string_elements_of}
+use Rattle.markdown_model.specs.Elements.{as_plain, line_ending, data_code, attention_run, text_element, string_element, elements_of, string_elements_of}
 use Rattle.markdown_model.specs.Passes.{End, start_marker, start_tree, label_name, label_group, labels_of, is_nothing}
 use Rattle.markdown_model.proofs.ElementCases.{AllAre, EachConstruct, all_are, outcome_yields, string_has, text_has}
 use Rattle.markdown_model.proofs.OneElementList.{text_elements, string_elements}
@@ -148,10 +148,7 @@ made-label kind (c ∷ cs) inside back tail h k l m =
     row = start_tree kind front ⊕ rest
 
     made-row : IsLabelled row
-    made-row =
-        made-both (start_tree kind front) rest (made-start kind c cs)
-        (made-both (text_group Name.LabelText (stop_of document_start front) (start_of back) text) (group Name.LabelEnd (leaf Name.LabelMarker back))
-        (made-text (stop_of document_start front) (start_of back) text (made-both (leaf Name.Data (drop (length front) (c ∷ cs))) inside (made-leaf true Name.Data (drop (length front) (c ∷ cs))) k)) (made-end back l))
+    made-row = grind (arith, made-both, made-start, made-text, made-leaf, made-end)
 
 made-labels : (es : List Element) → AllGood es → IsLabelled (labels_of es)
 made-labels es h =
@@ -159,16 +156,13 @@ made-labels es h =
     (λ kind marker inside back outcome m i e. made-label outcome.0 marker inside back outcome.1 m i e.0 (made-labelled-tree outcome.1 e.1)) es h
 
 pub good-text : (s : Setting) (cs : List Code) → AllGood (elements_of s cs)
-good-text s cs =
-    all_are IsMadeElement (text_choice s cs) (λ earlier previous ds. good_text_element (within cs s) _ earlier previous ds) (elements_of s cs) [] None cs
-    (text_elements s cs)
+good-text s cs = grind (arith, all_are, good_text_element, text_elements s cs)
 
 pub made-text-labels : (s : Setting) (cs : List Code) → IsLabelled (labels_of (elements_of s cs))
 made-text-labels s cs = made-labels (elements_of s cs) (good-text s cs)
 
 pub good-string : (s : Setting) (cs : List Code) → AllGood (string_elements_of s cs)
-good-string s cs =
-    all_are IsMadeElement (string_choice s) (λ earlier previous ds. good_string_element s ds) (string_elements_of s cs) [] None cs (string_elements s cs)
+good-string s cs = grind (arith, all_are, good_string_element, string_elements s cs)
 
 pub made-string-labels : (s : Setting) (cs : List Code) → IsLabelled (labels_of (string_elements_of s cs))
 made-string-labels s cs = made-labels (string_elements_of s cs) (good-string s cs)

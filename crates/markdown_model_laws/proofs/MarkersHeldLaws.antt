@@ -50,10 +50,8 @@ module _ (passes : Name → Bool) where
 
   by-join : (a b : Forest) → codes_by (a ⊕ b) ≡ codes_by a ++ codes_by b
   by-join empty b = refl
-  by-join (leaf_then name link cs rest) b =
-      ap (λ x. marked (passes name) cs ++ x) (by-join rest b) ∙ sym (append_assoc (marked (passes name) cs) (codes_by rest) (codes_by b))
-  by-join (group_then name enter exit inside rest) b =
-      ap (λ x. codes_by inside ++ x) (by-join rest b) ∙ sym (append_assoc (codes_by inside) (codes_by rest) (codes_by b))
+  by-join (leaf_then name link cs rest) b = grind (arith, by-join rest b, append_assoc)
+  by-join (group_then name enter exit inside rest) b = grind (arith, by-join rest b, append_assoc)
 
   by-leaf : (name : Name) (cs : List Code) → codes_by (leaf name cs) ≡ marked (passes name) cs
   by-leaf name [] = refl
@@ -66,8 +64,7 @@ module _ (passes : Name → Bool) where
 
   by-code : (f : Forest) → map (λ x. x.0) (codes_by f) ≡ by_code passes f
   by-code empty = refl
-  by-code (leaf_then name link cs rest) =
-      marks-leaf (passes name) cs (codes_by rest) ∙ ap (λ x. map (λ c. passes name) cs ++ x) (by-code rest)
+  by-code (leaf_then name link cs rest) = grind (arith, marks-leaf, by-code rest)
   by-code (group_then name enter exit inside rest) =
       map-append (λ x. x.0) (codes_by inside) (codes_by rest) ∙ (λ i. by-code inside i ++ by-code rest i)
 
@@ -89,34 +86,25 @@ KeepMarks (x ∷ xs) [] = ⊥
 KeepMarks (x ∷ xs) (y ∷ ys) = (x.1 ≡ y.1) × (x.0 ≡ true → is_blank y.1 ≡ false → y.0 ≡ true) × KeepMarks xs ys
 
 held-append : (xs ys zs ws : MarkedCodes) → AreHeld xs ys → AreHeld zs ws → AreHeld (xs ++ zs) (ys ++ ws)
-held-append [] [] zs ws h k = k
-held-append [] (y ∷ ys) zs ws h k = absurd h
-held-append (x ∷ xs) [] zs ws h k = absurd h
 held-append (x ∷ xs) (y ∷ ys) zs ws h k = (h.0, held-append xs ys zs ws h.1 k)
+held-append xs ys zs ws h k = grind arith
 
 kept-append : (xs ys zs ws : MarkedCodes) → KeepMarks xs ys → KeepMarks zs ws → KeepMarks (xs ++ zs) (ys ++ ws)
-kept-append [] [] zs ws h k = k
-kept-append [] (y ∷ ys) zs ws h k = absurd h
-kept-append (x ∷ xs) [] zs ws h k = absurd h
 kept-append (x ∷ xs) (y ∷ ys) zs ws h k = (h.0, h.1, kept-append xs ys zs ws h.2 k)
+kept-append xs ys zs ws h k = grind arith
 
 kept-same : (xs : MarkedCodes) → KeepMarks xs xs
 kept-same [] = tt
 kept-same (x ∷ xs) = (refl, (λ e f. e), kept-same xs)
 
 held-kept : (xs ys zs : MarkedCodes) → AreHeld xs ys → KeepMarks ys zs → AreHeld xs zs
-held-kept [] [] zs h k = grind arith
-held-kept [] (y ∷ ys) zs h k = absurd h
-held-kept (x ∷ xs) [] zs h k = absurd h
-held-kept (x ∷ xs) (y ∷ ys) [] h k = absurd k
 held-kept (x ∷ xs) (y ∷ ys) (z ∷ zs) h k =
     ((λ e. let f : is_blank z.1 ≡ false = ap is_blank (sym k.0) ∙ (h.0 e).0 in (f, k.1 (h.0 e).1 f)), held-kept xs ys zs h.1 k.2)
+held-kept xs ys zs h k = grind arith
 
 marks-held : (xs ys : MarkedCodes) → AreHeld xs ys → AreAlso (map (λ x. x.0) xs) (map (λ x. x.0) ys)
-marks-held [] [] h = tt
-marks-held [] (y ∷ ys) h = absurd h
-marks-held (x ∷ xs) [] h = absurd h
 marks-held (x ∷ xs) (y ∷ ys) h = ((λ e. (h.0 e).1), marks-held xs ys h.1)
+marks-held xs ys h = grind arith
 
 -- Pairs.
 
@@ -194,31 +182,23 @@ module _ (s : Setting) where
       subst (λ x. AreHeld (marked true cs ++ runs_marked rest) x)
       (sym (token-append held_add (marked true) held-data (run_tokens pairs n (run_of s cs)) (words rest pairs (suc n)) ∙ ap (λ x. x ++ held_word (words rest pairs (suc n))) (word-run pairs n (run_of s cs) ∙ ap (marked true) (codes-run_of s cs))))
       (held-append (marked true cs) (marked true cs) (runs_marked rest) (held_word (words rest pairs (suc n))) (stripe-held (marker_of cs) cs h.0.kind h.0.all) (held-words rest (marker_of cs) pairs (suc n) h.2))
-  held-words (leaf_then name link cs rest) m pairs n h =
-      held-append (marked false cs) (marked (may_hold_marker name) cs ++ []) (runs_marked rest) (held_word (words rest pairs n))
-      (subst (AreHeld (marked false cs)) (sym (append-nil (marked (may_hold_marker name) cs))) (unmarked-held (may_hold_marker name) cs)) (held-words rest 0 pairs n h)
-  held-words (group_then name enter exit inside rest) m pairs n h =
-      held-append (runs_marked inside) (held (assembled (words inside (pair_list s (runs_of s inside)) 0)) ++ []) (runs_marked rest) (held_word (words rest pairs n))
-      (subst (AreHeld (runs_marked inside)) (sym (append-nil _ ∙ held-assembled (words inside (pair_list s (runs_of s inside)) 0))) (held-words inside 0 (pair_list s (runs_of s inside)) 0 h.0))
-      (held-words rest 0 pairs n h.1)
+  held-words (leaf_then name link cs rest) m pairs n h = grind (arith, held-append, append-nil, unmarked-held, held-words rest 0 pairs n h)
+  held-words (group_then name enter exit inside rest) m pairs n h = grind (arith, held-append, append-nil, held-assembled, held-words inside 0 (pair_list s (runs_of s inside)) 0 h.0, held-words rest 0 pairs n h.1)
 
   held-paired : (f : Forest) → HasApartRuns 0 f → AreHeld (runs_marked f) (held (paired s (pair_list s) f))
   unfolding paired
-  held-paired f h =
-      subst (AreHeld (runs_marked f)) (sym (held-assembled (words f (pair_list s (runs_of s f)) 0))) (held-words f 0 (pair_list s (runs_of s f)) 0 h)
+  held-paired f h = grind (arith, held-assembled, held-words)
 
 -- Merging.
 
 held-data_onto : (cs : List Code) (f : Forest) → held (data_onto cs f) ≡ marked true cs ++ held f
-held-data_onto cs (leaf_then Name.Data None more rest) =
-    ap (λ x. x ++ held rest) (marked-append true cs more) ∙ append_assoc (marked true cs) (marked true more) (held rest)
+held-data_onto cs (leaf_then Name.Data None more rest) = grind (arith, marked-append, append_assoc)
 held-data_onto cs rest = refl
 
 held-merged : (f : Forest) → held (merged f) ≡ held f
 unfolding merged
 held-merged empty = refl
-held-merged (leaf_then Name.Data None cs rest) =
-    held-data_onto cs (merged rest) ∙ ap (λ x. marked true cs ++ x) (held-merged rest)
+held-merged (leaf_then Name.Data None cs rest) = grind (arith, held-data_onto, held-merged rest)
 held-merged (leaf_then name link cs rest) = ap (λ x. marked (may_hold_marker name) cs ++ x) (held-merged rest)
 held-merged (group_then name enter exit inside rest) = λ i. held-merged inside i ++ held-merged rest i
 
@@ -244,11 +224,9 @@ codes-held (group_then name enter exit inside rest) =
 
 -- marked codes, and codes marked where they are not blank
 kept-any : (xs ys : MarkedCodes) → codes_in xs ≡ codes_in ys → AreBlankOrMarked ys → KeepMarks xs ys
-kept-any [] [] e h = tt
-kept-any [] (y ∷ ys) e h = cc
-kept-any (x ∷ xs) [] e h = cc
 kept-any (x ∷ xs) (y ∷ ys) e h =
     (head_same x.1 y.1 (codes_in xs) (codes_in ys) e, (λ f g. h.0 g), kept-any xs ys (tail_same x.1 y.1 (codes_in xs) (codes_in ys) e) h.1)
+kept-any xs ys e h = grind arith
 
 either-append : (xs ys : MarkedCodes) → AreBlankOrMarked xs → AreBlankOrMarked ys → AreBlankOrMarked (xs ++ ys)
 either-append [] ys h k = k
@@ -275,8 +253,7 @@ either-data front back hard cs = grind (arith, blank-reverse, span-all, by-join,
 
 kept-data : (front back : Bool) (hard : HardBreaks) (cs : List Code) →
     KeepMarks (marked true cs) (held (trimmed_data front back hard cs))
-kept-data front back hard cs =
-    kept-any (marked true cs) (held (trimmed_data front back hard cs)) (codes-marked true cs ∙ sym (codes-trimmed_data front back hard cs) ∙ sym (codes-held (trimmed_data front back hard cs))) (either-data front back hard cs)
+kept-data front back hard cs = grind (arith, kept-any, codes-marked, codes-trimmed_data, codes-held, either-data)
 
 kept-trimmed : (hard : HardBreaks) (front whole : Bool) (f : Forest) → KeepMarks (held f) (held (trimmed hard front whole f))
 unfolding trimmed
@@ -296,8 +273,7 @@ kept-trimmed hard front whole (group_then name enter exit inside rest) =
 -- Emails.
 
 either-leaf : (name : Name) (cs : List Code) → may_hold_marker name ≡ true → AreBlankOrMarked (held (leaf name cs))
-either-leaf name cs h =
-    subst AreBlankOrMarked (sym (by-leaf may_hold_marker name cs ∙ ap (λ b. marked b cs) h)) (either-marked cs)
+either-leaf name cs h = grind (arith, by-leaf, either-marked)
 
 either-with : (cs : List Code) → AreBlankOrMarked (held (with_emails cs))
 either-with cs =

@@ -7,7 +7,7 @@ use Rattle.markdown_model.proofs.GivenNames.{pair-named}
 use Rattle.markdown_event.specs.declared.event.Name.{Name}
 use Rattle.markdown_content.specs.Codes.{Code, stop_of, document_start}
 use Rattle.markdown_content.specs.Tree.{Forest, empty, leaf_then, group_then, leaf, ◌⊕◌, start_of, leaf_codes}
-use Rattle.markdown_model.specs.Setting.{Setting, within as within_content}
+use Rattle.markdown_model.specs.Setting.{Setting}
 use Rattle.markdown_model.specs.Runs.{Run, runs_of, run_of, marker_of, rows_inside, rows_of}
 use Rattle.markdown_model.specs.Pairs.{Pair, pair_list, ArePairsFrom}
 use Rattle.markdown_model.specs.BracketGroups.{Token, item, opens, closes, nested, joined, loose, pair_names, pair_group, closing_sizes, opening_sizes, cut_front, run_tokens, assembled, tokens_of, paired}
@@ -130,8 +130,7 @@ ArePairsBelow n (p ∷ ps) = (p.opener < p.closer) × (p.closer < n) × ArePairs
 within : (s : Setting) (runs : List Run) (end : ℕ) (earlier : List Pair) (last : ℕ) (ps : List Pair) →
     ArePairsFrom s runs end earlier last ps → ArePairsBelow (length runs) ps
 within s runs end earlier last [] h = tt
-within s runs end earlier last (p ∷ ps) h =
-    (h.0.eligible.in_order, h.0.eligible.in_container, within s runs end (earlier ++ p ∷ []) p.closer ps h.1)
+within s runs end earlier last (p ∷ ps) h = grind (arith, within s runs end (earlier ++ p ∷ []) p.closer ps h.1)
 
 -- the pairs that are open before run n, and those that close there or later
 abbrev open_at : ℕ → List Pair → ℕ
@@ -157,16 +156,14 @@ one-balance o c n h = grind (arith, nat_tests)
 balance : (n m : ℕ) (ps : List Pair) → ArePairsBelow m ps →
     open_at n ps + length (opening_sizes n ps) ≡ open_at (suc n) ps + length (closing_sizes n ps)
 balance n m [] h = refl
-balance n m (p ∷ ps) h =
-    omega (arith, one-balance p.opener p.closer n h.0, balance n m ps h.2, length-opening n p ps, length-closing n p ps)
+balance n m (p ∷ ps) h = grind (arith, one-balance, n, balance n m ps h.2, length-opening, length-closing)
 
 one-open : (o c n : ℕ) → o < c → (if c == n then 1 else 0) ≤ (if nat_lt o n && nat_le n c then 1 else 0)
 one-open o c n h = grind (arith, nat_tests)
 
 closed-open : (n m : ℕ) (ps : List Pair) → ArePairsBelow m ps → length (closing_sizes n ps) ≤ open_at n ps
 closed-open n m [] h = omega arith
-closed-open n m (p ∷ ps) h =
-    omega (arith, one-open p.opener p.closer n h.0, closed-open n m ps h.2, length-closing n p ps)
+closed-open n m (p ∷ ps) h = grind (arith, one-open, n, closed-open n m ps h.2, length-closing)
 
 one-closed : (c n : ℕ) → (if nat_le n c then 1 else 0) ≡ (if c == n then 1 else 0) + (if nat_le (suc n) c then 1 else 0)
 one-closed c n = grind (arith, nat_tests)
@@ -218,10 +215,7 @@ module _ (s : Setting) where
 
   law : (f : Forest) → PairGroupLaw f
   unfolding tokens_of runs_of rows_inside
-  law empty pairs n total h k = sym (omega (arith, ap (λ m. closed_from m pairs) here, none-past total pairs h))
-    where
-      here : n ≡ total
-      here = omega arith
+  law empty pairs n total h k = grind (arith, none-past, n)
   law (leaf_then Name.AttentionSequence link cs rest) pairs n total h k =
       made-run pairs n (run_of s cs) (open_at n pairs) (open_at (suc n) pairs) (open_at n pairs - length (closing_sizes n pairs)) (tokens_of s (pair_list s) rest pairs (suc n))
       (omega (arith, closed-open n total pairs h)) (omega (arith, closed-open n total pairs h, balance n total pairs h))
@@ -240,6 +234,4 @@ groups-rows s tree =
 -- and so it does with all containers of a whole content
 pub groups-paired : (s : Setting) (tree : Forest) →
     pair_groups (paired_whole s (pair_list s) tree) ≡ pair_groups tree + pair_count s tree
-groups-paired s tree =
-    let there : Setting = within_content (leaf_codes tree) s in
-    subst (λ pairs_of. pair_groups (paired there pairs_of tree) ≡ pair_groups tree + sum_by (λ runs. length (pairs_of runs)) (rows_of there tree)) (lists-within (leaf_codes tree) s) (groups-rows there tree)
+groups-paired s tree = grind (arith, lists-within (leaf_codes tree) s, groups-rows)

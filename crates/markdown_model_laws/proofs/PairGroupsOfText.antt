@@ -1,5 +1,5 @@
 -- The groups of pairs in the inline tree of a text.
-use Rattle.std.proofs.Common.{◌≡◌, ℕ, ◌+◌, Bool, true, false, ◌&&◌, ◌||◌, not, List, [], ◌∷◌, length, if◌then◌else◌, refl, sym, ap, subst, ◌∙◌, arith, None, Contains}
+use Rattle.std.proofs.Common.{◌≡◌, ℕ, ◌+◌, Bool, true, false, ◌&&◌, ◌||◌, not, List, [], ◌∷◌, length, if◌then◌else◌, refl, sym, ap, subst, ◌∙◌, arith, None, rules}
 use Rattle.std.proofs.lemmas.Bool.{and_parts}
 use Rattle.markdown_event.specs.declared.event.Name.{Name}
 use Rattle.markdown_event.specs.declared.event.Point.{Point}
@@ -43,8 +43,7 @@ groups-both : (a b : Forest) → pair_groups a ≡ 0 → pair_groups b ≡ 0 →
 groups-both a b h k = omega (arith, groups-join a b, h, k)
 
 groups-data : (front back : Bool) (hard : HardBreaks) (cs : List Code) → pair_groups (trimmed_data front back hard cs) ≡ 0
-groups-data front back hard cs =
-    trimmed_data-has (λ t. pair_groups t ≡ 0) groups-both (groups-leaf Name.Data) (groups-leaf Name.HardBreakTrailing) (groups-leaf Name.SpaceOrTab) front back hard cs
+groups-data front back hard cs = grind (arith, groups-both, groups-leaf)
 
 groups-trimmed : (hard : HardBreaks) (front whole : Bool) (f : Forest) → pair_groups (trimmed hard front whole f) ≡ pair_groups f
 unfolding trimmed
@@ -65,8 +64,7 @@ groups-emails cs =
 groups-mailed : (f : Forest) → pair_groups (with_emails_apart f) ≡ pair_groups f
 unfolding with_emails_apart
 groups-mailed empty = refl
-groups-mailed (leaf_then Name.Data None cs rest) =
-    omega (arith, groups-join (with_emails cs) (with_emails_apart rest), groups-emails cs, groups-mailed rest)
+groups-mailed (leaf_then Name.Data None cs rest) = grind (arith, groups-join, groups-emails, groups-mailed rest)
 groups-mailed (leaf_then name link cs rest) = groups-mailed rest
 groups-mailed (group_then Name.Link enter exit inside rest) = ap (λ n. 0 + pair_groups inside + n) (groups-mailed rest)
 groups-mailed (group_then name enter exit inside rest) =
@@ -94,10 +92,7 @@ each_pair_is_a_group s cs =
     text-has (λ t. pair_groups t ≡ pair_count s (labels_in s cs)) s cs (groups-mailed (unmailed s cs) ∙ kept) kept
   where
     kept : pair_groups (unmailed s cs) ≡ pair_count s (labels_in s cs)
-    kept =
-        groups-trimmed (breaks s) true true (merged (pairs_in s cs))
-        ∙ groups-merged (pairs_in s cs)
-        ∙ omega (arith, groups-paired s (labels_in s cs), no-groups (labels_in s cs) (made-text-labels s cs))
+    kept = grind (arith, groups-trimmed, groups-merged, groups-paired, no-groups, made-text-labels)
 
 -- The passes keep the sides of pairs.
 
@@ -166,9 +161,7 @@ module _ (P : List Code → List Code → Type 0) where
     where
       sequence : (name : Name) (cs : List Code) (rest : Forest) → is_sequence name ≡ true →
           trimmed hard false false (leaf_then name None cs rest) ≡ leaf_then name None cs (trimmed hard false false rest)
-      sequence Name.Data cs rest h = not-data h
-      sequence Name.LineEnding cs rest h = not-ending h
-      sequence name cs rest h = refl
+      sequence name cs rest h = grind (arith, not-data, not-ending)
 
   pairs-trimmed : (hard : HardBreaks) (front whole : Bool) (f : Forest) → EachPairHas P f → EachPairHas P (trimmed hard front whole f)
   pairs-trimmed hard front whole f h =
@@ -198,14 +191,12 @@ module _ (P : List Code → List Code → Type 0) where
 
 module _ (P R : List Code → List Code → Type 0) (weaker : (front back : List Code) → P front back → R front back) where
   sides-weaker : (f : Forest) → HasSides P f → HasSides R f
-  sides-weaker f h =
-      let x = sides-of P f h in subst (HasSides R) (sym x.is) (x.sequence, refl, weaker x.front x.back x.said)
+  sides-weaker f h = grind arith
 
   pairs-weaker : (f : Forest) → EachPairHas P f → EachPairHas R f
   pairs-weaker empty h = tt
   pairs-weaker (leaf_then name link cs rest) h = pairs-weaker rest h
-  pairs-weaker (group_then name enter exit inside rest) h =
-      ((λ e. sides-weaker inside (h.0 e)), pairs-weaker inside h.1, pairs-weaker rest h.2)
+  pairs-weaker (group_then name enter exit inside rest) h = grind (arith, sides-weaker, pairs-weaker inside h.1, pairs-weaker rest h.2)
 
 pub pairs_take_their_markers : PairsTakeTheirMarkers
 unfolding label_tree
@@ -221,20 +212,10 @@ pairs_take_their_markers s cs = text-has (EachPairHas P) s cs (pairs-mailed P (u
     there = within (leaf_codes labels) s
 
     right : EachPairHas (AreOfPair there labels) (paired there (pair_list there) labels)
-    right =
-        (right-paired s labels (no-groups labels (made-text-labels s cs)) (made-filled labels (made-text-labels s cs)) (apart-text-labels s cs)).0
+    right = grind (arith, right-paired, no-groups, made-text-labels, made-filled, apart-text-labels)
 
     same_lists : (front back : List Code) → AreOfPair there labels front back → P front back
-    same_lists front back h = record {
-      runs = h.runs;
-      pair = h.pair;
-      container = h.container;
-      listed = subst (λ pairs_of. Contains (pairs_of h.runs) h.pair) (lists-within (leaf_codes labels) s) h.listed;
-      opener = h.opener;
-      closer = h.closer;
-      opener_size = h.opener_size;
-      closer_size = h.closer_size;
-    }
+    same_lists front back h = search (rules, lists-within)
 
     kept : EachPairHas P (unmailed s cs)
     kept =

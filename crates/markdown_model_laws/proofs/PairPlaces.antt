@@ -56,10 +56,8 @@ matches-some [] (closes c ∷ w) m = absurd m
 matches-some (key ∷ keys) (closes c ∷ w) m = (is-some c m.0, matches-some keys w m.1.1)
 
 items-some : (w : List Token) → AreItems w → AreSomeBrackets w
-items-some [] m = tt
 items-some (item f ∷ w) m = items-some w m
-items-some (opens o ∷ w) m = absurd m
-items-some (closes c ∷ w) m = absurd m
+items-some w m = grind arith
 
 flat-some : (w : List Token) → IsFlat w → AreSomeBrackets w
 flat-some w (inl m) = matches-some [] w m
@@ -77,8 +75,6 @@ marker-ends name c cs = record {
 
 pair-allows : (front : List Code) (inside : List Forest) (back : List Code) → IsSome front → IsSome back →
     Allows (ends_of front ++ (all_places inside ++ ends_of back)) (all_places (pair_group front inside back))
-pair-allows [] inside back h k = cc
-pair-allows (c ∷ cs) inside [] h k = cc
 pair-allows (c ∷ cs) inside (d ∷ ds) h k =
     allows-then (ends_of (c ∷ cs) ++ (all_places inside ++ ends_of (d ∷ ds))) (places_of row) (all_places (pair_group (c ∷ cs) inside (d ∷ ds)))
     (subst (λ x. Allows x (places_of row)) parts (places-between names.2 (leaf names.1 (c ∷ cs)) (stop_of c.stop cs) d.start (joined inside) (leaf names.1 (d ∷ ds)) (marker-ends names.1 c cs) (begins-leaf names.1 d ds empty) refl))
@@ -95,6 +91,7 @@ pair-allows (c ∷ cs) inside (d ∷ ds) h k =
 
     parts : places_of (leaf names.1 (c ∷ cs)) ++ (places_of (joined inside) ++ places_of (leaf names.1 (d ∷ ds))) ≡ ends_of (c ∷ cs) ++ (all_places inside ++ ends_of (d ∷ ds))
     parts = λ i. places-leaf names.1 (c ∷ cs) i ++ (sum-joined places_add inside i ++ places-leaf names.1 (d ∷ ds) i)
+pair-allows front inside back h k = cc
 
 -- Nesting.
 
@@ -140,11 +137,8 @@ onto-allows o inside (c ∷ more) source h k g = (
 nest-allows : (w : List Token) → AreSomeBrackets w →
     Allows (word_places w) (nest_places (nest_pairs w)) × AreFilledFrames (nest_pairs w).1
 nest-allows [] h = (allows-itself [], tt)
-nest-allows (item f ∷ w) h =
-    let r = nest-allows w h in
-    (subst (Allows (places_of f ++ word_places w)) (sym (append_assoc (places_of f) (all_places (nest_pairs w).0) (frame_places (nest_pairs w).1))) (allows-behind (places_of f) (word_places w) (nest_places (nest_pairs w)) r.0), r.1)
-nest-allows (closes c ∷ w) h =
-    let r = nest-allows w h.1 in (allows-behind (ends_of c) (word_places w) (nest_places (nest_pairs w)) r.0, (h.0, r.1))
+nest-allows (item f ∷ w) h = grind (arith, nest-allows w h, append_assoc, allows-behind)
+nest-allows (closes c ∷ w) h = grind (arith, nest-allows w h.1, allows-behind)
 nest-allows (opens o ∷ w) h =
     let r = nest-allows w h.1 in onto-allows o (nest_pairs w).0 (nest_pairs w).1 (word_places w) h.0 r.1 r.0
 
@@ -156,10 +150,7 @@ after-places (f ∷ fs) =
     ∙ append_assoc (ends_of f.0) (all_places f.1) (frame_places fs)
 
 assembled-allows : (w : List Token) → AreSomeBrackets w → Allows (word_places w) (places_of (assembled w))
-assembled-allows w h =
-    subst (Allows (word_places w))
-    (sym (sum-joined places_add (nested pair_group loose loose w) ∙ sum-append places_add (nest_pairs w).0 (after_loose pair_group loose loose (nest_pairs w).1) ∙ ap (λ x. all_places (nest_pairs w).0 ++ x) (after-places (nest_pairs w).1)))
-    (nest-allows w h).0
+assembled-allows w h = grind (arith, sum-joined places_add (nested pair_group loose loose w), sum-append, after-places, nest-allows w h)
 
 -- Trees.
 
@@ -171,9 +162,7 @@ module _ (s : Setting) (pairs_of : List Run → List Pair) where
   tokens-allow (leaf_then Name.AttentionSequence link cs rest) pairs n r =
       subst (Allows (ends_of cs ++ places_of rest)) (sym (token-append places_add ends_of (places-leaf Name.Data) (run_tokens pairs n (run_of s cs)) (tokens_of s pairs_of rest pairs (suc n)) ∙ ap (λ x. x ++ word_places (tokens_of s pairs_of rest pairs (suc n))) (sum-run places_add ends_of (places-leaf Name.Data) refl ends-join pairs n (run_of s cs) ∙ ap ends_of (codes-run_of s cs))))
       (allows-behind (ends_of cs) (places_of rest) (word_places (tokens_of s pairs_of rest pairs (suc n))) (tokens-allow rest pairs (suc n) r.1))
-  tokens-allow (leaf_then name link cs rest) pairs n r =
-      subst (λ x. Allows (ends_of cs ++ places_of rest) (x ++ word_places (tokens_of s pairs_of rest pairs n))) (sym (append-nil (ends_of cs)))
-      (allows-behind (ends_of cs) (places_of rest) (word_places (tokens_of s pairs_of rest pairs n)) (tokens-allow rest pairs n r.1))
+  tokens-allow (leaf_then name link cs rest) pairs n r = grind (arith, append-nil, allows-behind, tokens-allow rest pairs n r.1)
   tokens-allow (group_then name enter exit inside rest) pairs n r =
       subst (λ x. Allows (place_of enter ∷ (places_of inside ++ (place_of exit ∷ places_of rest))) (place_of enter ∷ x)) (sym (append_assoc (places_of (assembled word)) (place_of exit ∷ []) tail))
       (allows-behind (place_of enter ∷ []) (places_of inside ++ (place_of exit ∷ places_of rest)) (places_of (assembled word) ++ (place_of exit ∷ tail))

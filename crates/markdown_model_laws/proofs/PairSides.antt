@@ -1,6 +1,6 @@
 -- The sides of each pair's group are markers of the pair's two runs, and something stands between them: the markers that pairs take nest, each
 -- closes the pair that it belongs to, and runs of one marker are no neighbours.
-use Rattle.std.proofs.Common.{◌≡◌, ℕ, suc, ◌+◌, ◌-◌, ◌<◌, ◌≤◌, nat_lt, nat_le, ◌==◌, Bool, true, false, ◌&&◌, ◌||◌, List, [], ◌∷◌, ◌++◌, length, take, drop, reverse, map, sum_by, if◌then◌else◌, refl, sym, ap, subst, ◌∙◌, arith, append_assoc, append-nil}
+use Rattle.std.proofs.Common.{◌≡◌, ℕ, suc, ◌+◌, ◌-◌, ◌<◌, ◌≤◌, nat_lt, nat_le, ◌==◌, Bool, true, false, ◌&&◌, ◌||◌, List, [], ◌∷◌, ◌++◌, length, take, drop, reverse, map, sum_by, if◌then◌else◌, refl, sym, ap, subst, ◌∙◌, arith, append_assoc, append-nil, rules}
 use Rattle.std.specs.List.{list_any, list_all, Contains}
 use Rattle.std.proofs.lemmas.Bool.{both_ways, and_parts, eqb-true, eq-eqb}
 use Rattle.std.proofs.lemmas.Bool.Decides.{nat_tests}
@@ -187,8 +187,7 @@ sizes-append (p ∷ ps) qs = ap (λ ns. p.size ∷ ns) (sizes-append ps qs)
 
 sizes-reverse : (ps : List Pair) → reverse (sizes_of ps) ≡ sizes_of (reverse ps)
 sizes-reverse [] = refl
-sizes-reverse (p ∷ ps) =
-    reverse-append (p.size ∷ []) (sizes_of ps) ∙ ap (λ ns. ns ++ p.size ∷ []) (sizes-reverse ps) ∙ sym (sizes-append (reverse ps) (p ∷ [])) ∙ ap sizes_of (sym (reverse-append (p ∷ []) ps))
+sizes-reverse (p ∷ ps) = grind (arith, reverse-append (p.size ∷ []) (sizes_of ps), sizes-reverse ps, sizes-append (reverse ps) (p ∷ []), reverse-append (p ∷ []) ps)
 
 reversed-onto : (x : Pair) (xs ys : List Pair) → reverse (x ∷ xs) ++ ys ≡ reverse xs ++ x ∷ ys
 reversed-onto x xs ys = ap (λ z. z ++ ys) (reverse-append (x ∷ []) xs) ∙ append_assoc (reverse xs) (x ∷ []) ys
@@ -332,12 +331,8 @@ first-onto m o inside (c ∷ more) h = cc
 
 next-nest : (m : ℕ) (w : List Token) → NextIsNot m w → is_nothing (joined (nest_pairs w).0) ≡ true →
     FirstIsNot m (nest_pairs w).1
-next-nest m [] h k = tt
 next-nest m (item empty ∷ w) h k = next-nest m w h k
-next-nest m (item (leaf_then name link cs rest) ∷ w) h k = cc
-next-nest m (item (group_then name enter exit inside rest) ∷ w) h k = cc
-next-nest m (opens o ∷ w) h k = first-onto m o (nest_pairs w).0 (nest_pairs w).1 k
-next-nest m (closes c ∷ w) h k = h
+next-nest m w h k = grind (arith, first-onto)
 
 next-opens : (n : ℕ) (os : List (List Code)) (w : List Token) → NextIsNot n w → NextIsNot n (map opens os ++ w)
 next-opens n [] w h = h
@@ -374,8 +369,7 @@ module _ (s : Setting) (tree : Forest) (runs : List Run) (container : Contains (
 
   of-pair : (p : Pair) (front back : List Code) → Q p → IsSide (opened p) p front → IsSide (closed p) p back →
       P front back
-  of-pair p front back q h k =
-      record { runs = runs; pair = p; container = container; listed = q.0; opener = h.part; closer = k.part; opener_size = h.size; closer_size = k.size }
+  of-pair p front back q h k = search (rules)
 
   word-onto : (o : List Code) (inside : List Forest) (more : SideFrames) (p : Pair) (pending : List Pair) → Q p → IsSide (opened p) p o → (is_nothing (joined inside) ≡ true → FirstIsNot (marker_of o) more)
       → AllRight P inside → AreSideFrames (p ∷ pending) more →
@@ -404,16 +398,11 @@ module _ (s : Setting) (tree : Forest) (runs : List Run) (container : Contains (
 
   word-closes : (cs : List (List Code)) (ps pending : List Pair) (w : List Token) → AreSides closed cs ps →
       IsPairWord pending w → IsPairWord (ps ++ pending) (map closes cs ++ w)
-  word-closes [] [] pending w h k = k
-  word-closes [] (p ∷ ps) pending w h k = absurd h
-  word-closes (c ∷ cs) [] pending w h k = absurd h
   word-closes (c ∷ cs) (p ∷ ps) pending w h k = (h.0, word-closes cs ps pending w h.1 k)
+  word-closes cs ps pending w h k = grind arith
 
   word-opens : (m : ℕ) (os : List (List Code)) (ps pending : List Pair) (w : List Token) → AreSides opened os ps → AllOf (λ p. Q p × (marker_of (opened p) ≡ m)) ps → NextIsNot m w
       → IsPairWord (reverse ps ++ pending) w → IsPairWord pending (map opens os ++ w)
-  word-opens m [] [] pending w h q n k = k
-  word-opens m [] (p ∷ ps) pending w h q n k = absurd h
-  word-opens m (o ∷ os) [] pending w h q n k = absurd h
   word-opens m (o ∷ os) (p ∷ ps) pending w h q n k = (
     p,
     q.0.0,
@@ -421,6 +410,7 @@ module _ (s : Setting) (tree : Forest) (runs : List Run) (container : Contains (
     next-opens (marker_of o) os w (subst (λ x. NextIsNot x w) (sym (h.0.marker ∙ q.0.1)) n),
     word-opens m os ps (p ∷ pending) w h.1 q.1 n (subst (λ x. IsPairWord x w) (reversed-onto p ps pending) k),
   )
+  word-opens m os ps pending w h q n k = grind arith
 
   -- The tokens of a run.
   module _ (pairs : List Pair) (all : AllOf Q pairs) (sized : AllOf (λ p. 0 < p.size) pairs) (i : ℕ) (r : Run) (here : run_at runs i ≡ r) (stripe : IsMarkerStripe (marker_of r.codes) r.codes)
@@ -438,12 +428,10 @@ module _ (s : Setting) (tree : Forest) (runs : List Run) (container : Contains (
     back = cut_front sizes (drop kept front.1)
 
     closer-here : AllOf (λ p. (0 < p.size) × (closed p ≡ r.codes)) (closing i pairs)
-    closer-here =
-        all-as (λ p. (0 < p.size) × (p.closer ≡ i)) (λ p. (0 < p.size) × (closed p ≡ r.codes)) (λ p h. (h.0, ap (λ n. (run_at runs n).codes) h.1 ∙ ap (λ x. x.codes) here)) (closing i pairs) (all-closing (λ p. 0 < p.size) i pairs sized)
+    closer-here = grind (arith, all-as, here, pairs, all-closing)
 
     opener-here : AllOf (λ p. (0 < p.size) × (opened p ≡ r.codes)) (opening i pairs)
-    opener-here =
-        all-as (λ p. (0 < p.size) × (p.opener ≡ i)) (λ p. (0 < p.size) × (opened p ≡ r.codes)) (λ p h. (h.0, ap (λ n. (run_at runs n).codes) h.1 ∙ ap (λ x. x.codes) here)) (opening i pairs) (all-opening (λ p. 0 < p.size) i pairs sized)
+    opener-here = grind (arith, all-as, here, pairs, all-opening)
 
     sizes-are : sizes ≡ sizes_of (reverse (opening i pairs))
     sizes-are = ap reverse (opening-is i pairs) ∙ sizes-reverse (opening i pairs)
@@ -469,9 +457,7 @@ module _ (s : Setting) (tree : Forest) (runs : List Run) (container : Contains (
         (omega (arith, enough, left, total-sizes, ap total sizes-are, length-drop kept front.1)))
       where
         parts : r.codes ≡ (behind.0 ++ take kept front.1) ++ (drop kept front.1 ++ [])
-        parts =
-            behind.1 ∙ ap (λ x. behind.0 ++ x) (sym (take-append-drop kept front.1)) ∙ sym (append_assoc behind.0 (take kept front.1) (drop kept front.1))
-            ∙ ap (λ x. (behind.0 ++ take kept front.1) ++ x) (sym (append-nil (drop kept front.1)))
+        parts = grind (arith, behind, take-append-drop, append_assoc, append-nil)
 
     word-run : (pending : List Pair) (w : List Token) → NextIsNot (marker_of r.codes) w →
         IsPairWord (opening i pairs ++ pending) w → IsPairWord (closing i pairs ++ pending) (run_tokens pairs i r ++ w)
@@ -482,9 +468,7 @@ module _ (s : Setting) (tree : Forest) (runs : List Run) (container : Contains (
         (right-leaf P Name.Data (take kept front.1), word-opens (marker_of r.codes) back.0 (reverse (opening i pairs)) pending w open-sides marked n (subst (λ x. IsPairWord (x ++ pending) w) (sym (reverse-reverse (opening i pairs))) h)))
       where
         marked : AllOf (λ p. Q p × (marker_of (opened p) ≡ marker_of r.codes)) (reverse (opening i pairs))
-        marked =
-            all-reverse (λ p. Q p × (marker_of (opened p) ≡ marker_of r.codes)) (opening i pairs)
-            (all-as (λ p. Q p × (p.opener ≡ i)) (λ p. Q p × (marker_of (opened p) ≡ marker_of r.codes)) (λ p k. (k.0, ap (λ m. marker_of (run_at runs m).codes) k.1 ∙ ap (λ x. marker_of x.codes) here)) (opening i pairs) (all-opening Q i pairs all))
+        marked = grind (arith, all-reverse, pairs, all-as, here, all-opening)
 
     -- a token of the run is no empty data
     something : front.0 ≡ [] → take kept front.1 ≡ [] → back.0 ≡ [] → ⊥
@@ -496,10 +480,7 @@ module _ (s : Setting) (tree : Forest) (runs : List Run) (container : Contains (
         by_parts : (cs : List (List Code)) (ds : List Code) (os : List (List Code)) (ps : List Pair) → AreSides closed cs ps → AllOf (λ p. (0 < p.size) × (closed p ≡ r.codes)) ps → (cs ≡ [] → ds ≡ [] → os ≡ [] → ⊥)
             → NextIsNot m ((map closes cs ++ (item (leaf Name.Data ds) ∷ map opens os)) ++ w)
         by_parts [] [] [] ps k l n = absurd (n refl refl refl)
-        by_parts [] [] (o ∷ os) ps k l n = tt
-        by_parts [] (d ∷ ds) os ps k l n = tt
-        by_parts (c ∷ cs) ds os [] k l n = absurd k
-        by_parts (c ∷ cs) ds os (p ∷ ps) k l n = ap (λ x. x == m) (k.0.marker ∙ ap marker_of l.0.1) ∙ h
+        by_parts cs ds os ps k l n = grind arith
 
 -- Rows.
 
@@ -560,10 +541,7 @@ module _ (s : Setting) where
 
     law : (f : Forest) → PairWordLaw f
     unfolding tokens_of runs_of rows_inside
-    law empty runs container m n st k g f a w = subst (λ x. open_pairs x (pair_list s runs) ≡ []) (sym here) (none-left (length runs) (pair_list s runs) (ordered-pairs runs))
-      where
-        here : n ≡ length runs
-        here = omega arith
+    law empty runs container m n st k g f a w = grind (arith, none-left, ordered-pairs)
     law (leaf_then Name.AttentionSequence link cs rest) runs container m n st k g f a w =
         subst (λ x. IsPairWord s tree runs container x (run_tokens (pair_list s runs) n (run_of s cs) ++ words rest runs (suc n))) (sym (close-split n (length runs) (pair_list s runs) (ordered-pairs runs)))
         (word-run s tree runs container (pair_list s runs) (known-pairs runs) (all-sized (length runs) (pair_list s runs) (ordered-pairs runs)) n (run_of s cs) here (stripe-of cs a.0) (enough-markers runs n (run_of s cs) here)

@@ -4,7 +4,7 @@ use Rattle.std.proofs.lemmas.Bool.{and_parts}
 use Rattle.std.proofs.lemmas.List.Elements.{filter-append}
 use Rattle.markdown_event.specs.declared.event.Point.{Point}
 use Rattle.markdown_content.specs.declared.parser.Piece.{Piece}
-use Rattle.markdown_content.specs.Codes.{Code, codes_of, document_start, is_at_or_after, is_code_before, is_line_ending, place_of, stop_of}
+use Rattle.markdown_content.specs.Codes.{Code, codes_of, document_start, is_at_or_after, is_line_ending, place_of, stop_of}
 use Rattle.markdown_content.specs.Content.{content_of, piece_codes, is_piece, are_pieces, ends_line, is_one_line}
 use Rattle.markdown_content.specs.DocumentWalk.{codes_after}
 use Rattle.markdown_content.proofs.AdjacentCodes.{IsChain, before_in, from_in, before_in-none, chain-back, split-at}
@@ -37,28 +37,22 @@ module _ (bytes : List ℕ) where
   Border (c ∷ x ∷ cs) ds = Border (x ∷ cs) ds
 
   pub next-join : (cs ds : List Code) → AreNext cs → AreNext ds → Border cs ds → AreNext (cs ++ ds)
-  next-join [] ds h k b = k
-  next-join (c ∷ []) [] h k b = tt
-  next-join (c ∷ []) (d ∷ ds) h k b = (b, k)
   next-join (c ∷ x ∷ cs) ds h k b = (h.0, next-join (x ∷ cs) ds h.1 k b)
+  next-join cs ds h k b = grind arith
 
   pub next-parts : (cs ds : List Code) → AreNext (cs ++ ds) → AreNext ds × Border cs ds
-  next-parts [] ds h = (h, tt)
-  next-parts (c ∷ []) [] h = (tt, tt)
-  next-parts (c ∷ []) (d ∷ ds) h = (h.1, h.0)
   next-parts (c ∷ x ∷ cs) ds h = next-parts (x ∷ cs) ds h.1
+  next-parts cs ds h = grind arith
 
   pub next-front : (cs ds : List Code) → AreNext (cs ++ ds) → AreNext cs
-  next-front [] ds h = tt
-  next-front (c ∷ []) ds h = tt
   next-front (c ∷ x ∷ cs) ds h = (h.0, next-front (x ∷ cs) ds h.1)
+  next-front cs ds h = tt
 
   -- Codes of a piece.
 
   chain-next : (p : Point) (cs : List Code) → IsChain p cs → AreNext cs
-  chain-next p [] h = tt
-  chain-next p (c ∷ []) h = tt
   chain-next p (c ∷ d ∷ cs) h = (inl (ap place_of (sym h.2.0)), chain-next c.stop (d ∷ cs) h.2)
+  chain-next p cs h = tt
 
   chain-front : (p : Point) (cs ds : List Code) → IsChain p (cs ++ ds) → IsChain p cs
   chain-front p [] ds h = tt
@@ -69,8 +63,7 @@ module _ (bytes : List ℕ) where
   start_point piece = stop_of document_start (before_in piece.start (codes_of bytes))
 
   after-chain : (piece : Piece) → IsChain (start_point piece) (codes_after bytes piece.start)
-  after-chain piece =
-      chain-back document_start (before_in piece.start (codes_of bytes)) (codes_after bytes piece.start) (chain-split bytes (before_in piece.start (codes_of bytes)) (codes_after bytes piece.start) (document-split bytes piece.start))
+  after-chain piece = grind (arith, chain-back, chain-split, document-split)
 
   piece-chain : (piece : Piece) → IsChain (start_point piece) (piece_codes (codes_of bytes) piece)
   piece-chain piece =
@@ -88,12 +81,7 @@ module _ (bytes : List ℕ) where
 
   ends-at : (piece : Piece) (c : Code) (cs : List Code) → IsThere bytes piece.end →
       piece_codes (codes_of bytes) piece ≡ c ∷ cs → place_of (stop_of c.stop cs) ≡ piece.end
-  ends-at piece c cs t e =
-      let front : List Code = before_in piece.start (codes_of bytes) in
-      let split : before_in piece.end (codes_of bytes) ≡ before_in piece.end front ++ c ∷ cs = ap (before_in piece.end) (document-split bytes piece.start)
-      ∙ filter-append (is_code_before piece.end) front (codes_after bytes piece.start)
-      ∙ ap (λ xs. before_in piece.end front ++ xs) (sym (piece-codes-is bytes piece) ∙ e) in
-      ap place_of (sym (ap (stop_of document_start) split ∙ stop-over document_start document_start (before_in piece.end front) c cs)) ∙ t.place
+  ends-at piece c cs t e = grind (arith, document-split bytes piece.start, filter-append, piece-codes-is bytes piece, stop-over, t)
 
   first-of : (p : Point) (at : ℕ × ℕ) (cs : List Code) (d : Code) (ds : List Code) → IsChain p cs →
       before_in at cs ≡ d ∷ ds → d.start ≡ p
@@ -130,9 +118,7 @@ module _ (bytes : List ℕ) where
           content_of bytes (piece ∷ rest) ≡ d ∷ ds → place_of d.start ≡ piece.start
       by_codes [] k [] al l = let no : [] ≡ d ∷ ds = sym (ap (λ xs. xs ++ []) k) ∙ l in cc
       by_codes [] k (n ∷ m) al l = absurd (no-codes (ap ends_line (sym k) ∙ (followed_by bytes piece n m al).ends))
-      by_codes (c ∷ cs) k rest al l =
-          let same : c ≡ d = heads (sym (ap (λ xs. xs ++ content_of bytes rest) k) ∙ l) in
-          ap (λ (x : Code). place_of x.start) (sym same) ∙ begins-at piece c cs t k
+      by_codes (c ∷ cs) k rest al l = grind (arith, heads, begins-at, t)
 
   border : (piece next : Piece) (more : List Piece) → are_pieces bytes (piece ∷ next ∷ more) ≡ true →
       Border (piece_codes (codes_of bytes) piece) (content_of bytes (next ∷ more))

@@ -6,8 +6,8 @@ use Rattle.std.proofs.lemmas.Bool.{and_parts, and_from, both_ways, eq-eqb, eqb-t
 use Rattle.std.proofs.lemmas.Bool.Decides.{nat_tests}
 use Rattle.markdown_event.specs.declared.event.Point.{Point}
 use Rattle.markdown_content.specs.declared.parser.Piece.{Piece}
-use Rattle.markdown_content.specs.Codes.{Code, codes_of, document_start, is_at_or_after, is_code_before, place_of, stop_of}
-use Rattle.markdown_content.specs.Content.{piece_codes, is_place, is_piece, are_pieces, ends_line, is_one_line}
+use Rattle.markdown_content.specs.Codes.{Code, codes_of, document_start, is_at_or_after, place_of, stop_of}
+use Rattle.markdown_content.specs.Content.{piece_codes, is_place, are_pieces, ends_line, is_one_line}
 use Rattle.markdown_content.proofs.AdjacentCodes.{IsChain, before_in, from_in, from_in-all}
 use Rattle.markdown_content.proofs.PlaceOrder.{is_before, before-asym, not_before-trans}
 use Rattle.markdown_content.proofs.WalkSteps.{not_past-back}
@@ -32,8 +32,7 @@ module _ (p q end : ℕ × ℕ) (h : is_before q p ≡ false) where
   EndsTheLine cs = ends_line (before_in end cs) ≡ true
 
   one-more : (d : Code) (cs : List Code) → EndsTheLine cs → EndsTheLine (d ∷ cs)
-  one-more d cs k =
-      filtered (λ xs. ends_line xs ≡ true) (is_code_before end) d cs (ends-cons d (before_in end cs) k) k
+  one-more d cs k = grind (arith, ends-cons)
 
   -- codes from an earlier place on end a line where those from a later one do
   longer-codes : (x : Point) (cs : List Code) → IsChain x cs → EndsTheLine (from_in q cs) → EndsTheLine (from_in p cs)
@@ -42,20 +41,14 @@ module _ (p q end : ℕ × ℕ) (h : is_before q p ≡ false) where
     where
       -- the later place is in front
       in-front : is_before (place_of x) q ≡ false → EndsTheLine (from_in p (d ∷ cs))
-      in-front k =
-          let all : from_in q (d ∷ cs) ≡ d ∷ cs = from_in-all x (d ∷ cs) q c k in
-          let whole : from_in p (d ∷ cs) ≡ d ∷ cs = from_in-all x (d ∷ cs) p c (not_before-trans (place_of x) q p k h) in
-          subst EndsTheLine (all ∙ sym whole) e
+      in-front k = grind (arith, from_in-all x (d ∷ cs) q c k, from_in-all x (d ∷ cs) p c (not_before-trans (place_of x) q p k h), not_before-trans (place_of x) q p k h)
 
       skipped : (b : Bool) → b ≡ true → cond (not b) (d ∷ from_in q cs) (from_in q cs) ≡ from_in q cs
       skipped true l = refl
       skipped false l = cc
 
       behind : is_before (place_of x) q ≡ true → (EndsTheLine (from_in q cs) → EndsTheLine (from_in p cs)) → EndsTheLine (from_in p (d ∷ cs))
-      behind k rest =
-          let skip : from_in q (d ∷ cs) ≡ from_in q cs = skipped (is_code_before q d) (ap (λ (y : Point). is_before (place_of y) q) c.0 ∙ k) in
-          let more : EndsTheLine (from_in p cs) = rest (subst EndsTheLine skip e) in
-          filtered EndsTheLine (λ z. not (is_code_before p z)) d cs (one-more d (from_in p cs) more) more
+      behind k rest = grind (arith, skipped)
 
       by_test : (b : Bool) → is_before (place_of x) q ≡ b → (EndsTheLine (from_in q cs) → EndsTheLine (from_in p cs)) → EndsTheLine (from_in p (d ∷ cs))
       by_test true k rest = behind k rest
@@ -117,17 +110,13 @@ module _ (bytes : List ℕ) where
       (place_of (stop_of c.stop cs) ≡ place_of d.start) ⊎ Breaks c cs d
   at-border c [] d ds (inl e) = inl e
   at-border c [] d ds (inr b) = inr (record { ends = b.ending; after = b.after; line = b.line })
-  at-border c (x ∷ cs) d ds h =
-      elim (at-border x cs d ds h) [ inl e ↦ inl e | inr b ↦ inr (record { ends = b.ends; after = b.after; line = b.line }) ]
+  at-border c (x ∷ cs) d ds h = grind (arith, at-border x cs d ds h)
 
   places-meet : (p q : Piece) → meets p q ≡ true → p.end ≡ q.start
-  places-meet p q h =
-      let both = and_parts (p.end.0 == q.start.0) (p.end.1 == q.start.1) h in
-      same-pair p.end.0 p.end.1 q.start (eqb-true p.end.0 q.start.0 both.0) (eqb-true p.end.1 q.start.1 both.1)
+  places-meet p q h = grind (arith, and_parts (p.end.0 == q.start.0) (p.end.1 == q.start.1) h, same-pair, eqb-true)
 
   meet-places : (p q : Piece) → p.end ≡ q.start → meets p q ≡ true
-  meet-places p q e =
-      and_from (p.end.0 == q.start.0) (p.end.1 == q.start.1) (eq-eqb p.end.0 q.start.0 (ap (λ (x : ℕ × ℕ). x.0) e)) (eq-eqb p.end.1 q.start.1 (ap (λ (x : ℕ × ℕ). x.1) e))
+  meet-places p q e = grind (arith, and_from, eq-eqb)
 
   module _ (p : Piece) (c : Code) (cs : List Code) (one : IsFilledPiece p c cs) where
     order : is_before p.end p.start ≡ false
@@ -150,10 +139,7 @@ module _ (bytes : List ℕ) where
 
         by_rest : (qs : List Piece) → are_pieces bytes (q ∷ qs) ≡ true → is_followed (record { start = p.start; end = q.end }) qs ≡ true
         by_rest [] al = refl
-        by_rest (n ∷ l) al =
-            let test : is_followed q (n ∷ l) ≡ true = (and_parts (is_piece bytes q && are_pieces bytes (n ∷ l)) (is_followed q (n ∷ l)) al).1 in
-            let parts = and_parts (ends_line (piece_codes (codes_of bytes) q)) (is_at_or_after q.end n.start && is_one_line bytes q.end n.start) test in
-            and_from (ends_line (piece_codes (codes_of bytes) (record { start = p.start; end = q.end }))) (is_at_or_after q.end n.start && is_one_line bytes q.end n.start) (longer-ends p.start q.start q.end earlier parts.0) parts.1
+        by_rest (n ∷ l) al = grind (arith, and_parts, and_from, longer-ends, earlier)
 
     -- in front of one on the next line
     apart : (q : Piece) (more : List Piece) (d : Code) → are_pieces bytes (q ∷ more) ≡ true → q.start ≡ place_of d.start → Breaks c cs d →
@@ -172,17 +158,11 @@ module _ (bytes : List ℕ) where
       where
         by_test : (t : Bool) → meets p q ≡ t → IsRowDone ((c ∷ cs) ++ d ∷ ds) (if t then record { start = p.start; end = q.end } ∷ qs else p ∷ q ∷ qs)
         by_test true m = record { all = met q qs h.all m; head = one.start }
-        by_test false m = elim (at-border c cs d ds b) [
-          | inl e ↦ absurd (both_ways (meets p q) m (meet-places p q (one.end ∙ e ∙ sym h.head)))
-          | inr k ↦ record { all = apart q qs d h.all h.head k; head = one.start }
-        ]
+        by_test false m = grind (arith, at-border, both_ways, meet-places, apart)
 
   -- a piece with a code does not end where it begins
   not-still : (p : Piece) → is_before p.start p.end ≡ true → meets p p ≡ false
-  not-still p h = still-numbers p.start.0 p.start.1 p.end.0 p.end.1 h
-    where
-      still-numbers : (a b c d : ℕ) → is_before (a, b) (c, d) ≡ true → (c == a && d == b) ≡ false
-      still-numbers a b c d k = grind (arith, nat_tests)
+  not-still p h = grind (arith, nat_tests)
 
   row-done : (ps : List Piece) (cs : List Code) → ArePiecesOver ps cs → AreNext bytes cs → IsRowDone cs (joined_pieces ps)
   row-done [] cs h n = subst (λ xs. IsRowDone xs []) (sym h) (record { all = refl; head = refl })

@@ -1,5 +1,5 @@
 -- Rows of places, each at the one before it or behind it.
-use Rattle.std.proofs.Common.{◌≡◌, ℕ, false, List, [], ◌∷◌, ◌++◌, refl, subst, append-nil}
+use Rattle.std.proofs.Common.{◌≡◌, ℕ, false, List, [], ◌∷◌, ◌++◌, refl, subst, append-nil, arith}
 use Rattle.markdown_content.proofs.PlaceOrder.{is_before, before-self, not_before-trans}
 
 abbrev pub BytePlace : Type 0
@@ -77,9 +77,7 @@ last-again x (y ∷ xs) ys low high h = (h.0, last-again y xs ys x high h.1)
 
 -- a row between two places, in front of its first and behind its last
 pub allows-around : (x : BytePlace) (xs : List BytePlace) → Allows (x ∷ xs) (x ∷ (x ∷ xs ++ (last_of x xs ∷ [])))
-allows-around x xs =
-    allows-then (x ∷ xs) (x ∷ x ∷ xs) (x ∷ (x ∷ xs ++ (last_of x xs ∷ []))) (again x xs)
-    (subst (λ r. Allows (x ∷ r) (x ∷ (x ∷ xs ++ (last_of x xs ∷ [])))) (append-nil (x ∷ xs)) (last-again x (x ∷ xs) []))
+allows-around x xs = grind (arith, allows-then, again x xs, append-nil (x ∷ xs), last-again)
 
 -- a row between the last place before it and the first behind it
 pub allows-between : (x : BytePlace) (xs middle : List BytePlace) (y : BytePlace) (ys : List BytePlace) →

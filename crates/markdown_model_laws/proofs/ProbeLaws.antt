@@ -1,5 +1,5 @@
 -- The bounds on probes, by the codes of a content.
-use Rattle.std.proofs.Common.{◌≡◌, ℕ, ◌+◌, ◌*◌, ◌≤◌, Bool, true, false, List, [], ◌∷◌, ◌++◌, length, sum_by, if◌then◌else◌, refl, ap, ◌∙◌, arith, None}
+use Rattle.std.proofs.Common.{◌≡◌, ℕ, ◌+◌, ◌*◌, ◌≤◌, Bool, true, false, List, [], ◌∷◌, ◌++◌, length, sum_by, if◌then◌else◌, refl, ◌∙◌, arith, None, rules}
 use Rattle.std.specs.List.{count_by}
 use Rattle.std.proofs.lemmas.List.{length-append}
 use Rattle.std.proofs.lemmas.List.Sums.{sum_by-append, sum_by-cons}
@@ -9,9 +9,9 @@ use Rattle.markdown_content.specs.Codes.{Code}
 use Rattle.markdown_content.specs.Tree.{Forest, empty, leaf_then, group_then, leaf_codes}
 use Rattle.markdown_model.specs.Setting.{Setting, within}
 use Rattle.markdown_model.specs.Elements.{elements_of, text_choice}
-use Rattle.markdown_model.specs.Runs.{Run, run_of, runs_of, rows_inside, rows_of, containers_of}
+use Rattle.markdown_model.specs.Runs.{Run, run_of, runs_of, rows_inside, rows_of}
 use Rattle.markdown_model.specs.Pairs.{pair_list}
-use Rattle.markdown_model.specs.InlineTree.{label_tree, run_count, pair_count, probe_bound, list_probe_bound}
+use Rattle.markdown_model.specs.InlineTree.{label_tree, pair_count, probe_bound, list_probe_bound}
 use Rattle.markdown_model.proofs.ElementsCover.{codes-elements, covers_text_element}
 use Rattle.markdown_model.proofs.OneElementList.{text_elements}
 use Rattle.markdown_model.proofs.LabelsCover.{codes-labels_of}
@@ -38,8 +38,7 @@ module _ (s : Setting) where
 
   no-runs : (rows : List (List Run)) → sum_by length rows ≡ 0 → all_markers rows ≡ 0
   no-runs [] h = refl
-  no-runs ([] ∷ rows) h =
-      omega (arith, sum_by-cons markers [] rows, no-runs rows (omega (arith, h, sum_by-cons length [] rows)))
+  no-runs ([] ∷ rows) h = grind (arith, sum_by-cons, no-runs rows (omega (arith, h, sum_by-cons length [] rows)))
   no-runs ((r ∷ runs) ∷ rows) h = absurd (omega (arith, h, sum_by-cons length (r ∷ runs) rows))
 
   -- Runs that may open or close have markers.
@@ -84,10 +83,7 @@ module _ (s : Setting) where
   )
 
   marked-append : (rows more : List (List Run)) → AllMarked rows → AllMarked more → AllMarked (rows ++ more)
-  marked-append rows more h k = (
-    omega (arith, h.0, k.0, sum_by-append (count_by (λ r. r.may_open)) rows more, sum_by-append markers rows more),
-    omega (arith, h.1, k.1, sum_by-append (count_by (λ r. r.may_close)) rows more, sum_by-append markers rows more),
-  )
+  marked-append rows more h k = grind (arith, sum_by-append, sum_by-append markers rows more)
 
   rows-marked : (f : Forest) → AllMarked (rows_inside s f)
   unfolding rows_inside
@@ -118,8 +114,7 @@ module _ (s : Setting) where
   for-each-pair p r h0 = grind (arith, mul-le-mul_left)
 
   tree-pairs : (f : Forest) → pair_count s f ≤ probe_bound s f
-  tree-pairs f =
-      for-each-pair (pair_count s f) (run_count s f) λ h. omega (arith, all-pairs (containers_of s f), no-runs (containers_of s f) h)
+  tree-pairs f = grind (arith, for-each-pair, all-pairs, no-runs)
 
   -- what the rows open and close is no more than their markers, and these are codes of the tree
   tree-sums : (f : Forest) → AllMarked (rows_of s f) × (all_markers (rows_of s f) ≤ length (leaf_codes f))
@@ -141,7 +136,4 @@ tree-probes s f =
     omega (arith, sums.0.0, sums.0.1, sums.1, all-pairs s (rows_of there f))
 
 pub probes_are_few : ProbesAreFew
-probes_are_few s cs = record {
-  for_each_pair = tree-pairs s (label_tree s cs);
-  linear = omega (arith, tree-probes s (label_tree s cs), ap length (label-codes s cs));
-}
+probes_are_few s cs = search (rules, tree-pairs, tree-probes, label-codes)

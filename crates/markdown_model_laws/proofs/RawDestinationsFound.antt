@@ -1,5 +1,5 @@
 -- Destinations without brackets: where their reading holds.
-use Rattle.std.proofs.Common.{◌≡◌, ◌==◌, ◌⊎◌, inl, inr, ℕ, zero, suc, ◌+◌, ◌-◌, ◌≤◌, ◌<◌, nat_lt, nat_le, ◌&&◌, ◌||◌, not, Bool, true, false, if◌then◌else◌, codes, Some, None, List, [], ◌∷◌, ◌++◌, refl, sym, ap, subst, ◌∙◌, arith}
+use Rattle.std.proofs.Common.{◌≡◌, ◌==◌, ◌⊎◌, inl, ℕ, zero, suc, ◌+◌, ◌-◌, ◌≤◌, ◌<◌, nat_lt, ◌&&◌, ◌||◌, not, Bool, true, false, if◌then◌else◌, codes, Some, None, List, [], ◌∷◌, ◌++◌, refl, sym, ap, subst, ◌∙◌, arith}
 use Rattle.std.proofs.lemmas.Bool.{eqb-true, and_right, or_from, or_parts, or_right, or_left}
 use Rattle.std.proofs.lemmas.Grind.{common_steps}
 use Rattle.std.proofs.lemmas.Bool.Decides.{nat_tests}
@@ -61,8 +61,7 @@ slashes : (c : Code) → is_value 92 c ≡ true → parens c ≡ true
 slashes c h = is-paren c 92 h refl
 
 paren-part : (c : Code) → parens c ≡ true → no_part c ≡ false
-paren-part c h =
-    by-parens (λ v. (((v == 32 || v == 9) || v == 10) || ((nat_le 1 v && nat_le v 31) || v == 127)) ≡ false) c h refl refl refl
+paren-part c h = grind (arith, by-parens)
 
 -- a code of these, where the first is escaped or not, is not escaped
 not-escaped : (slash : Bool) (c : Code) → slash && parens c ≡ false → parens c ≡ true → slash ≡ false
@@ -96,11 +95,7 @@ module _ (max : ℕ) where
       nested : (before after : List Code) → c ∷ text ≡ before ++ after →
           (bare_from 41 slash before ≤ depth + bare_from 40 slash before) × (depth + bare_from 40 slash before ≤ bare_from 41 slash before + max)
       nested [] after k = (omega arith, omega (arith, d))
-      nested (x ∷ xs) after k =
-          let same : c ≡ x = cc in
-          let tail : text ≡ xs ++ after = cc in
-          subst (λ y. (bare_from 41 slash (y ∷ xs) ≤ depth + bare_from 40 slash (y ∷ xs)) × (depth + bare_from 40 slash (y ∷ xs) ≤ bare_from 41 slash (y ∷ xs) + max)) same
-          (omega (arith, e, (r.nested xs after tail).0), omega (arith, e, (r.nested xs after tail).1))
+      nested (x ∷ xs) after k = grind arith
 
   -- one code less
   off : (slash : Bool) (c : Code) (depth more : ℕ) (text rest : List Code)
@@ -143,10 +138,7 @@ module _ (max : ℕ) where
 
   stopped : (slash : Bool) (depth : ℕ) (c : Code) (cs : List Code) → slash && parens c ≡ false → stops depth c ≡ true →
       EndsRawDestination slash (c ∷ cs)
-  stopped slash depth c cs e h = elim (or-parts (is_whitespace_code c) _ h) [
-    | inl k ↦ inr (inl k)
-    | inr k ↦ inr (inr (and-left _ _ k, not-escaped slash c e (is-paren c 41 (and-left _ _ k) refl)))
-  ]
+  stopped slash depth c cs e h = grind (arith, or-parts (is_whitespace_code c) _ h, and-left, not-escaped, is-paren)
 
   by-tests : (t u v w x y z : Bool) (slash : Bool) (depth : ℕ) (c : Code) (cs : List Code) (r : List Code × List Code) → depth ≤ max → raw_from max slash depth (c ∷ cs) ≡ Some r → ReadsRaw cs
       → slash && parens c ≡ t → stops depth c ≡ u → is_control c ≡ v → is_value 40 c ≡ w → nat_lt depth max ≡ x → is_value 41 c ≡ y → (depth == 0) ≡ z → RawFrom max slash depth r.0 r.1
@@ -157,19 +149,15 @@ module _ (max : ℕ) where
   by-tests false true v w x y true slash depth c cs r d e f t1 t2 t3 t4 t5 t6 t7 =
       let same : ([], c ∷ cs) ≡ r = (let s : Some ([], c ∷ cs) ≡ Some r = sym (plain-start slash depth c cs t1 ∙ raw-stop max depth c cs t2 t7) ∙ e in cc) in
       subst (λ (q : List Code × List Code). RawFrom max slash depth q.0 q.1) same (nothing slash depth (c ∷ cs) t7 d (stopped slash depth c cs t1 t2))
-  by-tests false true v w x y false slash depth c cs r d e f t1 t2 t3 t4 t5 t6 t7 =
-      let no : None ≡ Some r = sym (plain-start slash depth c cs t1 ∙ raw-space max depth c cs t2 t7) ∙ e in cc
-  by-tests false false true w x y z slash depth c cs r d e f t1 t2 t3 t4 t5 t6 t7 =
-      let no : None ≡ Some r = sym (plain-start slash depth c cs t1 ∙ raw-control max depth c cs t2 t3) ∙ e in cc
+  by-tests false true v w x y false slash depth c cs r d e f t1 t2 t3 t4 t5 t6 t7 = grind (arith, plain-start, raw-space)
+  by-tests false false true w x y z slash depth c cs r d e f t1 t2 t3 t4 t5 t6 t7 = grind (arith, plain-start, raw-control)
   by-tests false false false true true y z slash depth c cs r d e f t1 t2 t3 t4 t5 t6 t7 =
       let off : slash ≡ false = not-escaped slash c t1 (is-paren c 40 t4 refl) in
       let below : depth < max = grind (arith, nat_tests, common_steps) in
       first slash false depth (suc depth) c cs r (sym (plain-start slash depth c cs t1 ∙ raw-open max depth c cs t2 t3 t4 t5) ∙ e) d (omega (arith, below)) (or_from _ _ (or_parts _ _ t2).0 t3)
       (omega (arith, counts-one slash 40 c off t4, counts-other slash 41 c (other 40 41 c refl t4))) (next-turned parens slashes slash c t1 ∙ other 40 92 c refl t4) f
-  by-tests false false false true false y z slash depth c cs r d e f t1 t2 t3 t4 t5 t6 t7 =
-      let no : None ≡ Some r = sym (plain-start slash depth c cs t1 ∙ raw-deep max depth c cs t2 t3 t4 t5) ∙ e in cc
-  by-tests false false false false x true true slash depth c cs r d e f t1 t2 t3 t4 t5 t6 t7 =
-      let no : false ≡ true = sym (or_parts (is_whitespace_code c) (is_value 41 c && depth == 0) t2).1 ∙ (λ i. t6 i && t7 i) in cc
+  by-tests false false false true false y z slash depth c cs r d e f t1 t2 t3 t4 t5 t6 t7 = grind (arith, plain-start, raw-deep)
+  by-tests false false false false x true true slash depth c cs r d e f t1 t2 t3 t4 t5 t6 t7 = grind (arith, or_parts)
   by-tests false false false false x true false slash zero c cs r d e f t1 t2 t3 t4 t5 t6 t7 = cc
   by-tests false false false false x true false slash (suc n) c cs r d e f t1 t2 t3 t4 t5 t6 t7 =
       let off : slash ≡ false = not-escaped slash c t1 (is-paren c 41 t6 refl) in
@@ -249,10 +237,6 @@ module _ (max : ℕ) where
   white-plain c h = grind (arith, or_parts, paren-part)
 
   pub raw-found : (text rest : List Code) → FindsRaw text rest
-  raw-found [] [] slash depth r = raw-end max slash depth (is_zero depth (omega (arith, r.balanced)))
-    where
-      is_zero : (n : ℕ) → n ≡ 0 → (n == 0) ≡ true
-      is_zero n e = ap (λ m. m == 0) e
+  raw-found [] [] slash depth r = grind (arith, raw-end)
   raw-found [] (c ∷ cs) slash depth r = grind (arith, plain-start, and_right, white-plain, raw-stop, or_left, or_right)
-  raw-found (c ∷ text) rest slash depth r =
-      by-parts (slash && parens c) (is_value 40 c) (is_value 41 c) slash depth c text rest r (raw-found text rest) refl refl refl
+  raw-found (c ∷ text) rest slash depth r = grind (arith, by-parts, raw-found text rest)

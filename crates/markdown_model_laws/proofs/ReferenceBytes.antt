@@ -1,7 +1,7 @@
 -- What is lent for the value of a reference is its codes, as bytes.
-use Rattle.std.proofs.Common.{◌≡◌, ◌≢◌, ℕ, zero, suc, ◌+◌, ◌-◌, ◌<◌, ◌≤◌, ◌==◌, ◌&&◌, ◌||◌, nat_lt, nat_le, Bool, true, false, if◌then◌else◌, List, [], ◌∷◌, ◌++◌, length, take, drop, get_or, refl, sym, ap, subst, ◌∙◌, arith, All}
+use Rattle.std.proofs.Common.{◌≡◌, ◌≢◌, ℕ, zero, suc, ◌+◌, ◌<◌, ◌≤◌, ◌==◌, ◌&&◌, ◌||◌, nat_lt, nat_le, Bool, true, false, if◌then◌else◌, List, [], ◌∷◌, ◌++◌, length, get_or, refl, sym, ap, subst, ◌∙◌, arith, All, rules}
 use Rattle.std.specs.Prelude.{slice_range}
-use Rattle.std.specs.Char.{is_ascii_digit, is_ascii_hexdigit}
+use Rattle.std.specs.Char.{is_ascii_hexdigit}
 use Rattle.std.specs.List.{list_all}
 use Rattle.std.specs.Str.{IsUtf8}
 use Rattle.std.proofs.lemmas.Bool.{and_parts, eqb-true}
@@ -89,9 +89,7 @@ is-byte : (bytes : List ℕ) (p : Point) → HasPlaceNumbers bytes p → 48 ≤ 
 is-byte bytes p s h = grind (arith, no-tab, none-inside, itself, no-ending, not-tab)
 
 one-byte : (bytes : List ℕ) (i : ℕ) → i < length bytes → slice_range bytes i (i + 1) ≡ get_or bytes i 0 ∷ []
-one-byte bytes i h =
-    let one : (i + 1) - i ≡ 1 = omega arith in
-    ap (λ n. take n (drop i bytes)) one ∙ ap (take 1) (drop_more bytes i 0 h)
+one-byte bytes i h = grind (arith, drop_more bytes i 0 h)
 
 -- what stands between the place before some codes and the place after them
 pub record IsSpelled (bytes : List ℕ) (p : Point) (cs : List Code) : Type 0 where
@@ -101,8 +99,7 @@ pub record IsSpelled (bytes : List ℕ) (p : Point) (cs : List Code) : Type 0 wh
 
 spelled-from : (bytes : List ℕ) (p : Point) (cs back : List Code) → HasPlaceNumbers bytes p → p.vs ≡ 0 →
     codes_at bytes p ≡ cs ++ back → AreLetters cs → IsSpelled bytes p cs
-spelled-from bytes p [] back s v e l =
-    record { spelled = slice-none bytes p.index; ends = v; forward = omega arith }
+spelled-from bytes p [] back s v e l = search (rules, slice-none)
 spelled-from bytes p (c ∷ cs) back s v e l =
     let one : IsFirstCode bytes p c (cs ++ back) = first-of bytes p c (cs ++ back) s e in
     let value : c.value ≡ value_at bytes p = ap (λ (x : Code). x.value) one.code in
@@ -162,9 +159,7 @@ some-long [] h = absurd (h refl)
 some-long (c ∷ cs) h = omega arith
 
 pub decimal-value : (cs : List Code) → cs ≢ [] → length cs ≤ 7 → list_all is_digit cs ≡ true → is_value 35 (values_of cs) ≡ true
-decimal-value cs some few all =
-    value-from (length (values_of cs)) 7 (list_all is_ascii_digit (values_of cs)) (omega (arith, some-long cs some, length-values cs)) (omega (arith, few, length-values cs))
-    (sym (all-values is_digit is_ascii_digit (λ c. refl) cs) ∙ all)
+decimal-value cs some few all = grind (arith, value-from, some-long cs some, length-values cs, all-values)
 
 hex-same : (c : Code) → is_hex_digit c ≡ is_ascii_hexdigit c.value
 hex-same c = grind (arith, nat_tests)

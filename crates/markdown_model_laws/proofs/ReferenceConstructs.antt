@@ -1,5 +1,5 @@
 -- What constructs read has references as they are read.
-use Rattle.std.proofs.Common.{◌≡◌, ◌≢◌, ℕ, Bool, true, false, ◌&&◌, List, [], ◌++◌, length, Option, Some, None, refl, arith}
+use Rattle.std.proofs.Common.{◌≡◌, ◌≢◌, ℕ, Bool, true, false, ◌&&◌, List, [], ◌++◌, length, Option, Some, None, refl, arith, rules}
 use Rattle.std.specs.List.{list_all}
 use Rattle.std.specs.Str.{byte}
 use Rattle.std.specs.Prelude.{codes, nat_le}
@@ -9,7 +9,7 @@ use Rattle.markdown_event.specs.declared.event.Name.TheVariants as N
 use Rattle.markdown_event.specs.declared.event.Content.{Content}
 use Rattle.markdown_content.specs.Codes.{Code}
 use Rattle.markdown_content.specs.declared.configuration.Rules.{Rules}
-use Rattle.markdown_content.specs.Tree.{Forest, leaf, linked, group, ◌⊕◌}
+use Rattle.markdown_content.specs.Tree.{Forest, leaf, group, ◌⊕◌}
 use Rattle.markdown_util.specs.Reference.{Table}
 use Rattle.markdown_model.specs.CodeTests.{is_among, is_digit, is_hex_digit, is_alphanumeric, next_is}
 use Rattle.markdown_model.specs.Grammar.{Reading, ◌>>◌, provided, some}
@@ -17,7 +17,7 @@ use Rattle.markdown_model.specs.GfmAutolinkLiteral.{gfm_autolink_literal_protoco
 use Rattle.markdown_model.specs.HtmlText.{html_text}
 use Rattle.markdown_model.specs.LeafConstructs.{Parts, named_parts, decimal_parts, hexadecimal_parts, character_reference, SpanNames, code_names, math_names, span_of, span_here, in_angle_brackets, autolink, gfm_task_list_item_check}
 use Rattle.markdown_model.specs.LabelEnd.{after_label}
-use Rattle.markdown_model.specs.Resource.{string_group, label}
+use Rattle.markdown_model.specs.Resource.{string_group}
 use Rattle.markdown_model.specs.Setting.{Setting}
 use Rattle.markdown_model.specs.TextLines.{line_leaves, lines}
 use Rattle.markdown_model.proofs.DefinitionSteps.{span-all}
@@ -180,22 +180,4 @@ pub refers_after_label : (s : Setting) (defined : Bool) → Refers (after_label 
 refers_after_label s defined = of_after_label HasReferences after_labels s defined
   where
     after_labels : PassesAfterLabels HasReferences
-    after_labels = record {
-      none = tt;
-      rows = row;
-      space = λ cs. free-linked_leaf N.SpaceOrTab None cs refl;
-      ending = λ cs. free-linked_leaf N.LineEnding None cs refl;
-      label = λ front f e h. front-group N.Reference N.ReferenceMarker front f refl refl h;
-      label_text = λ cs. text-references N.ReferenceString cs refl;
-      label_end = λ cs. free-leaf N.ReferenceMarker cs refl;
-      titled = λ front f e h. front-group N.ResourceTitle N.ResourceTitleMarker front f refl refl h;
-      title_text = λ cs. text-references N.ResourceTitleString cs refl;
-      title_end = λ cs. free-leaf N.ResourceTitleMarker cs refl;
-      literal = λ front f e h. front-group N.ResourceDestinationLiteral N.ResourceDestinationLiteralMarker front f refl refl h;
-      literal_text = λ cs. free-string N.ResourceDestinationString (linked N.Data cs) refl (free-linked N.Data cs refl);
-      literal_end = λ cs. free-leaf N.ResourceDestinationLiteralMarker cs refl;
-      raw = λ cs e. free-group N.ResourceDestinationRaw (group N.ResourceDestinationString (linked N.Data cs)) refl (free-group N.ResourceDestinationString (linked N.Data cs) refl (free-linked N.Data cs refl));
-      target = λ f e h. free-group N.ResourceDestination f refl h;
-      whole = λ front f e h. front-group N.Resource N.ResourceMarker front f refl refl h;
-      whole_end = λ cs. free-leaf N.ResourceMarker cs refl;
-    }
+    after_labels = search (rules, row, free-linked_leaf, front-group, text-references, free-leaf, free-string, free-linked, free-group)

@@ -64,29 +64,25 @@ module _ (bytes : List ℕ) where
   group-goes : (inside rest : Forest) → KeepsGood inside → KeepsGood rest → HasReferences inside → HasReferences rest →
       HasLeaves bytes inside → HasLeaves bytes rest → (ss : List Span) → Good ss →
       Good ((leaves_of inside ++ leaves_of rest) ++ ss)
-  group-goes inside rest in_goes rest_goes h k l m ss g =
-      subst Good (sym (append_assoc (leaves_of inside) (leaves_of rest) ss)) (in_goes h l (leaves_of rest ++ ss) (rest_goes k m ss g))
+  group-goes inside rest in_goes rest_goes h k l m ss g = grind (arith, append_assoc)
 
   named-goes : (a b : Point) (front value back : List Code) (rest : Forest) (ss : List Span) → AreLetters value →
       HasLeaves bytes (group_then N.CharacterReference a b (named_row front value back) rest) → Good (leaves_of rest ++ ss) →
       Good (leaves_of (group_then N.CharacterReference a b (named_row front value back) rest) ++ ss)
   unfolding lent
-  named-goes a b front value back rest ss h l g =
-      λ before. ((λ e. cc), ((λ e. named-fits value l.0.1.0 h), ((λ e. cc), g N.CharacterReferenceMarkerSemi)))
+  named-goes a b front value back rest ss h l g = grind (arith, named-fits value l.0.1.0 h)
 
   decimal-goes : (a b : Point) (t : Forest) (h : IsDecimalTree t) (rest : Forest) (ss : List Span) →
       HasLeaves bytes (group_then N.CharacterReference a b (decimal_row h.front h.number h.value h.back) rest) → Good (leaves_of rest ++ ss) →
       Good (leaves_of (group_then N.CharacterReference a b (decimal_row h.front h.number h.value h.back) rest) ++ ss)
   unfolding lent
-  decimal-goes a b t h rest ss l g =
-      λ before. ((λ e. cc), ((λ e. cc), ((λ e. decimal-fits t h l.0.1.1.0), ((λ e. cc), g N.CharacterReferenceMarkerSemi))))
+  decimal-goes a b t h rest ss l g = grind (arith, decimal-fits t h l.0.1.1.0)
 
   hexadecimal-goes : (a b : Point) (t : Forest) (h : IsHexadecimalTree t) (rest : Forest) (ss : List Span) →
       HasLeaves bytes (group_then N.CharacterReference a b (hexadecimal_row h.front h.number h.x h.value h.back) rest) → Good (leaves_of rest ++ ss) →
       Good (leaves_of (group_then N.CharacterReference a b (hexadecimal_row h.front h.number h.x h.value h.back) rest) ++ ss)
   unfolding lent
-  hexadecimal-goes a b t h rest ss l g =
-      λ before. ((λ e. cc), ((λ e. cc), ((λ e. cc), ((λ e. hexadecimal-fits t h l.0.1.1.1.0), ((λ e. cc), g N.CharacterReferenceMarkerSemi)))))
+  hexadecimal-goes a b t h rest ss l g = grind (arith, hexadecimal-fits t h l.0.1.1.1.0)
 
   abbrev reference_group : Point → Point → Forest → Forest → Forest
   reference_group a b rest inside = group_then N.CharacterReference a b inside rest

@@ -12,7 +12,7 @@ use Rattle.markdown_model.specs.Setting.{Setting, within}
 use Rattle.markdown_model.proofs.BracketGroupFacts.{word-append}
 use Rattle.markdown_model.proofs.GivenNames.{pair-named, email-named}
 use Rattle.markdown_model.proofs.PairGroupFacts.{Any, any-parts, HasWord, run-has, assembled-has}
-use Rattle.markdown_model.proofs.PassedTrees.{trimmed_data-has, with_emails-has}
+use Rattle.markdown_model.proofs.PassedTrees.{with_emails-has}
 use Rattle.markdown_model_laws.proofs.EachPass.{labels_in, trees-have}
 use Rattle.markdown_model_laws.proofs.ReferenceTrees.{is_free, named_row, decimal_row, hexadecimal_row, IsReference, HasReferences, ReferencesAreKnown}
 use Rattle.markdown_model_laws.proofs.ReferenceRows.{row, free-leaf, free-between}
@@ -42,8 +42,7 @@ module _ (s : Setting) (pairs_of : List Run → List Pair) where
 
   reference-assembled : (f : Forest) → IsReference f → IsReference (inner f)
   unfolding tokens_of
-  reference-assembled f h =
-      reference-kept inner (λ front value back. refl) (λ front number value back. refl) (λ front number x value back. refl) f h
+  reference-assembled f h = grind (arith, reference-kept)
 
   tokens-refer : (f : Forest) (pairs : List Pair) (n : ℕ) → HasReferences f → WordHasReferences (tokens_of s pairs_of f pairs n)
   unfolding tokens_of
@@ -51,8 +50,7 @@ module _ (s : Setting) (pairs_of : List Run → List Pair) where
   tokens-refer (leaf_then N.AttentionSequence link cs rest) pairs n h =
       word-append HasReferences Any Any (run_tokens pairs n (run_of s cs)) (tokens_of s pairs_of rest pairs (suc n)) (run-has HasReferences Any data-has any-parts pairs n (run_of s cs) tt) (tokens-refer rest pairs (suc n) h.1)
   tokens-refer (leaf_then name link cs rest) pairs n h = ((h.0, tt), tokens-refer rest pairs n h.1)
-  tokens-refer (group_then N.CharacterReference a b inside rest) pairs n h =
-      ((reference-assembled inside h.0, tt), tokens-refer rest pairs n h.1)
+  tokens-refer (group_then N.CharacterReference a b inside rest) pairs n h = grind (arith, reference-assembled, tokens-refer rest pairs n h.1)
   tokens-refer (group_then name a b inside rest) pairs n h =
       let own : List Pair = pairs_of (runs_of s inside) in
       ((h.0, (assembled-refers (tokens_of s pairs_of inside own 0) (tokens-refer inside own 0 h.1.0), tt)), tokens-refer rest pairs n h.1.1)
@@ -70,8 +68,7 @@ onto-refers cs t h = (refl, h)
 
 reference-merged : (t : Forest) → IsReference t → IsReference (merged t)
 unfolding merged
-reference-merged t h =
-    reference-kept merged (λ front value back. refl) (λ front number value back. refl) (λ front number x value back. refl) t h
+reference-merged t h = grind (arith, reference-kept)
 
 merged-refers : (t : Forest) → HasReferences t → HasReferences (merged t)
 unfolding merged
@@ -84,13 +81,11 @@ merged-refers (group_then name a b inside rest) h = (h.0, (merged-refers inside 
 -- Trimming.
 
 cut-refers : (front back : Bool) (hard : HardBreaks) (cs : List Code) → HasReferences (trimmed_data front back hard cs)
-cut-refers front back hard cs =
-    trimmed_data-has HasReferences row (λ ds. free-leaf N.Data ds refl) (λ ds. free-leaf N.HardBreakTrailing ds refl) (λ ds. free-leaf N.SpaceOrTab ds refl) front back hard cs
+cut-refers front back hard cs = grind (arith, row, free-leaf)
 
 reference-trimmed : (hard : HardBreaks) (t : Forest) → IsReference t → IsReference (trimmed hard false false t)
 unfolding trimmed
-reference-trimmed hard t h =
-    reference-kept (trimmed hard false false) (λ front value back. refl) (λ front number value back. refl) (λ front number x value back. refl) t h
+reference-trimmed hard t h = grind (arith, reference-kept)
 
 trimmed-refers : (hard : HardBreaks) (front whole : Bool) (t : Forest) → HasReferences t → HasReferences (trimmed hard front whole t)
 unfolding trimmed
@@ -99,8 +94,7 @@ trimmed-refers hard front whole (leaf_then N.Data None cs rest) h =
     row (trimmed_data front (begins_line_ending rest || (whole && is_nothing rest)) (breaks_where hard (begins_line_ending rest)) cs) (trimmed hard false whole rest) (cut-refers front (begins_line_ending rest || (whole && is_nothing rest)) (breaks_where hard (begins_line_ending rest)) cs) (trimmed-refers hard false whole rest h.1)
 trimmed-refers hard front whole (leaf_then N.LineEnding link cs rest) h = (refl, trimmed-refers hard true whole rest h.1)
 trimmed-refers hard front whole (leaf_then name link cs rest) h = (h.0, trimmed-refers hard false whole rest h.1)
-trimmed-refers hard front whole (group_then N.CharacterReference a b inside rest) h =
-    (reference-trimmed hard inside h.0, trimmed-refers hard false whole rest h.1)
+trimmed-refers hard front whole (group_then N.CharacterReference a b inside rest) h = grind (arith, reference-trimmed, trimmed-refers hard false whole rest h.1)
 trimmed-refers hard front whole (group_then name a b inside rest) h =
     (h.0, (trimmed-refers hard false false inside h.1.0, trimmed-refers hard false whole rest h.1.1))
 
@@ -112,14 +106,12 @@ emails-refer cs =
 
 reference-mailed : (t : Forest) → IsReference t → IsReference (with_emails_apart t)
 unfolding with_emails_apart
-reference-mailed t h =
-    reference-kept with_emails_apart (λ front value back. refl) (λ front number value back. refl) (λ front number x value back. refl) t h
+reference-mailed t h = grind (arith, reference-kept)
 
 mailed-refers : (t : Forest) → HasReferences t → HasReferences (with_emails_apart t)
 unfolding with_emails_apart
 mailed-refers empty h = tt
-mailed-refers (leaf_then N.Data None cs rest) h =
-    row (with_emails cs) (with_emails_apart rest) (emails-refer cs) (mailed-refers rest h.1)
+mailed-refers (leaf_then N.Data None cs rest) h = grind (arith, row, emails-refer, mailed-refers rest h.1)
 mailed-refers (leaf_then name link cs rest) h = (h.0, mailed-refers rest h.1)
 mailed-refers (group_then N.CharacterReference a b inside rest) h = (reference-mailed inside h.0, mailed-refers rest h.1)
 mailed-refers (group_then N.Link a b inside rest) h = (refl, (h.1.0, mailed-refers rest h.1.1))

@@ -40,9 +40,7 @@ pub free-group : (name : Name) (inside : Forest) → is_free name ≡ true → H
 free-group name inside h k = free-between name _ _ inside h k
 
 pub free-string : (name : Name) (t : Forest) → is_free name ≡ true → HasReferences t → HasReferences (string_group name t)
-free-string name empty h k = tt
-free-string name (leaf_then n l cs rest) h k = free-group name (leaf_then n l cs rest) h k
-free-string name (group_then n a b inside rest) h k = free-group name (group_then n a b inside rest) h k
+free-string name t h k = grind (arith, free-group)
 
 free-leaves : (t : Forest) → Leaves (λ name link cs. is_free name ≡ true) t → HasReferences t
 free-leaves empty h = tt
@@ -59,5 +57,4 @@ free-line_leaf name s h = grind (arith, free-linked_leaf)
 
 pub free-line_leaves : (name : Name) (ss : List (List Code)) → is_free name ≡ true → HasReferences (line_leaves name ss)
 free-line_leaves name [] h = tt
-free-line_leaves name (s ∷ ss) h =
-    row (line_leaf name None s) (line_leaves name ss) (free-line_leaf name s h) (free-line_leaves name ss h)
+free-line_leaves name (s ∷ ss) h = grind (arith, row, free-line_leaf, free-line_leaves name ss h)

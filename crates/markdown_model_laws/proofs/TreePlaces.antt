@@ -40,11 +40,8 @@ places_of (group_then name enter exit inside rest) =
 
 pub places-join : (a b : Forest) → places_of (a ⊕ b) ≡ places_of a ++ places_of b
 places-join empty b = refl
-places-join (leaf_then name link cs rest) b =
-    ap (λ x. ends_of cs ++ x) (places-join rest b) ∙ sym (append_assoc (ends_of cs) (places_of rest) (places_of b))
-places-join (group_then name enter exit inside rest) b =
-    ap (λ x. place_of enter ∷ (places_of inside ++ (place_of exit ∷ x))) (places-join rest b)
-    ∙ ap (λ x. place_of enter ∷ x) (sym (append_assoc (places_of inside) (place_of exit ∷ places_of rest) (places_of b)))
+places-join (leaf_then name link cs rest) b = grind (arith, places-join rest b, append_assoc)
+places-join (group_then name enter exit inside rest) b = grind (arith, places-join rest b, append_assoc)
 
 pub places-leaf : (name : Name) (cs : List Code) → places_of (leaf name cs) ≡ ends_of cs
 places-leaf name [] = refl
@@ -53,10 +50,8 @@ places-leaf name (c ∷ cs) = append-nil (ends_of (c ∷ cs))
 -- a tree ends at the last of its places
 pub places-last : (p : Point) (f : Forest) → last_of (place_of p) (places_of f) ≡ place_of (exit_after p f)
 places-last p empty = refl
-places-last p (leaf_then name link cs rest) =
-    last-join (place_of p) (ends_of cs) (places_of rest) ∙ ap (λ x. last_of x (places_of rest)) (ends-last p cs) ∙ places-last (stop_of p cs) rest
-places-last p (group_then name enter exit inside rest) =
-    last-join (place_of enter) (places_of inside) (place_of exit ∷ places_of rest) ∙ places-last exit rest
+places-last p (leaf_then name link cs rest) = grind (arith, last-join, ends-last, places-last (stop_of p cs) rest)
+places-last p (group_then name enter exit inside rest) = grind (arith, last-join, places-last exit rest)
 
 -- and begins at the first
 pub record BeginsAtItsEnter (f : Forest) : Type 0 where
@@ -64,12 +59,11 @@ pub record BeginsAtItsEnter (f : Forest) : Type 0 where
   pub places : places_of f ≡ place_of (enter_of f) ∷ more
 
 begins-made : (texts : Bool) (f : Forest) → made texts f ≡ true → is_nothing f ≡ false → BeginsAtItsEnter f
-begins-made texts empty h k = cc
-begins-made texts (leaf_then name link [] rest) h k = cc
 begins-made texts (leaf_then name link (c ∷ cs) rest) h k =
     record { more = place_of c.stop ∷ (ends_of cs ++ places_of rest); places = refl }
 begins-made texts (group_then name enter exit inside rest) h k =
     record { more = places_of inside ++ (place_of exit ∷ places_of rest); places = refl }
+begins-made texts f h k = cc
 
 -- Wherever the codes go on, all places do.
 
@@ -77,25 +71,16 @@ abbrev pub IsFit : Forest → Type 0
 IsFit f = Allows (ends_of (leaf_codes f)) (places_of f)
 
 pub fit-join : (a b : Forest) → IsFit a → IsFit b → IsFit (a ⊕ b)
-fit-join a b h k =
-    subst (λ x. Allows x (places_of (a ⊕ b))) (sym (ap ends_of (leaf_codes-row a b) ∙ ends-join (leaf_codes a) (leaf_codes b)))
-    (subst (Allows (ends_of (leaf_codes a) ++ ends_of (leaf_codes b))) (sym (places-join a b)) (allows-join (ends_of (leaf_codes a)) (places_of a) (ends_of (leaf_codes b)) (places_of b) h k))
+fit-join a b h k = grind (arith, leaf_codes-row a b, ends-join (leaf_codes a) (leaf_codes b), places-join a b, allows-join (ends_of (leaf_codes a)) (places_of a) (ends_of (leaf_codes b)) (places_of b) h k)
 
 pub fit-leaf : (name : Name) (cs : List Code) → IsFit (leaf name cs)
-fit-leaf name cs =
-    allows-same (ends_of (leaf_codes (leaf name cs))) (places_of (leaf name cs)) (ap ends_of (codes-leaf name cs) ∙ sym (places-leaf name cs))
+fit-leaf name cs = grind (arith, allows-same, codes-leaf, places-leaf)
 
 -- the places of a group that reaches from the first place inside to the last
 pub places-around : (f : Forest) (enter exit : Point) → BeginsAtItsEnter f → place_of enter ≡ place_of (enter_of f) →
     place_of exit ≡ place_of (exit_after (enter_of f) f)
     → Allows (places_of f) (place_of enter ∷ (places_of f ++ (place_of exit ∷ [])))
-places-around f enter exit b h k =
-    subst (λ x. Allows (places_of f) (x ∷ (places_of f ++ (place_of exit ∷ [])))) (sym h)
-    (subst (λ x. Allows (places_of f) (place_of (enter_of f) ∷ (places_of f ++ (x ∷ [])))) (last ∙ sym k)
-    (subst (λ x. Allows x (place_of (enter_of f) ∷ (x ++ (last_of (place_of (enter_of f)) b.more ∷ [])))) (sym b.places) (allows-around (place_of (enter_of f)) b.more)))
-  where
-    last : last_of (place_of (enter_of f)) b.more ≡ place_of (exit_after (enter_of f) f)
-    last = ap (last_of (place_of (enter_of f))) (sym b.places) ∙ places-last (enter_of f) f
+places-around f enter exit b h k = grind (arith, allows-around (place_of (enter_of f)) b.more, places-last (enter_of f) f)
 
 fit-group_then : (name : Name) (enter exit : Point) (f : Forest) → BeginsAtItsEnter f → place_of enter ≡ place_of (enter_of f) → place_of exit ≡ place_of (exit_after (enter_of f) f) → IsFit f
     → IsFit (group_then name enter exit f empty)
@@ -107,9 +92,7 @@ pub fit-group : (name : Name) (f : Forest) → BeginsAtItsEnter f → IsFit f �
 fit-group name f b g = fit-group_then name (enter_of f) (exit_after (enter_of f) f) f b refl refl g
 
 same-place : (p q : Point) → is_at p q ≡ true → place_of p ≡ place_of q
-same-place p q h =
-    let both = and_parts (p.index == q.index) (p.vs == q.vs) h in
-    λ i. (eqb-true p.index q.index both.0 i, eqb-true p.vs q.vs both.1 i)
+same-place p q h = grind (arith, and_parts (p.index == q.index) (p.vs == q.vs) h, eqb-true)
 
 -- what constructs make is so
 pub fit-made : (f : Forest) → IsMadeTree f → IsFit f
@@ -172,9 +155,7 @@ fit-start LabelKind.Image (c ∷ cs) h =
 fit-start LabelKind.GfmFootnote (c ∷ cs) h =
     fit-group Name.GfmFootnoteCallLabel (leaf_then Name.LabelMarker None (c ∷ []) (leaf Name.GfmFootnoteCallMarker cs)) (begins-leaf Name.LabelMarker c [] (leaf Name.GfmFootnoteCallMarker cs))
     (fit-join (leaf Name.LabelMarker (c ∷ [])) (leaf Name.GfmFootnoteCallMarker cs) (fit-leaf Name.LabelMarker (c ∷ [])) (fit-leaf Name.GfmFootnoteCallMarker cs))
-fit-start LabelKind.Link (c ∷ cs) h =
-    fit-group Name.LabelLink (leaf Name.LabelMarker (c ∷ cs)) (begins-leaf Name.LabelMarker c cs empty) (fit-leaf Name.LabelMarker (c ∷ cs))
-fit-start LabelKind.GfmUndefinedFootnote (c ∷ cs) h =
+fit-start kind (c ∷ cs) h =
     fit-group Name.LabelLink (leaf Name.LabelMarker (c ∷ cs)) (begins-leaf Name.LabelMarker c cs empty) (fit-leaf Name.LabelMarker (c ∷ cs))
 
 front-some : (kind : LabelKind) (cs : List Code) → IsSome cs → IsSome (start_marker kind cs)

@@ -3,7 +3,7 @@ use Rattle.std.proofs.Common.{◌≡◌, Bool, true, false, ◌&&◌, ◌||◌, 
 use Rattle.std.proofs.lemmas.Bool.{both_ways}
 use Rattle.markdown_event.specs.declared.event.Name.{Name}
 use Rattle.markdown_content.specs.Codes.{Code}
-use Rattle.markdown_content.specs.Tree.{Forest, empty, leaf_then, group_then, ◌⊕◌}
+use Rattle.markdown_content.specs.Tree.{Forest, leaf_then, ◌⊕◌}
 use Rattle.markdown_model.specs.CodeTests.{is_empty}
 use Rattle.markdown_model.specs.GfmEmailLiteral.{email_leaves, with_emails}
 use Rattle.markdown_model.specs.Elements.{string_elements_of}
@@ -41,9 +41,7 @@ filled-merged f h =
 -- Trimming.
 
 nothing-before : (a f : Forest) → is_nothing (a ⊕ f) ≡ true → is_nothing a ≡ true
-nothing-before empty f h = refl
-nothing-before (leaf_then name link cs rest) f h = h
-nothing-before (group_then name enter exit inside rest) f h = h
+nothing-before a f h = grind arith
 
 nothing-trimmed : (hard : HardBreaks) (front whole : Bool) (f : Forest) → IsFilled f → is_nothing (trimmed hard front whole f) ≡ true →
     is_nothing f ≡ true

@@ -1,5 +1,5 @@
 -- Whitespace between the parts of a resource: where its reading holds.
-use Rattle.std.proofs.Common.{◌≡◌, ◌==◌, ◌⊎◌, inl, inr, ◌+◌, ◌<◌, ◌||◌, not, Bool, true, false, Option, Some, None, List, [], ◌∷◌, ◌++◌, length, refl, sym, ap, ◌∙◌, length-append, arith}
+use Rattle.std.proofs.Common.{◌≡◌, ◌==◌, ◌⊎◌, inl, inr, ◌+◌, ◌<◌, ◌||◌, not, Bool, true, false, Option, Some, None, List, [], ◌∷◌, ◌++◌, length, refl, sym, ap, ◌∙◌, length-append, arith, rules}
 use Rattle.std.proofs.lemmas.Bool.{eqb-true, or_parts}
 use Rattle.std.specs.List.{list_all}
 use Rattle.markdown_content.specs.Codes.{Code, is_line_ending, is_blank}
@@ -26,8 +26,7 @@ spans p cs value after e =
     record { whole = sym (span-append p cs) ∙ ap (λ (s : List Code × List Code). s.0 ++ s.1) e; all = sym (ap (λ (s : List Code × List Code). list_all p s.0) e) ∙ span-all p cs }
 
 some-pair : (s r : List Code × List Code) → ◌≡◌ {A = Option (List Code × List Code)} (Some s) (Some r) → s ≡ r
-some-pair s r e =
-    ap (λ (o : Option (List Code × List Code)). elim o as (λ _. List Code × List Code) [ None ↦ s | Some x ↦ x ]) e
+some-pair s r e = cc
 
 any-back : (p : Code → Bool) (cs value after : List Code) → any_number p cs ≡ Some (value, after) →
     Spans p cs value after
@@ -54,9 +53,7 @@ some-back p cs value after e = by_test (is_empty (span p cs).0) refl e
 span-exact : (p : Code → Bool) (xs ys : List Code) → list_all p xs ≡ true → next_is p ys ≡ false →
     ◌≡◌ {A = List Code × List Code} (span p (xs ++ ys)) (xs, ys)
 span-exact p [] ys h k = span-none p ys k
-span-exact p (x ∷ xs) ys h k =
-    span-takes p x (xs ++ ys) (and-left (p x) _ h)
-    ∙ ap (λ (s : List Code × List Code). (x ∷ s.0, s.1)) (span-exact p xs ys (and-right (p x) _ h) k)
+span-exact p (x ∷ xs) ys h k = grind (arith, span-takes, and-left, span-exact p xs ys (and-right (p x) _ h) k, and-right)
 
 any-some : (p : Code → Bool) (xs ys : List Code) → list_all p xs ≡ true → next_is p ys ≡ false →
     any_number p (xs ++ ys) ≡ Some (xs, ys)
@@ -169,8 +166,7 @@ pub record Read (cs : List Code) (tree : Forest) (rest : List Code) : Type 0 whe
 ending-read : (front : List Code) (e : Code) (back rest : List Code) → list_all is_blank front ≡ true → is_line_ending e ≡ true → list_all is_blank back ≡ true → BeginsUnspaced rest
     → Read (front ++ (e ∷ (back ++ rest))) (linked_leaf Name.SpaceOrTab None front ⊕ linked_leaf Name.LineEnding None (e ∷ []) ⊕ linked_leaf Name.SpaceOrTab None back) rest
 unfolding space_or_tab_eol
-ending-read front e back rest h l k p =
-    record { is = inl (either-some _ _ (front ++ (e ∷ (back ++ rest))) _ (across-found front e back rest h l k p)) }
+ending-read front e back rest h l k p = search (rules, either-some, across-found)
 
 line-read : (front rest : List Code) → list_all is_blank front ≡ true → BeginsUnspaced rest →
     Read (front ++ rest) (linked_leaf Name.SpaceOrTab None front ⊕ empty) rest
