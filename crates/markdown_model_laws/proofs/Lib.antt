@@ -51,3 +51,7 @@ pub mod LeafPieceLaws
 pub mod ChainTrees
 pub mod ChainPasses
 pub mod ChainEvents
+pub mod CodesAtEnds
+pub mod BlanksSetApart
+pub mod EmailSchemesTaken
+pub mod LinesCutLaws

@@ -15,3 +15,6 @@ pub mod DecodableValues
 pub mod LentTexts
 pub mod LeafPieces
 pub mod UnbrokenChains
+pub mod BlanksApart
+pub mod EmailSchemes
+pub mod LinesCut

@@ -20,6 +20,9 @@ ghost use Rattle.markdown_model_laws.specs.DecodableValues.{ValuesAreDecodable};
 ghost use Rattle.markdown_model_laws.specs.LentTexts.{LeavesAreTexts};
 ghost use Rattle.markdown_model_laws.specs.LeafPieces.{LeavesAreContents};
 ghost use Rattle.markdown_model_laws.specs.UnbrokenChains.{ChainsAreUnbroken};
+ghost use Rattle.markdown_model_laws.specs.BlanksApart.{BlanksAreSetApart};
+ghost use Rattle.markdown_model_laws.specs.EmailSchemes.{SchemesAreTaken};
+ghost use Rattle.markdown_model_laws.specs.LinesCut.{LinesAreCut};
 
 /// A one-line text with a backslash before each ASCII punctuation character, read as a string with escapes on, is given
 /// back by what is lent for its data and for what its escapes stand for.
@@ -140,4 +143,22 @@ pub fn leaves_are_contents()
 /// with the event behind that. So a chain is events that stand one after another, whose leaves are a content.
 pub fn chains_are_unbroken()
     ensures { ChainsAreUnbroken }
+{}
+
+/// At the end of a line all blank codes that are last in data are set apart, and at the start of a line all that are first in what is left
+/// (CommonMark 6.8). Those at an end are a hard break if the last two are spaces and, unless these two alone decide, the others are spaces too (6.7).
+pub fn blanks_are_set_apart()
+    ensures { BlanksAreSetApart }
+{}
+
+/// `mailto:` or `xmpp:` belongs to the email literal behind it if this word, in either case, is all the letters and digits that stand right before
+/// the `:` (GFM 6.9).
+pub fn schemes_are_taken()
+    ensures { SchemesAreTaken }
+{}
+
+/// A text of several lines has a leaf for each line ending, for each line, and for the blank codes at the start of each line but the first. In a
+/// line a stretch of codes that all pass a test, or all fail it, goes on as long as it can.
+pub fn lines_are_cut()
+    ensures { LinesAreCut }
 {}
