@@ -23,3 +23,4 @@ pub mod ReadyTexts
 pub mod ElementsRead
 pub mod TextEnds
 pub mod PlainEnds
+pub mod StepsPassCodes

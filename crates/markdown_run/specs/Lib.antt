@@ -4,5 +4,6 @@ pub mod Layer
 pub mod RunConstruct
 pub mod RunWithPasses
 pub mod ElementsOfText
+pub mod PassedCodes
 -- What serves proofs: what functions and proofs promise each other.
 pub mod Families

@@ -4,6 +4,7 @@
 
 mod by_states;
 mod elements;
+pub mod laws;
 pub mod resolve;
 pub mod run;
 pub mod state;
