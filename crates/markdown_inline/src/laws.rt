@@ -7,10 +7,12 @@ pub use markdown_model::laws::{
     one_element_list, one_end, one_pair_list, one_tree, pairs_are_local, pairs_are_sound,
 };
 pub use markdown_model_laws::{
-    chains_are_unbroken, data_is_tight, destinations_are_found, each_marker_is_held,
-    each_pair_is_a_group, emails_stand_in_data, escapes, events_never_go_back, labels_are_found,
-    leaves_are_contents, leaves_are_texts, links_hold_no_email, pairs_are_even,
-    pairs_take_their_markers, probes_are_few, resources_are_found, runs_in_order_may_pair,
-    titles_are_found, trees_are_filled, values_are_decodable, what_follows_is_found,
+    blanks_are_set_apart, chains_are_unbroken, data_is_tight, destinations_are_found,
+    each_marker_is_held, each_pair_is_a_group, emails_stand_in_data, escapes, events_never_go_back,
+    labels_are_found, leaves_are_contents, leaves_are_texts, lines_are_cut, links_hold_no_email,
+    pairs_are_even, pairs_take_their_markers, probes_are_few, resources_are_found,
+    runs_in_order_may_pair, schemes_are_taken, titles_are_found, trees_are_filled,
+    values_are_decodable, what_follows_is_found,
 };
+pub use markdown_run::laws::steps_pass_codes;
 pub use markdown_util::laws::{identifier, tables, unchanged};

@@ -207,6 +207,7 @@ fn is_begun(alloc: Global) -> bool {
 
 // Calls each law.
 fn cite_laws() {
+    laws::blanks_are_set_apart();
     laws::chains_are_unbroken();
     laws::counts_suffice();
     laws::data_is_tight();
@@ -226,6 +227,7 @@ fn cite_laws() {
     laws::leaves_are_stretches();
     laws::leaves_are_texts();
     laws::leaves_cover();
+    laws::lines_are_cut();
     laws::links_are_not_mailed();
     laws::links_do_not_nest();
     laws::links_hold_no_email();
@@ -242,6 +244,8 @@ fn cite_laws() {
     laws::probes_are_few();
     laws::resources_are_found();
     laws::runs_in_order_may_pair();
+    laws::schemes_are_taken();
+    laws::steps_pass_codes();
     laws::tables();
     laws::titles_are_found();
     laws::trees_are_filled();
