@@ -14,7 +14,7 @@ use Rattle.markdown_model.specs.Grammar.{span}
 use Rattle.markdown_model.specs.TextLines.{joins, stretches, linked_leaf, lines_of, lines_from, lines}
 use Rattle.markdown_model.proofs.LeafCodes.{span-append}
 use Rattle.markdown_model.proofs.DefinitionSteps.{span-all, span-stops, stretches-next, is_in_line, lines_of-ending, lines_of-line}
-use Rattle.markdown_model_laws.specs.LinesCut.{IsStretch, StretchesAreCut, LinesAreCut}
+use Rattle.markdown_model_laws.specs.LinesCut.{IsUnmixed, StretchesAreCut, LinesAreCut}
 use Rattle.markdown_model_laws.proofs.CodesAtEnds.{span-of}
 
 in-line : (cs : List Code) → list_any is_line_ending cs ≡ false → list_all is_in_line cs ≡ true
@@ -94,7 +94,7 @@ alike-more p c d cs h e = grind (arith, list_any-append, list_all-append)
 ending-alone : (p : Code → Bool) (c d : Code) → is_line_ending c ≡ true → joins p c d ≡ false
 ending-alone p c d e = grind arith
 
-stretch-more : (p : Code → Bool) (c d : Code) (cs : List Code) → IsStretch p (c ∷ cs) → joins p c d ≡ true → IsStretch p (c ∷ (cs ++ (d ∷ [])))
+stretch-more : (p : Code → Bool) (c d : Code) (cs : List Code) → IsUnmixed p (c ∷ cs) → joins p c d ≡ true → IsUnmixed p (c ∷ (cs ++ (d ∷ [])))
 stretch-more p c d cs (inl h) e =
     let same : c ≡ h.0 = cc (h.1) in
     absurd (both_ways _ (ending-alone p c d (ap is_line_ending same ∙ h.2)) e)
@@ -104,7 +104,7 @@ stretches-cut : StretchesAreCut
 stretches-cut p c cs rest h most =
     stretches-next p c (cs ++ rest) ∙ ap (λ (s : List Code × List Code). (c ∷ s.0) ∷ stretches p s.1) (span-of (joins p c) cs rest (all-join cs h) (stops rest most))
   where
-    all-join : (cs : List Code) → IsStretch p (c ∷ cs) → list_all (joins p c) cs ≡ true
+    all-join : (cs : List Code) → IsUnmixed p (c ∷ cs) → list_all (joins p c) cs ≡ true
     all-join [] h = refl
     all-join (d ∷ cs) (inl e) = absurd (longer e.1)
       where
@@ -112,7 +112,7 @@ stretches-cut p c cs rest h most =
         longer k = cc
     all-join (d ∷ cs) (inr h) = λ i. alike-join p c d cs h i && all-join cs (inr (alike-fewer p c d cs h)) i
 
-    stops : (rest : List Code) → ((d : Code) (ds : List Code) → rest ≡ d ∷ ds → IsStretch p (c ∷ (cs ++ (d ∷ []))) → ⊥) → next_is (joins p c) rest ≡ false
+    stops : (rest : List Code) → ((d : Code) (ds : List Code) → rest ≡ d ∷ ds → IsUnmixed p (c ∷ (cs ++ (d ∷ []))) → ⊥) → next_is (joins p c) rest ≡ false
     stops [] m = refl
     stops (d ∷ ds) m = by_test (joins p c d) refl
       where

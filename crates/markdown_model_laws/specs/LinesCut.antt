@@ -9,14 +9,14 @@ use Rattle.markdown_model.specs.CodeTests.{next_is}
 use Rattle.markdown_model.specs.TextLines.{linked_leaf, stretches, lines}
 
 -- one line ending; or codes in one line, of which all pass or all fail
-abbrev pub IsStretch : (Code → Bool) → List Code → Type 0
-IsStretch p cs = ((c : Code) × (cs ≡ c ∷ []) × (is_line_ending c ≡ true)) ⊎ ((list_any is_line_ending cs ≡ false) × ((list_all p cs ≡ true) ⊎ (list_any p cs ≡ false)))
+abbrev pub IsUnmixed : (Code → Bool) → List Code → Type 0
+IsUnmixed p cs = ((c : Code) × (cs ≡ c ∷ []) × (is_line_ending c ≡ true)) ⊎ ((list_any is_line_ending cs ≡ false) × ((list_all p cs ≡ true) ⊎ (list_any p cs ≡ false)))
 
 -- Stretches go on as long as they can.
 abbrev pub StretchesAreCut : Type 0
 StretchesAreCut =
-    (p : Code → Bool) (c : Code) (cs rest : List Code) → IsStretch p (c ∷ cs)
-    → ((d : Code) (ds : List Code) → rest ≡ d ∷ ds → IsStretch p (c ∷ (cs ++ (d ∷ []))) → ⊥)
+    (p : Code → Bool) (c : Code) (cs rest : List Code) → IsUnmixed p (c ∷ cs)
+    → ((d : Code) (ds : List Code) → rest ≡ d ∷ ds → IsUnmixed p (c ∷ (cs ++ (d ∷ []))) → ⊥)
     → stretches p (c ∷ (cs ++ rest)) ≡ (c ∷ cs) ∷ stretches p rest
 
 -- Lines have a leaf each, and so have the line endings between them and the blank codes at the start of each line but the first.

@@ -13,7 +13,7 @@ use Rattle.markdown_leaf.specs.Autolink.{email_label_at, finished}
 use Rattle.markdown_plan.specs.ScratchFields.{with_size}
 use Rattle.markdown_event.specs.declared.event.Name.TheVariants as N
 use Rattle.markdown_run.specs.Layer.{ready_of, step_of}
-use Rattle.markdown_run.specs.PassedCodes.{PassesCodes, StepsPassCodes}
+use Rattle.markdown_run.specs.StepMoves.{PassesCodes, StepsPassCodes}
 
 -- a choice of three
 by-tests : (T : Tokenizer) (a b : Bool) (x y z : Stepped) → PassesCodes T x → PassesCodes T y → PassesCodes T z → PassesCodes T (if a then x else (if b then y else z))

@@ -4,6 +4,6 @@ pub mod Layer
 pub mod RunConstruct
 pub mod RunWithPasses
 pub mod ElementsOfText
-pub mod PassedCodes
+pub mod StepMoves
 -- What serves proofs: what functions and proofs promise each other.
 pub mod Families
