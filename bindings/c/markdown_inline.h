@@ -380,8 +380,8 @@ typedef struct markdown_inline_content {
     uint32_t first_of_item, reserved;
 } markdown_inline_content;
 
-/* How far a call for many comes. `done` is how many contents or strings are written, from the first on. `count` is how many elements those have that are
- * read. `blamed` is the number of what is refused, or MARKDOWN_INLINE_NONE. */
+/* How far a call for many comes. `done` is how many contents, strings or pieces are written, from the first on. `count` is how many elements those have
+ * that are read. `blamed` is the number of what is refused, or MARKDOWN_INLINE_NONE. */
 typedef struct markdown_inline_outcome {
     size_t done, count, blamed;
 } markdown_inline_outcome;
@@ -400,6 +400,18 @@ MARKDOWN_INLINE_API uint32_t markdown_inline_is_content(const uint8_t *bytes, si
 
 /* Whether the pieces are a text of the document, which is a content without a blank line: DONE, or the statuses above, or BLANK_LINE. */
 MARKDOWN_INLINE_API uint32_t markdown_inline_is_text(const uint8_t *bytes, size_t bytes_len, const markdown_inline_piece *pieces, size_t pieces_len);
+
+/* Makes the pieces of a paragraph of where its lines begin. The start of a line is the byte at which the paragraph's part of it begins: behind the markers of
+ * quotes and items; blanks may stand there. Of "> a *b\n> c*" the starts {1, 8}, or {2, 9}, make the pieces {2, 0, 7, 0} and {9, 0, 11, 0}.
+ * There is a piece for each start, of the same number. It begins at the first byte from its start on that is no space or tab, and ends just after its line's
+ * ending; the last one ends before the spaces, tabs and line ending at its end. The columns of tabs are 0. The call reads these lines alone: it does not test
+ * the document. If that is UTF-8, the pieces are a text of it.
+ * DONE: the pieces stand at the front of the array, and `done` and `count` of the outcome are how many they are. TOO_SMALL: `count` is how many they are.
+ * NO_CONTENT: `blamed` is the number of the first start that stands inside a character, behind the end of the document, or not on the line after that of
+ * the start before. BLANK_LINE: it is that of the first one whose line has only spaces and tabs behind it. So of two that are refused the first is blamed.
+ * The outcome is written with each status. */
+MARKDOWN_INLINE_API uint32_t markdown_inline_pieces_of_lines(const uint8_t *bytes, size_t bytes_len, const size_t *starts, size_t starts_len,
+    markdown_inline_piece *pieces, size_t pieces_len, markdown_inline_outcome *outcome);
 
 /* Finds the events of the input's pieces as a string: of escapes, character references and data. Each call tests the whole document and passes all
  * that stands before the pieces, so a call for each string of a document takes quadratic time: hand over a string as a document of its own. Labels and

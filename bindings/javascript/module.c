@@ -143,6 +143,7 @@ static void empty(u32 from) {
 EXPORTED("version") u32 version(void) { return markdown_inline_version(); }
 CALL(is_content, AT(0), a[1], AT(2), a[3])
 CALL(is_text, AT(0), a[1], AT(2), a[3])
+CALL(pieces_of_lines, AT(0), a[1], AT(2), a[3], AT(4), a[5], AT(6))
 CALL(string, AT(0), AT(1), a[2], AT(3))
 CALL(text, AT(0), AT(1), a[2], AT(3))
 CALL(leaves, AT(0), AT(1), a[2], AT(3))

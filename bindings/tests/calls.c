@@ -575,6 +575,56 @@ static void test_strings(void) {
     want("no strings", markdown_inline_strings(MARKDOWN_INLINE_COMMONMARK, 0, NULL, 0, NULL, 0, NULL, 0, NULL, 0, NULL, 0, &outcome) == MARKDOWN_INLINE_DONE && is_outcome(&outcome, 0, 0, MARKDOWN_INLINE_NONE));
 }
 
+/* Whether starts of lines make these pieces, by the room for them; or are refused with a status that blames the start of this number. */
+static void want_lines(const char *text, const size_t *starts, size_t len, uint32_t wanted, size_t blamed, const markdown_inline_piece *pieces) {
+    for (size_t room = 0; room < 5; room++) {
+        markdown_inline_piece found[5], before[5];
+        markdown_inline_outcome outcome;
+        memset(found, 1, sizeof found);
+        memset(before, 1, sizeof before);
+        uint32_t status = markdown_inline_pieces_of_lines((const uint8_t *)text, strlen(text), starts, len, found, room, &outcome);
+        size_t written = wanted == MARKDOWN_INLINE_DONE && room >= len ? len : 0;
+        want("a status of lines", status == (wanted != MARKDOWN_INLINE_DONE || room >= len ? wanted : (uint32_t)MARKDOWN_INLINE_TOO_SMALL));
+        want("the outcome of lines", outcome.done == written && outcome.count == (wanted == MARKDOWN_INLINE_DONE ? len : 0) && outcome.blamed == blamed);
+        want("the pieces of lines", written == 0 || !memcmp(found, pieces, written * sizeof *found));
+        want("no more pieces", !memcmp(found + written, before, (5 - written) * sizeof *found));
+        if (written == len) want("they are a text", markdown_inline_is_text((const uint8_t *)text, strlen(text), found, len) == MARKDOWN_INLINE_DONE);
+    }
+}
+
+/* Pieces begin behind blanks and end behind line endings, and the last one ends before whitespace. */
+static void test_lines(void) {
+    static const struct {
+        const char *text;
+        size_t starts[4], len, blamed;
+        uint32_t status;
+        markdown_inline_piece pieces[4];
+    } rows[] = {
+        {"> a *b\n> c*", {1, 8}, 2, SIZE_MAX, MARKDOWN_INLINE_DONE, {{2, 0, 7, 0}, {9, 0, 11, 0}}},
+        {"> a *b\n> c*", {2, 9}, 2, SIZE_MAX, MARKDOWN_INLINE_DONE, {{2, 0, 7, 0}, {9, 0, 11, 0}}},
+        {"> a *b\n> c*", {0, 7}, 2, SIZE_MAX, MARKDOWN_INLINE_DONE, {{0, 0, 7, 0}, {7, 0, 11, 0}}},
+        {"a", {0}, 1, SIZE_MAX, MARKDOWN_INLINE_DONE, {{0, 0, 1, 0}}},
+        {"a", {0}, 0, SIZE_MAX, MARKDOWN_INLINE_DONE, {{0, 0, 0, 0}}},
+        {"- \ta\t \r\n \t b  \r  c \t\n\nd", {1, 8, 13}, 3, SIZE_MAX, MARKDOWN_INLINE_DONE, {{3, 0, 8, 0}, {11, 0, 15, 0}, {17, 0, 18, 0}}},
+        {"a\r\n", {0}, 1, SIZE_MAX, MARKDOWN_INLINE_DONE, {{0, 0, 1, 0}}},
+        {"\xc3\xa9\n\xc3\xa9", {0, 3}, 2, SIZE_MAX, MARKDOWN_INLINE_DONE, {{0, 0, 3, 0}, {3, 0, 5, 0}}},
+        {"a\nb", {0, 0}, 2, 1, MARKDOWN_INLINE_NO_CONTENT, {{0, 0, 0, 0}}},           /* two on one line */
+        {"a\nb", {2, 0}, 2, 1, MARKDOWN_INLINE_NO_CONTENT, {{0, 0, 0, 0}}},           /* not in order */
+        {"a\nb\nc", {0, 4}, 2, 1, MARKDOWN_INLINE_NO_CONTENT, {{0, 0, 0, 0}}},        /* a line between */
+        {"a\nb", {0, 4}, 2, 1, MARKDOWN_INLINE_NO_CONTENT, {{0, 0, 0, 0}}},           /* behind the end */
+        {"a", {SIZE_MAX}, 1, 0, MARKDOWN_INLINE_NO_CONTENT, {{0, 0, 0, 0}}},
+        {"\xc3\xa9", {1}, 1, 0, MARKDOWN_INLINE_NO_CONTENT, {{0, 0, 0, 0}}},          /* inside a character */
+        {"a\n \t\nb", {0, 2}, 2, 1, MARKDOWN_INLINE_BLANK_LINE, {{0, 0, 0, 0}}},
+        {"a\n", {0, 2}, 2, 1, MARKDOWN_INLINE_BLANK_LINE, {{0, 0, 0, 0}}},
+        {"a\r\nb", {0, 2}, 2, 1, MARKDOWN_INLINE_NO_CONTENT, {{0, 0, 0, 0}}},         /* inside a line ending */
+        {"", {0}, 1, 0, MARKDOWN_INLINE_BLANK_LINE, {{0, 0, 0, 0}}},
+        {"a\n\nb", {0, 2, 0, 9}, 4, 1, MARKDOWN_INLINE_BLANK_LINE, {{0, 0, 0, 0}}},   /* the first is blamed */
+    };
+    markdown_inline_outcome outcome;
+    for (size_t at = 0; at < sizeof rows / sizeof *rows; at++) want_lines(rows[at].text, rows[at].starts, rows[at].len, rows[at].status, rows[at].blamed, rows[at].pieces);
+    want("no lines", markdown_inline_pieces_of_lines(NULL, 0, NULL, 0, NULL, 0, &outcome) == MARKDOWN_INLINE_DONE && is_outcome(&outcome, 0, 0, MARKDOWN_INLINE_NONE));
+}
+
 /* A document of three paragraphs, with its definition behind its labels: `d` leads to `/e` with the title `f`; and a footnote `g`. */
 static const char many[] = "[a][d] b[^g]\n\n*c* [D][]\n\nh[^g] ![d]";
 static const markdown_inline_piece many_pieces[] = {{0, 0, 12, 0}, {14, 0, 23, 0}, {25, 0, 35, 0}, {0, 0, 14, 0}};
@@ -857,6 +907,10 @@ static int call_once(const char *call) {
         static const markdown_inline_range parts[] = {{0, 3}, {4, 9}}, strings[] = {{0, 2}, {1, 2}};
         return (int)markdown_inline_strings(MARKDOWN_INLINE_COMMONMARK, 0, (const uint8_t *)"a\\* &amp;", 9, parts, 2, strings, 2, bytes, 512, ends, 2, &outcome);
     }
+    if (!strcmp(call, "pieces_of_lines")) {
+        static const size_t starts[] = {1, 27};
+        return (int)markdown_inline_pieces_of_lines(input.bytes, input.bytes_len, starts, 2, pieces, 2, &outcome);
+    }
     if (!strcmp(call, "htmls")) return (int)markdown_inline_htmls(&input, &target, 1, contents, 2, 0, 100, bytes, 512, ends, 2, &outcome);
     if (!strcmp(call, "identifier")) return (int)markdown_inline_identifier((const uint8_t *)" A  B ", 6, bytes, 512, &count);
     if (!strcmp(call, "reference")) return (int)markdown_inline_reference(MARKDOWN_INLINE_COMMONMARK, (const uint8_t *)"&amp;", 5, bytes, 512, &count);
@@ -886,6 +940,7 @@ int main(int argc, char **argv) {
     test_blame();
     test_reserved();
     test_strings();
+    test_lines();
     test_empty();
     test_threads();
     test_shares();

@@ -450,8 +450,8 @@ static uint32_t html_status(const drawn *it) {
 
 /* The calls. Each is made without room, with just enough, and with another room. */
 
-typedef enum which { IS_CONTENT, IS_TEXT, STRING, TEXT, LEAVES, HTML, HTML_OF, IDENTIFIER, REFERENCE, TEXTS, SHORT_TEXTS, HTMLS, STRINGS } which;
-static const char *const NAMES[] = {"is_content", "is_text", "string", "text", "leaves", "html", "html_of", "identifier", "reference", "texts", "short_texts", "htmls", "strings"};
+typedef enum which { IS_CONTENT, IS_TEXT, STRING, TEXT, LEAVES, HTML, HTML_OF, IDENTIFIER, REFERENCE, TEXTS, SHORT_TEXTS, HTMLS, STRINGS, PIECES_OF_LINES } which;
+static const char *const NAMES[] = {"is_content", "is_text", "string", "text", "leaves", "html", "html_of", "identifier", "reference", "texts", "short_texts", "htmls", "strings", "pieces_of_lines"};
 
 /* What a call finds. */
 typedef union answer {
@@ -942,6 +942,64 @@ static void try_whole(const drawn *it) {
     want("the HTML of bytes alone", called(HTML, &alone, sizeof found, 0) == MARKDOWN_INLINE_DONE && found_len == len && !memcmp(found.bytes, html.bytes, len));
 }
 
+/* Where the line ends that has this byte: before its ending, and behind it. */
+static size_t line_of(const drawn *it, size_t at, size_t *end) {
+    while (at < it->bytes_len && it->bytes[at] != '\n' && it->bytes[at] != '\r') at++;
+    *end = at + (at < it->bytes_len) + (at + 1 < it->bytes_len && it->bytes[at] == '\r' && it->bytes[at + 1] == '\n');
+    return at;
+}
+
+static int is_blank(uint8_t byte) { return byte == ' ' || byte == '\t'; }
+
+/* The status of starts of lines, and their pieces. */
+static uint32_t lines_status(const drawn *it, const size_t *drawn_starts, size_t len, markdown_inline_piece *made_pieces) {
+    size_t end = 0, stop = 0;
+    for (model_blames = 0; model_blames < len; model_blames++) {
+        size_t at = drawn_starts[model_blames], ink = at;
+        if (at > it->bytes_len || (at < it->bytes_len && (it->bytes[at] & 0xc0) == 0x80)) return MARKDOWN_INLINE_NO_CONTENT;
+        if (model_blames > 0 && (at < end || at > line_of(it, end, &stop))) return MARKDOWN_INLINE_NO_CONTENT;
+        stop = line_of(it, at, &end);
+        while (ink < stop && is_blank(it->bytes[ink])) ink++;
+        if (ink == stop) return MARKDOWN_INLINE_BLANK_LINE;
+        while (model_blames + 1 == len && is_blank(it->bytes[stop - 1])) stop--;
+        made_pieces[model_blames] = (markdown_inline_piece){ink, 0, model_blames + 1 == len ? stop : end, 0};
+    }
+    model_blames = MARKDOWN_INLINE_NONE;
+    return MARKDOWN_INLINE_DONE;
+}
+
+/* Starts of lines, some of them off, with any room. */
+static void try_lines(const drawn *all) {
+    drawn it = *all;
+    size_t drawn_starts[PIECES], len = it.pieces_len;
+    if (it.bytes_len > BYTES) return;
+    draw_document(&it);
+    len = it.pieces_len > 1 || one_in(2) ? it.pieces_len : 0;
+    for (size_t at = 0; at < len; at++) {
+        drawn_starts[at] = it.pieces[at].start;
+        while (drawn_starts[at] > 0 && is_blank(it.bytes[drawn_starts[at] - 1]) && one_in(2)) drawn_starts[at]--;
+        if (one_in(12)) drawn_starts[at] = number_to(it.bytes_len);
+    }
+    call_name = NAMES[PIECES_OF_LINES];
+    uint32_t wanted = lines_status(&it, drawn_starts, len, it.pieces), status;
+    size_t room = one_in(2) ? len : below(PIECES + 1), is_done = wanted == MARKDOWN_INLINE_DONE && room >= len, before = (size_t)draw();
+    const uint8_t *bytes = (const uint8_t *)lend(&of_bytes, it.bytes, it.bytes_len, 1);
+    const size_t *starts = (const size_t *)lend(&of_definitions, drawn_starts, len, sizeof *starts);
+    markdown_inline_piece *array = (markdown_inline_piece *)lend_room(&of_found, room, sizeof *array);
+    outcome = (markdown_inline_outcome *)lend_room(&of_outcome, 1, sizeof *outcome);
+    outcome->done = outcome->count = outcome->blamed = before;
+    status = markdown_inline_pieces_of_lines(bytes, it.bytes_len, starts, len, array, room, outcome);
+    calls++;
+    functions[PIECES_OF_LINES]++;
+    counts[status < 16 ? status : 15]++;
+    want("the status of the model", status == (wanted == MARKDOWN_INLINE_DONE && !is_done ? (uint32_t)MARKDOWN_INLINE_TOO_SMALL : wanted));
+    want("the outcome of the model", outcome->done == (is_done ? len : 0) && outcome->count == (wanted == MARKDOWN_INLINE_DONE ? len : 0) && outcome->blamed == model_blames);
+    want("nothing is written but pieces", is_filled_but(&of_found, array, is_done ? len * sizeof *array : 0) && is_filled_but(&of_outcome, outcome, sizeof *outcome));
+    want("the pieces of the model", !is_done || len == 0 || !memcmp(array, it.pieces, len * sizeof *array));
+    it.pieces_len = len;
+    if (is_done && is_utf8(it.bytes, it.bytes_len)) want("the pieces are a text", pieces_status(&it) == MARKDOWN_INLINE_DONE);
+}
+
 static void try_case(void) {
     static answer text;
     static drawn it;
@@ -971,6 +1029,7 @@ static void try_case(void) {
     if (are_done(HTMLS, &it, status, model_reads)) look_at_htmls(&it);
     try_bytes(&it);
     try_strings(&it);
+    try_lines(&it);
 }
 
 /* Tells of a touch of a page that may not be touched. */
@@ -1004,7 +1063,7 @@ int main(int argc, char **argv) {
         int is_drawn = markdown_inline_status_text(status) && status != MARKDOWN_INLINE_NO_MEMORY;
         want("each status comes often, and no other", is_drawn ? counts[status] >= FLOOR : counts[status] == 0);
     }
-    for (size_t call = 0; most >= ENOUGH && faults == 0 && call <= STRINGS; call++) want("each function is called often", functions[call] >= ENOUGH / 100);
+    for (size_t call = 0; most >= ENOUGH && faults == 0 && call <= PIECES_OF_LINES; call++) want("each function is called often", functions[call] >= ENOUGH / 100);
     want("references meet definitions and footnotes", most < ENOUGH || faults > 0 || (met_definitions >= FLOOR && met_footnotes >= FLOOR / 2));
     if (faults == 0) printf("bindings: %zu drawn calls of C, %zu done, %zu without room, %zu refused\n", calls, counts[0], counts[6], calls - counts[0] - counts[6]);
     return faults != 0;

@@ -79,6 +79,16 @@ export function contentsOf(given) {
   return { pieces, rows, many: rows.length / 3 };
 }
 
+/** Where the lines of paragraphs begin, one behind another, and where the starts of each paragraph end. */
+export function linesOf(given) {
+  const starts = [], ends = [];
+  for (const paragraph of several(given, 'paragraphs')) {
+    for (const start of several(paragraph, 'a paragraph')) starts.push(natural(start, 'the start of a line'));
+    ends.push(starts.length);
+  }
+  return { starts, ends };
+}
+
 /** Strings, each as the numbers of its first part and the one behind its last, and the starts and ends of all parts. */
 export function stringsOf(given) {
   const parts = [], rows = [];

@@ -1,5 +1,5 @@
 // The calls of the library over one instance.
-import { bitsOf, contentsOf, isInBytes, labelsOf, limitOf, piecesOf, shownOf, stringsOf, targetsOf, textOf, usualLimit, writtenOf } from './arguments.js';
+import { bitsOf, contentsOf, isInBytes, labelsOf, limitOf, linesOf, piecesOf, shownOf, stringsOf, targetsOf, textOf, usualLimit, writtenOf } from './arguments.js';
 import { MarkdownInlineError, NO_MEMORY } from './errors.js';
 import { Instance } from './instance.js';
 import { linksOf } from './links.js';
@@ -103,6 +103,17 @@ export function callsOf(module, { maximum = 0xffff0000 } = {}) {
     });
   };
 
+  const piecesOfLines = (document, paragraphs, options) => {
+    const { starts, ends } = linesOf(paragraphs), read = textOf(document), inBytes = isInBytes(options);
+    return on.within(() => {
+      const text = on.put(read), startsAt = on.putNumbers(starts), unit = Number(text.isWide && !inBytes);
+      if (!inBytes) on.toBytes(text, startsAt, starts.length, 8);
+      const rows = on.copied(text, on.piecesOfLines(text, startsAt, ends), starts.length, 32, inBytes ? [] : [[0], [16]]);
+      const pieces = starts.map((_, at) => [rows[8 * at + unit], rows[8 * at + 4 + unit]]);
+      return ends.map((end, number) => pieces.slice(number === 0 ? 0 : ends[number - 1], end));
+    });
+  };
+
   const decodedBy = (name, bits, given, what) => {
     const read = textOf(given, what);
     return on.within(() => {
@@ -122,7 +133,7 @@ export function callsOf(module, { maximum = 0xffff0000 } = {}) {
 
   return {
     text, string: rowsOf('string', Events, EVENT, false), leaves: rowsOf('leaves', Leaves, LEAF, true), tree: (document, options) => treeOf(text(document, options)),
-    texts: rowsOfMany('texts', Events, EVENT), shortTexts, html, htmls, strings, isText: holds('is_text'), isContent: holds('is_content'),
+    texts: rowsOfMany('texts', Events, EVENT), shortTexts, html, htmls, strings, piecesOfLines, isText: holds('is_text'), isContent: holds('is_content'),
     identifier: (label) => decodedBy('identifier', [], label, 'a label'),
     reference: (reference, options) => decodedBy('reference', [bitsOf(options)], reference, 'a reference'),
     links: (document, options) => linksOf({ shortTexts, strings }, document, options),

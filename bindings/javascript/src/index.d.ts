@@ -216,6 +216,10 @@ export interface Calls {
   htmls(document: Text, contents: Iterable<Content>, options?: HtmlsOptions): string[];
   /** The texts of strings, of each by its parts, with escapes and character references resolved. */
   strings(document: Text, strings: Iterable<Iterable<readonly [start: number, end: number]>>, options?: StringsOptions): string[];
+  /** The pieces of paragraphs, made of where their lines begin: for each line of a paragraph the offset at which the paragraph's part of it begins, behind the
+   * markers of quotes and items; blanks may stand there. A piece begins behind the blanks, and ends just behind its line's ending; the last one of a paragraph ends
+   * before the whitespace at its end. A call reads the document once, for all paragraphs. The number of an error is that of the paragraph. */
+  piecesOfLines(document: Text, paragraphs: Iterable<Iterable<number>>, options?: Offsets): [start: number, end: number][][];
   /** What labels are compared by. */
   identifier(label: Text): string;
   /** The text that a character reference stands for. It is the whole reference, with its `&` and its `;`. */
@@ -240,6 +244,7 @@ export declare const shortTexts: Calls['shortTexts'];
 export declare const html: Calls['html'];
 export declare const htmls: Calls['htmls'];
 export declare const strings: Calls['strings'];
+export declare const piecesOfLines: Calls['piecesOfLines'];
 export declare const identifier: Calls['identifier'];
 export declare const reference: Calls['reference'];
 export declare const isText: Calls['isText'];

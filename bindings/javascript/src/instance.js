@@ -154,6 +154,18 @@ export class Instance {
     }
   }
 
+  /** Calls for the pieces of each paragraph, whose starts stand one behind another, and end there. It returns where the pieces stand. */
+  piecesOfLines(text, starts, ends) {
+    const outcome = this.#room(24), at = this.#room(32 * (ends.at(-1) ?? 0)), before = this.#top;
+    ends.forEach((end, number) => {
+      const first = number === 0 ? 0 : ends[number - 1];
+      const status = this.call('pieces_of_lines', [text.at, text.length, starts + 8 * first, end - first, at + 32 * first, end - first, outcome]);
+      if (status !== 0) throw new MarkdownInlineError(status, status === NO_MEMORY ? null : number);
+      this.#top = before;
+    });
+    return at;
+  }
+
   /** The bytes of offsets in UTF-16 of a text, in the place of these. There are so many, so many bytes apart. */
   toBytes(text, offsets, many, apart) {
     if (!text.isWide || many === 0) return;

@@ -23,7 +23,7 @@ __all__ = [
     'Address', 'BlankLine', 'COMMONMARK', 'CRATE', 'Content', 'DefinitionError', 'Error', 'Event', 'Events', 'GFM', 'Kind', 'Leaf', 'Leaves', 'Link',
     'MATH', 'Name', 'NoContent', 'NoMemory', 'NoReference', 'NoString', 'Node', 'NotUtf8', 'OPTIONS', 'Piece', 'References', 'ShortEvent',
     'ShortEvents', 'ShortTexts', 'Texts', 'TooLong', 'Tree', 'UnknownOption', 'html', 'htmls', 'identifier', 'is_content', 'is_text', 'leaves',
-    'links', 'reference', 'short_texts', 'string', 'strings', 'text', 'texts', 'tree',
+    'links', 'pieces_of_lines', 'reference', 'short_texts', 'string', 'strings', 'text', 'texts', 'tree',
 ]
 
 __version__ = '1.0.0'
@@ -56,8 +56,8 @@ class Content(NamedTuple):
 
 class Error(Exception):
     """Why a call returns nothing; `status` is that of the library. If a call for many says what is refused, `at` is its number: that of the content, of the
-    string, for a DefinitionError of the definition, with the footnotes counted on behind the definitions, or for a NotUtf8 of the first byte of the document
-    that is not UTF-8. Otherwise `at` is None."""
+    string, of the start of a line, for a DefinitionError of the definition, with the footnotes counted on behind the definitions, or for a NotUtf8 of the first
+    byte of the document that is not UTF-8. Otherwise `at` is None."""
     status = 0
     at: Optional[int] = None
 
@@ -346,6 +346,25 @@ def strings(
     if status:
         raise _raised(status, at)
     return [str(found[start:end], 'utf-8') for start, end in zip([0, *ends], ends)]
+
+
+def pieces_of_lines(document: Text, starts: Iterable[int]) -> List[Piece]:
+    """The pieces of a paragraph, made of where its lines begin: `starts` are the bytes at which the paragraph's part of each line begins, behind the markers of
+    quotes and items; blanks may stand there. A piece begins at the first byte from its start on that is no space or tab, and ends just behind its line's ending;
+    the last one ends before the whitespace at its end.
+
+    Each start but the first stands on the line behind that of the start before, or else NoContent is raised, as for one inside a character or behind the end of
+    the document. If a line has only spaces and tabs behind its start, BlankLine is raised. The field `at` of both has the number of the first start that is
+    refused. A call looks at these lines alone, but a document that is a `str` is made UTF-8 first: for many paragraphs hand over bytes.
+
+    >>> pieces_of_lines('> a *b\\n> c*', [1, 8])
+    [Piece(start=2, end=7, start_vs=0, end_vs=0), Piece(start=9, end=11, start_vs=0, end_vs=0)]
+    """
+    bytes_given = _arguments.text_of(document, 'document')
+    status, found, blamed = _library.pieces_of_lines(bytes_given, _arguments.starts_of(starts))
+    if status:
+        raise _raised(status, blamed)
+    return [Piece(*it) for it in zip(found[::4], found[2::4], found[1::4], found[3::4])]
 
 
 def identifier(label: Text) -> str:

@@ -178,6 +178,17 @@ def strings_of(given):
     return parts, strings, len(strings) // 2
 
 
+def starts_of(given):
+    """The starts of lines as they cross."""
+    listed = list(_several(given, 'starts', 'start'))
+    try:
+        return array('Q', map(operator.index, listed))
+    except TypeError:
+        raise TypeError('starts are numbers of bytes, and not all of these are: %r' % listed[:9]) from None
+    except OverflowError:
+        raise OverflowError('a start is below 0 or has more than 64 bits') from None
+
+
 def ranges_of(labels, start):
     """Where each label stands, of labels that follow one another from an index, and where the last one ends."""
     if not labels:

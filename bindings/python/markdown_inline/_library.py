@@ -76,7 +76,7 @@ def _load():
     text, numbers, lent = [ctypes.c_char_p, _size], [ctypes.c_void_p, _size], [ctypes.c_void_p, _size, ctypes.POINTER(_size)]
     given, outcome = [ctypes.POINTER(Input)], [ctypes.POINTER(Outcome)]
     for name, arguments in (
-        ('is_content', text + numbers), ('is_text', text + numbers), ('string', given + lent), ('text', given + lent), ('leaves', given + lent),
+        ('is_content', text + numbers), ('is_text', text + numbers), ('pieces_of_lines', text + 2 * numbers + outcome), ('string', given + lent), ('text', given + lent), ('leaves', given + lent),
         ('identifier', text + lent), ('reference', [ctypes.c_uint32] + text + lent), ('texts', given + 3 * numbers + outcome), ('short_texts', given + 3 * numbers + outcome),
         ('html', given + numbers + [ctypes.c_uint32, _size] + lent), ('htmls', given + 2 * numbers + [ctypes.c_uint32, _size] + 2 * numbers + outcome),
         ('strings', 2 * [ctypes.c_uint32] + text + 4 * numbers + outcome),
@@ -221,6 +221,14 @@ def htmls(given, targets, count, contents, many, options, limit):
 def tested(name, document, pieces):
     """Calls a test of pieces: its status."""
     return getattr(LIBRARY, name)(document, len(document), pieces.buffer_info()[0], len(pieces) // 4)
+
+
+def pieces_of_lines(document, starts):
+    """Calls for the pieces of lines: the status, the numbers of the pieces, and what is to blame."""
+    pieces, outcome = array('Q', bytes(32 * len(starts))), Outcome()
+    status = LIBRARY.markdown_inline_pieces_of_lines(
+        document, len(document), starts.buffer_info()[0], len(starts), pieces.buffer_info()[0], len(starts), ctypes.byref(outcome))
+    return status, pieces, None if outcome.blamed == NONE else outcome.blamed
 
 
 def strings(options, string_options, document, parts, listed, count):

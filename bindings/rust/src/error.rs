@@ -71,8 +71,8 @@ impl error::Error for Error {}
 pub struct Refusal {
     /// Why.
     pub error: Error,
-    /// The number of the content where the error is `NoContent`, `BlankLine` or `References`; that of the string where it is `NoString`; that of the definition
-    /// where it is `Definition`, with the footnotes counted on behind the definitions; and where it is `NotUtf8` the first byte of the document that is not UTF-8.
+    /// The number of the content where the error is `NoContent`, `BlankLine` or `References`, or that of the start of a line; that of the string where it is `NoString`;
+    /// that of the definition where it is `Definition`, with the footnotes counted on behind the definitions; and where it is `NotUtf8` the first byte of the document that is not UTF-8.
     pub at: Option<usize>,
 }
 

@@ -17,7 +17,9 @@
 //! ```
 //! use markdown_inline::{Input, Options, Piece};
 //! # fn main() -> Result<(), markdown_inline::Error> {
-//! let pieces = [Piece::from(2..7), Piece::from(9..15)];
+//! // Where the paragraph begins on each line, behind the `>`.
+//! let pieces = Piece::of_lines("> a *b\n> c* `d`", &[1, 8])?;
+//! assert_eq!(pieces, [Piece::from(2..7), Piece::from(9..15)]);
 //! let events = Input::new("> a *b\n> c* `d`")
 //!     .pieces(&pieces)
 //!     .options(Options::COMMONMARK | Options::GFM)
@@ -55,6 +57,7 @@ mod htmls;
 mod input;
 mod joined;
 mod leaf;
+mod lines;
 mod links;
 mod lists;
 mod name;

@@ -162,6 +162,15 @@ extern "C" {
         pieces: *const Piece,
         pieces_len: usize,
     ) -> u32;
+    pub(crate) fn markdown_inline_pieces_of_lines(
+        bytes: *const u8,
+        bytes_len: usize,
+        starts: *const usize,
+        starts_len: usize,
+        pieces: *mut Piece,
+        pieces_len: usize,
+        outcome: *mut RawOutcome,
+    ) -> u32;
     pub(crate) fn markdown_inline_string(
         input: *const RawInput,
         events: *mut RawEvent,

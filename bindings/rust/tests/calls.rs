@@ -13,6 +13,31 @@ fn the_version_is_right() {
 }
 
 #[test]
+fn pieces_are_made_of_lines() {
+    let document = "- \ta\t \r\n \t b  \n\u{e9} \n\nd";
+    let pieces = Piece::of_lines(document, &[1, 8, 15]).unwrap();
+    assert_eq!(pieces, [(3..8), (11..15), (15..17)].map(Piece::from));
+    assert!(Input::new(document).pieces(&pieces).is_text().is_ok());
+    assert_eq!(Piece::of_lines("", &[]), Ok(Vec::new()));
+    let rows = [
+        ("a", vec![0, 0], Error::NoContent, 1),
+        ("a\nb", vec![2, 0], Error::NoContent, 1),
+        ("a\nb\nc", vec![0, 4], Error::NoContent, 1),
+        ("a", vec![9], Error::NoContent, 0),
+        ("\u{e9}", vec![1], Error::NoContent, 0),
+        ("a\n \t", vec![0, 2], Error::BlankLine, 1),
+        ("a", vec![1], Error::BlankLine, 0),
+    ];
+    for (document, starts, error, at) in rows {
+        let at = Some(at);
+        assert_eq!(
+            Piece::of_lines(document, &starts),
+            Err(Refusal { error, at })
+        );
+    }
+}
+
+#[test]
 fn each_error_comes() {
     let past_end = [Piece {
         end: 9,

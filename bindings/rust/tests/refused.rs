@@ -2,7 +2,8 @@
 #![cfg(all(target_os = "linux", target_env = "gnu"))]
 
 use markdown_inline::{
-    identifier, reference, strings, Error, Events, HtmlOptions, Htmls, Input, TextContent, Texts,
+    identifier, reference, strings, Error, Events, HtmlOptions, Htmls, Input, Piece, TextContent,
+    Texts,
 };
 use std::cell::Cell;
 use std::ffi::c_void;
@@ -79,10 +80,11 @@ fn refused_memory_is_an_error() {
         refused(|| input.htmls(&contents, options).map(drop)).map_err(Error::from),
         refused(|| input.htmls_into(&contents, options, &mut htmls)).map_err(Error::from),
         refused(|| strings("a", &[0..1, 0..1], &[0..2, 0..1]).map(drop)).map_err(Error::from),
+        refused(|| Piece::of_lines("a", &[0]).map(drop)).map_err(Error::from),
         refused(|| identifier("A").map(drop)),
         refused(|| reference("&amp;").map(drop)),
     ];
-    assert_eq!(found, [Err(Error::NoMemory); 14]);
+    assert_eq!(found, [Err(Error::NoMemory); 15]);
     assert!(events.is_empty() && html.is_empty() && texts.is_empty() && htmls.is_empty());
     assert!(input.htmls_into(&contents, options, &mut htmls).is_ok() && htmls.len() == 1);
     assert!(input.texts(&contents).is_ok());

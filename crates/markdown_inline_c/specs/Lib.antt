@@ -4,6 +4,7 @@ pub mod FlatInput
 pub mod FlatEvents
 pub mod ShortEvents
 pub mod FlatLeaves
+pub mod FlatLines
 pub mod FlatHtml
 pub mod FlatTexts
 pub mod FlatStrings

@@ -14,6 +14,7 @@ ghost use Rattle.markdown_inline_c.specs.FlatEvents.{flat_event};
 ghost use Rattle.markdown_inline_c.specs.ShortEvents.{short_events};
 ghost use Rattle.markdown_inline_c.specs.FlatLeaves.{leaves_of};
 ghost use Rattle.markdown_inline_c.specs.FlatHtml.{html_of, IsHtmlInput};
+ghost use Rattle.markdown_inline_c.specs.FlatLines.{AreLinePieces};
 ghost use Rattle.markdown_inline_c.specs.References.{IsReference, reference_text};
 ghost use Rattle.markdown_inline_c.specs.Answers.{IsAnswer, IsTested};
 ghost use Rattle.markdown_inline_c.specs.Calls.{AreHtmls, AreStrings, AreTexts};
@@ -34,6 +35,7 @@ pub mod htmls;
 pub mod input;
 pub mod label;
 pub mod leaf;
+pub mod line_pieces;
 pub mod outcome;
 pub mod reference;
 pub mod refusal;
@@ -44,6 +46,7 @@ use answer::answer;
 use flat::{FlatContent, FlatEvent, FlatLeaf, FlatPiece, FlatTarget, Input, Range, ShortEvent};
 use form::{Large, Short};
 use htmls::htmls;
+use line_pieces::write_line_pieces;
 use outcome::Outcome;
 use std::alloc::Global;
 use texts::texts;
@@ -74,6 +77,29 @@ pub extern "C" fn markdown_inline_is_text(alloc: Global, bytes: &[u8], pieces: &
     ensures { IsTested (IsTextContent bytes.now (pieces_of pieces.now)) (IsPiecesFault bytes.now (pieces_of pieces.now)) result }
 {
     fault::status_of(check::is_text(alloc, bytes, pieces))
+}
+
+/// The pieces of a paragraph, made of where its lines begin: of the byte at which the paragraph's part of each line begins, behind the markers of quotes
+/// and items. Blanks may stand there. The time is in proportion to the lines, and not to the document, which is not tested.
+///
+/// There is a piece for each start, of the same number. It begins at the first byte from the start on that is no space or tab, and ends just behind its
+/// line's ending; the last one ends before the whitespace at its end. So no column of a tab comes before a piece.
+///
+/// With status 0 they stand at the front of `pieces`, and both `done` and `count` of the outcome are how many they are. With status 6 `count` is that too,
+/// `done` is 0, and they are more than there is room for. The status is 7 for the first start that stands inside a character or behind the end of the
+/// document, or not on the line behind that of the start before; and 4 for the first one whose line has only spaces and tabs behind it: with these two the
+/// outcome blames this start by its number. It is 5 too. Nothing else is written.
+#[unsafe(no_mangle)]
+pub extern "C" fn markdown_inline_pieces_of_lines(
+    alloc: Global,
+    bytes: &[u8],
+    starts: &[usize],
+    pieces: &mut [FlatPiece],
+    outcome: &mut Outcome,
+) -> u32
+    ensures { AreLinePieces bytes.now starts.now pieces.old pieces.new outcome.new result }
+{
+    write_line_pieces(alloc, bytes, starts, pieces, outcome)
 }
 
 /// The events of the inline tree of the input's pieces as a string: of escapes, character references and data. Each call tests the whole document

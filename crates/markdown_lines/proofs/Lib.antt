@@ -1,0 +1,3 @@
+mod FirstBytes
+mod PiecesInTurn
+mod StartsInOrder

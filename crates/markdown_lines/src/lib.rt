@@ -1,0 +1,4 @@
+//! Pieces of paragraphs, made of where their lines begin.
+#![tactic(auto)]
+
+pub mod lines;
