@@ -301,6 +301,7 @@ enum { MARKDOWN_INLINE_STRING_LINE_FEEDS = 0x1, MARKDOWN_INLINE_STRING_REPLACED_
  *
  * - The caller leaves out the blanks that begin a line, as CommonMark does: let each piece start at the first byte of its line that is no space or tab, or
  *   at its line's end. Blanks that are left in are set apart as SpaceOrTab in most places, but inside code, math and HTML they are part of the text.
+ *   markdown_inline_pieces_of_lines makes such pieces of where lines begin.
  * - Nothing can be left out within a line. So in a cell of GFM's tables, where `\|` stands for `|` in code too, read a copy of the cell without these
  *   backslashes. */
 typedef struct markdown_inline_piece {

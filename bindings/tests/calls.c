@@ -605,7 +605,7 @@ static void test_lines(void) {
         {"> a *b\n> c*", {0, 7}, 2, SIZE_MAX, MARKDOWN_INLINE_DONE, {{0, 0, 7, 0}, {7, 0, 11, 0}}},
         {"a", {0}, 1, SIZE_MAX, MARKDOWN_INLINE_DONE, {{0, 0, 1, 0}}},
         {"a", {0}, 0, SIZE_MAX, MARKDOWN_INLINE_DONE, {{0, 0, 0, 0}}},
-        {"- \ta\t \r\n \t b  \r  c \t\n\nd", {1, 8, 13}, 3, SIZE_MAX, MARKDOWN_INLINE_DONE, {{3, 0, 8, 0}, {11, 0, 15, 0}, {17, 0, 18, 0}}},
+        {"- \ta\t \r\n \t b  \r  c \t\n\nd", {1, 8, 15}, 3, SIZE_MAX, MARKDOWN_INLINE_DONE, {{3, 0, 8, 0}, {11, 0, 15, 0}, {17, 0, 18, 0}}},
         {"a\r\n", {0}, 1, SIZE_MAX, MARKDOWN_INLINE_DONE, {{0, 0, 1, 0}}},
         {"\xc3\xa9\n\xc3\xa9", {0, 3}, 2, SIZE_MAX, MARKDOWN_INLINE_DONE, {{0, 0, 3, 0}, {3, 0, 5, 0}}},
         {"a\nb", {0, 0}, 2, 1, MARKDOWN_INLINE_NO_CONTENT, {{0, 0, 0, 0}}},           /* two on one line */

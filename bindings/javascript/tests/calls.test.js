@@ -8,7 +8,7 @@ import { callsOf } from '../../out/javascript/calls.js';
 import * as inside from '../../out/javascript/one.js';
 import * as markdownInline from '../../out/javascript/index.js';
 
-const { COMMONMARK, GFM, MarkdownInlineError, create, html, htmls, identifier, isContent, isText, leaves, links, reference, shortTexts, string, strings, text, texts, tree } = markdownInline;
+const { COMMONMARK, GFM, MarkdownInlineError, create, html, htmls, identifier, isContent, isText, leaves, links, piecesOfLines, reference, shortTexts, string, strings, text, texts, tree } = markdownInline;
 const beside = (name) => fileURLToPath(new URL(name, import.meta.url));
 const has = (command) => spawnSync(command, ['--version']).status === 0;
 const bytesOf = (given) => new TextEncoder().encode(given);
@@ -79,7 +79,7 @@ test('what is no argument is named', () => {
     [/a piece/, () => text('a', { pieces: [null] })], [/contents is a list/, () => texts('a')], [/of a content/, () => texts('a', [{}])], [/firstOfItem/, () => texts('a', [{ pieces: [], firstOfItem: 1 }])],
     [/definitions/, () => text('a', { definitions: 'b' })], [/a label/, () => text('a', { definitions: [1] })], [/definitions/, () => html('a', { definitions: ['b'] })],
     [/a destination/, () => html('a', { definitions: { b: null } })], [/a title/, () => html('a', { definitions: { b: ['c', 1] } })], [/rawHtml/, () => html('a', { rawHtml: 'no' })],
-    [/referenceLimit/, () => html('a', { referenceLimit: 0 })], [/strings is a list/, () => strings('a', 'b')], [/a part/, () => strings('a', [[['0', 1]]])],
+    [/referenceLimit/, () => html('a', { referenceLimit: 0 })], [/strings is a list/, () => strings('a', 'b')], [/paragraphs is a list/, () => piecesOfLines('a', 1)], [/a paragraph is a list/, () => piecesOfLines('a', [0])], [/the start of a line/, () => piecesOfLines('a', [['0']])], [/a part/, () => strings('a', [[['0', 1]]])],
   ]) assert.throws(call, (it) => (it instanceof TypeError || it instanceof RangeError) && error.test(it.message), String(error));
 });
 
@@ -177,9 +177,20 @@ test('the package in one file', () => {
   for (const call of [
     (on) => [...on.text(given, { definitions })], (on) => [...on.string(given)], (on) => [...on.leaves(given, { definitions })], (on) => [...on.tree(given).walk()].map((it) => [it.name, it.text]),
     (on) => Array.from(on.texts(given, [[0, 5]]), (it) => [...it]), (on) => Array.from(on.shortTexts(given, [[0, 5], [6, 20]], { definitions }), (it) => [...it]),
-    (on) => on.html(given, { definitions }), (on) => on.htmls(given, [[0, 5], [6, 20]]), (on) => on.strings(given, [[[0, 5]]]), (on) => on.identifier(given), (on) => on.reference('&check;'),
+    (on) => on.html(given, { definitions }), (on) => on.htmls(given, [[0, 5], [6, 20]]), (on) => on.strings(given, [[[0, 5]]]), (on) => on.piecesOfLines(given, [[0]]), (on) => on.identifier(given), (on) => on.reference('&check;'),
     (on) => on.isText(given), (on) => on.isContent(given), (on) => on.links(given, { definitions }), (on) => on.create({ maximum: 1 << 20 }).html(given), (on) => [on.NAMES, on.OPTIONS, on.GFM],
   ]) assert.deepEqual(call(inside), call(markdownInline), String(call));
+});
+
+test('pieces are made of lines', () => {
+  assert.deepEqual(piecesOfLines('> a *b\n> c*\n\n- \té\r\n  😀 \n', [[1, 8], [], [14, 19]]), [[[2, 7], [9, 11]], [], [[16, 19], [21, 23]]]);
+  const given = 'é\n> 😀a  \n', pieces = [[0, 2], [4, 7]], bytes = [[0, 3], [5, 10]];
+  assert.deepEqual([piecesOfLines(given, [[0, 3]]), piecesOfLines(given, [[0, 4]], { offsets: 'bytes' }), piecesOfLines(bytesOf(given), [[0, 4]])], [[pieces], [bytes], [bytes]]);
+  assert.ok(isText(given, { pieces }) && isText(given, { pieces: bytes, offsets: 'bytes' }));
+  assert.deepEqual([piecesOfLines('', []), piecesOfLines('a', [[]])], [[], [[]]]);
+  for (const wrong of [[0, 0], [2, 0], [0, 5], [0, 9], [2 ** 40]]) refuses('NO_CONTENT', () => piecesOfLines('a\nb\nc', [[0], wrong]), 1);
+  refuses('NO_CONTENT', () => piecesOfLines('😀', [[1]]), 0);
+  refuses('BLANK_LINE', () => piecesOfLines('a\n \t\nb', [[0], [5], [0, 2]]), 2);
 });
 
 test('the rest of the calls', () => {

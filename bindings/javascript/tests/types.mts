@@ -1,5 +1,5 @@
 // What has to fit the types, and what must not.
-import { COMMONMARK, GFM, MarkdownInlineError, create, html, htmls, leaves, links, shortTexts, strings, text, tree, type Name, type Node } from '../../out/javascript/index.js';
+import { COMMONMARK, GFM, MarkdownInlineError, create, html, htmls, leaves, links, piecesOfLines, shortTexts, strings, text, tree, type Name, type Node } from '../../out/javascript/index.js';
 import plugin, { piecesOf } from '../../out/javascript/markdown-it.js';
 
 for (const event of text('a *b*', { gfm: true, codeText: false, definitions: ['a'] })) {
@@ -20,7 +20,8 @@ for (const { line, column, destination, title } of links('[a](b)', { contents: [
 const six: Node[] = tree('a').children, seven: string = [...tree('*a*', { gfm: true }).find('Emphasis')][0]?.enter.name ?? tree('a').text;
 plugin({}, { signs: { mention: /@/ }, places: true });
 const eight: number | undefined = piecesOf([{ type: 'inline', tag: '', markup: '', content: 'a', map: [0, 1] }], 'a')[0]?.[0]?.[0];
-console.log(six, seven, eight);
+const nine: string[] = htmls('> a', piecesOfLines('> a', [[1]]).map((pieces) => ({ pieces })));
+console.log(six, seven, eight, nine);
 
 // @ts-expect-error no such name
 tree('a').find('Nothing');

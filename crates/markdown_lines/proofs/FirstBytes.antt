@@ -1,7 +1,7 @@
 -- The first byte that passes, found byte by byte; line endings; and blanks before an index.
-use Rattle.std.proofs.Common.{◌≡◌, ℕ, zero, suc, ◌+◌, ◌-◌, ◌<◌, ◌≤◌, Bool, true, false, not, ◌==◌, ap, refl, sym, ◌∙◌, subst, List, [], ◌∷◌, length, take, drop, get_or, arith}
+use Rattle.std.proofs.Common.{◌≡◌, ℕ, ◌+◌, ◌-◌, ◌<◌, ◌≤◌, Bool, true, false, ◌==◌, ap, refl, ◌∙◌, List, ◌∷◌, length, take, drop, get_or, arith}
 use Rattle.std.proofs.lemmas.List.{drop_all, drop_more}
-use Rattle.std.proofs.lemmas.List.Sums.{suffix_len-take_no, suffix_len-take_yes, suffix_len-le-length}
+use Rattle.std.proofs.lemmas.List.Sums.{suffix_len-take_no, suffix_len-take_yes}
 use Rattle.std.specs.List.{position_or_len, suffix_len}
 use Rattle.markdown_content.specs.Codes.{carriage_return, line_feed}
 use Rattle.markdown_lines.specs.LinePieces.{ending_len, first_from}
@@ -16,7 +16,7 @@ position-yes p x xs h = rw h refl
 pub passed : (p : ℕ → Bool) (bytes : List ℕ) (i : ℕ) → i < length bytes → p (get_or bytes i 0) ≡ false → first_from p bytes i ≡ first_from p bytes (i + 1)
 passed p bytes i l h =
     let e : position_or_len p (drop i bytes) ≡ 1 + position_or_len p (drop (i + 1) bytes) =
-      ap (position_or_len p) (drop_more bytes i 0 l) ∙ position-no p (get_or bytes i 0) (drop (i + 1) bytes) h in
+    ap (position_or_len p) (drop_more bytes i 0 l) ∙ position-no p (get_or bytes i 0) (drop (i + 1) bytes) h in
     omega (arith, e)
 
 pub found : (p : ℕ → Bool) (bytes : List ℕ) (i : ℕ) → i < length bytes → p (get_or bytes i 0) ≡ true → first_from p bytes i ≡ i

@@ -1,3 +1,6 @@
 mod FirstBytes
+mod LineCodes
+mod LineNumbers
+mod LinesAreText
 mod PiecesInTurn
 mod StartsInOrder

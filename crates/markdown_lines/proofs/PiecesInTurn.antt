@@ -29,16 +29,16 @@ one-more bytes starts number b l e =
     let n : length (drop (number + 1) starts) ≡ length starts - (number + 1) = length-drop (number + 1) starts in
     ap (pieces_of_lines bytes) (drop_more starts number 0 l)
     ∙ one-by bytes (get_or starts number 0) (drop (number + 1) starts) b
-      (λ t. omega (arith, n, eqb-true (number + 1) (length starts) (e ∙ t)))
-      (λ t. omega (arith, n, l, eqb-false (number + 1) (length starts) (e ∙ t)))
+    (λ t. omega (arith, n, eqb-true (number + 1) (length starts) (e ∙ t)))
+    (λ t. omega (arith, n, l, eqb-false (number + 1) (length starts) (e ∙ t)))
 
 pub piece_more : (bytes starts : List ℕ) (number : ℕ) (pieces : List Piece) (piece : Piece) (b : Bool) → number < length starts → AreMade bytes starts number pieces → (number + 1 == length starts) ≡ b
     → piece ≡ (if b then last_piece bytes (get_or starts number 0) else line_piece bytes (get_or starts number 0)) → AreMade bytes starts (number + 1) (pieces ++ piece ∷ [])
 piece_more bytes starts number pieces piece b l h e f =
     record {
       parts = h.parts
-        ∙ ap (λ (ps : List Piece). pieces ++ ps) (one-more bytes starts number b l e ∙ ap (λ (p : Piece). p ∷ pieces_of_lines bytes (drop (number + 1) starts)) (sym f))
-        ∙ sym (append_assoc pieces (piece ∷ []) (pieces_of_lines bytes (drop (number + 1) starts)));
+          ∙ ap (λ (ps : List Piece). pieces ++ ps) (one-more bytes starts number b l e ∙ ap (λ (p : Piece). p ∷ pieces_of_lines bytes (drop (number + 1) starts)) (sym f))
+          ∙ sym (append_assoc pieces (piece ∷ []) (pieces_of_lines bytes (drop (number + 1) starts)));
     }
 
 pub all_pieces : (bytes starts : List ℕ) (number : ℕ) (pieces : List Piece) → AreMade bytes starts number pieces → length starts ≤ number → pieces ≡ pieces_of_lines bytes starts

@@ -152,7 +152,12 @@ fn is_filled(bytes: &[u8], at: usize) -> bool
 
 // Whether a start is that of a line behind the one before, or else what is wrong with the start of this number.
 #[tactic(auto, using(crate::proofs::StartsInOrder::start_within))]
-fn check_start(bytes: &[u8], before: Option<usize>, at: usize, number: usize) -> Result<(), LineFault>
+fn check_start(
+    bytes: &[u8],
+    before: Option<usize>,
+    at: usize,
+    number: usize,
+) -> Result<(), LineFault>
     requires { IfSome before (λ b. b ≤ length bytes.now) }
     ensures ok { IfOk result (λ _. MayBegin bytes.now before at × IsTrue (is_filled bytes.now at)) }
     ensures err { IfErr result (IsStartFault bytes.now before at number) }
@@ -189,7 +194,11 @@ fn piece_of_line(bytes: &[u8], at: usize, is_last: bool) -> Piece
     ensures { result ≡ (if is_last then last_piece bytes.now at else line_piece bytes.now at) }
 {
     let start = first_ink(bytes, at);
-    let end = if is_last { ink_end(bytes, at) } else { line_end(bytes, at) };
+    let end = if is_last {
+        ink_end(bytes, at)
+    } else {
+        line_end(bytes, at)
+    };
     Piece {
         start: (start, 0),
         end: (end, 0),
@@ -201,7 +210,11 @@ fn piece_of_line(bytes: &[u8], at: usize, is_last: bool) -> Piece
 /// Each begins at the first byte from its start on that is no space or tab, and ends just behind its line's ending; the last one ends before the whitespace
 /// at its end. So no column of a tab comes before a piece. The only error is that memory was refused.
 #[tactic(auto, using(crate::proofs::StartsInOrder::each_within, crate::proofs::PiecesInTurn::no_piece, crate::proofs::PiecesInTurn::piece_more, crate::proofs::PiecesInTurn::all_pieces))]
-pub fn pieces_of_lines(alloc: Global, bytes: &[u8], starts: &[usize]) -> Result<Vec<Piece>, AllocError>
+pub fn pieces_of_lines(
+    alloc: Global,
+    bytes: &[u8],
+    starts: &[usize],
+) -> Result<Vec<Piece>, AllocError>
     requires { AreLines bytes.now starts.now }
     ensures { IfOk result (λ pieces. pieces.items ≡ pieces_of_lines bytes.now starts.now) }
 {
