@@ -43,7 +43,12 @@ pub fn line_pieces(alloc: Global, bytes: &[u8], starts: &[usize]) -> Result<Vec<
         return Err(start_refusal(fault));
     }
     let pieces = pieces_of_lines(alloc, bytes, starts)?;
-    Ok(pieces.iter().map(|piece| flat_piece(*piece)).collect(alloc)?)
+    Ok(
+        pieces
+            .iter()
+            .map(|piece| flat_piece(*piece))
+            .collect(alloc)?,
+    )
 }
 
 /// Hands out the pieces of the lines that begin at these starts, where there is room for all of them, or else says why not by its status.
