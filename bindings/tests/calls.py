@@ -8,7 +8,7 @@ from array import array
 import markdown_inline
 from markdown_inline import (
     COMMONMARK, CRATE, GFM, MATH, OPTIONS, BlankLine, Content, DefinitionError, Error, Kind, Name, NoContent, NoReference, NoString, NotUtf8, Piece, References, ShortTexts, TooLong,
-    UnknownOption, _library, html, htmls, identifier, is_content, is_text, leaves, reference, short_texts, string, strings, text, texts)
+    UnknownOption, _library, html, htmls, identifier, is_content, is_text, leaves, pieces_of_lines, reference, short_texts, string, strings, text, texts)
 
 CONSTRUCTS = sum(OPTIONS[it] for it in (
     'attention', 'autolink', 'character_escape', 'character_reference', 'code_text', 'hard_break_escape', 'hard_break_trailing', 'html_text', 'label_start_image',
@@ -46,6 +46,24 @@ class Calls(unittest.TestCase):
     def test_tests(self):
         self.assertTrue(is_text('a\nb') and is_content('a\n\nb'))
         self.assertFalse(is_text('a\n\nb') or is_content(b'\xff') or is_content('a', [(0, 2)]))
+
+    def test_pieces_of_lines(self):
+        document = '- \ta\t \r\n \t é  \r  c \t\n\nd'
+        pieces = [Piece(3, 8), Piece(11, 16), Piece(18, 19)]
+        for given in (document, document.encode(), bytearray(document.encode())):
+            self.assertEqual(pieces_of_lines(given, [1, 8, 16]), pieces)
+        self.assertEqual(pieces_of_lines(document, iter([3, 11, 18])), pieces)
+        self.assertTrue(is_text(document, pieces))
+        self.assertEqual(pieces_of_lines('', []), [])
+        for error, given, starts, at in (
+            (NoContent, 'a', [0, 0], 1), (NoContent, 'a\nb', [2, 0], 1), (NoContent, 'a\nb\nc', [0, 4], 1), (NoContent, 'a', [2 ** 64 - 1], 0), (NoContent, 'é', [1], 0),
+            (BlankLine, 'a\n \t\nb', [0, 2, 5], 1), (BlankLine, '', [0], 0),
+        ):
+            with self.assertRaises(error) as caught:
+                pieces_of_lines(given, starts)
+            self.assertEqual(caught.exception.at, at)
+        for error, starts in ((TypeError, 'ab'), (TypeError, 0), (TypeError, [0.5]), (OverflowError, [-1]), (OverflowError, [2 ** 64])):
+            self.assertRaises(error, pieces_of_lines, 'a', starts)
 
     def test_nothing(self):
         self.assertEqual(text(''), [])

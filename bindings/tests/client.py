@@ -3,7 +3,7 @@ from typing import Dict, List, Optional, Tuple
 
 from markdown_inline import (
     COMMONMARK, GFM, OPTIONS, Address, Content, Error, Event, Events, Kind, Leaf, Leaves, Name, Node, Piece, ShortEvent, ShortTexts, Texts, Tree, __version__, html, htmls, identifier,
-    is_text, leaves, links, reference, short_texts, string, strings, text, texts, tree)
+    is_text, leaves, links, pieces_of_lines, reference, short_texts, string, strings, text, texts, tree)
 
 
 def lines(document: str, defined: Dict[str, str]) -> List[int]:
@@ -18,7 +18,8 @@ def lines(document: str, defined: Dict[str, str]) -> List[int]:
 
 
 def many(document: bytes) -> int:
-    found: Texts = texts(document, [Content([Piece(0, 1)]), ([(0, 1)], False)], rules='crate')
+    lines: List[Piece] = pieces_of_lines(document, [0])
+    found: Texts = texts(document, [Content([Piece(0, 1)]), ([(0, 1)], False), Content(lines)], rules='crate')
     shorts: ShortTexts = short_texts(document, [Content([(0, 1)])], options=COMMONMARK | GFM | OPTIONS['math_text'])
     short: ShortEvent = shorts[0][0]
     definition: Optional[int] = short.definition

@@ -1,7 +1,7 @@
 """Calls of a library that gets no memory: each that asks for some raises NoMemory."""
 import unittest
 
-from markdown_inline import Content, NoMemory, html, identifier, is_content, leaves, links, reference, short_texts, string, strings, text, texts, tree
+from markdown_inline import Content, NoMemory, html, identifier, is_content, leaves, links, pieces_of_lines, reference, short_texts, string, strings, text, texts, tree
 
 
 class Refused(unittest.TestCase):
@@ -10,7 +10,7 @@ class Refused(unittest.TestCase):
             lambda: text('a *b*'), lambda: string('a'), lambda: leaves('a'), lambda: texts('a', [Content([(0, 1)])]), lambda: html('a'),
             lambda: short_texts('a', [Content([(0, 1)])]),
             lambda: strings('a', [[(0, 1)]]), lambda: identifier('a'), lambda: reference('&amp;'), lambda: is_content('a\nb', [(0, 2), (2, 3)]),
-            lambda: links('a'), lambda: tree('a'),
+            lambda: links('a'), lambda: tree('a'), lambda: pieces_of_lines('a', [0]),
         ):
             with self.assertRaises(NoMemory) as caught:
                 call()

@@ -41,5 +41,5 @@ class Types(unittest.TestCase):
 class Client(unittest.TestCase):
     def test_it_runs(self):
         self.assertEqual(client.lines('a', {})[:1], [1])
-        self.assertEqual(client.many(b'a'), 72)
+        self.assertEqual(client.many(b'a'), 108)
         self.assertEqual(client.words('[a](b "c")', {})[:1], ['<a href="b" title="c">a</a>'])

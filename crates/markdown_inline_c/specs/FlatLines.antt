@@ -1,7 +1,7 @@
 -- Pieces of lines as a caller in C gets them.
 use Rattle.std.specs.Prelude.{◌≡◌, ◌⊎◌, ℕ, ◌==◌, if◌then◌else◌, List, map, None}
 use Rattle.markdown_content.specs.declared.parser.Piece.{Piece}
-use Rattle.markdown_lines.specs.LinePieces.{AreLines, AreLinesRefused, pieces_of_lines}
+use Rattle.markdown_lines.specs.PiecesOfLines.{AreLines, AreLinesRefused, pieces_of_lines}
 use Rattle.markdown_lines.specs.declared.lines.LineFault.{LineFault}
 use Rattle.markdown_inline_c.specs.Answers.{IsHandedOut}
 use Rattle.markdown_inline_c.specs.FlatEvents.{number_or_max}

@@ -2,7 +2,7 @@
 
 ghost use Rattle.std.specs.Prelude.{◌≡◌, IfErr, IfOk};
 ghost use Rattle.markdown_inline_c.specs.FlatLines.{AreLinePieces, AreStartsRefused, flat_piece, line_pieces, start_refusal};
-ghost use Rattle.markdown_lines.specs.LinePieces.{AreLines};
+ghost use Rattle.markdown_lines.specs.PiecesOfLines.{AreLines};
 
 use crate::answer::answer;
 use crate::fault::{DONE, Fault};

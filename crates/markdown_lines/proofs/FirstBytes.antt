@@ -4,7 +4,7 @@ use Rattle.std.proofs.lemmas.List.{drop_all, drop_more}
 use Rattle.std.proofs.lemmas.List.Sums.{suffix_len-take_no, suffix_len-take_yes}
 use Rattle.std.specs.List.{position_or_len, suffix_len}
 use Rattle.markdown_content.specs.Codes.{carriage_return, line_feed}
-use Rattle.markdown_lines.specs.LinePieces.{ending_len, first_from}
+use Rattle.markdown_lines.specs.PiecesOfLines.{ending_len, first_from}
 
 position-no : (p : ℕ → Bool) (x : ℕ) (xs : List ℕ) → p x ≡ false → position_or_len p (x ∷ xs) ≡ 1 + position_or_len p xs
 position-no p x xs h = rw h refl

@@ -14,7 +14,7 @@ use Rattle.markdown_content.proofs.DocumentWalkLemmas.{stop-ending, value-ending
 use Rattle.markdown_content.proofs.DocumentPlaces.{stands-point}
 use Rattle.markdown_content.proofs.ContentCodes.{none-before}
 use Rattle.markdown_content.proofs.CodesBetween.{IsFirstTo, codes_to, shape, to-cases}
-use Rattle.markdown_lines.specs.LinePieces.{is_blank_byte}
+use Rattle.markdown_lines.specs.PiecesOfLines.{is_blank_byte}
 
 -- One code.
 

@@ -7,7 +7,7 @@ use Rattle.std.proofs.lemmas.Bool.Decides.{nat_tests}
 use Rattle.std.proofs.lemmas.Option.{slice_get_cases, get_or_from_slice_get}
 use Rattle.std.specs.List.{position_or_len, suffix_len}
 use Rattle.markdown_content.specs.Codes.{is_line_ending_byte, line_ending_len}
-use Rattle.markdown_lines.specs.LinePieces.{ending_len, first_from, first_ink, is_blank_byte, is_filled, line_end, line_stop}
+use Rattle.markdown_lines.specs.PiecesOfLines.{ending_len, first_from, first_ink, is_blank_byte, is_filled, line_end, line_stop}
 use Rattle.markdown_lines.proofs.FirstBytes.{no_blank, no_byte, one_blank}
 
 -- The first byte that passes.

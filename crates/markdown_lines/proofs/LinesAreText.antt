@@ -20,7 +20,7 @@ use Rattle.markdown_content.proofs.DocumentCodes.{len-bounds, len-one, len-two, 
 use Rattle.markdown_content.proofs.DocumentPlaces.{IsNextPlace, IsThere, next, same-pair, there}
 use Rattle.markdown_content.proofs.DocumentWalkLemmas.{stop-ending}
 use Rattle.markdown_content.proofs.WalkTargets.{place-point}
-use Rattle.markdown_lines.specs.LinePieces.{AreLines, AreLinesBehind, IsOnNextLine, MayBegin, first_ink, ink_end, is_blank_byte, last_piece, line_end, line_piece, line_stop, piece_between, pieces_of_lines}
+use Rattle.markdown_lines.specs.PiecesOfLines.{AreLines, AreLinesBehind, IsOnNextLine, MayBegin, first_ink, ink_end, is_blank_byte, last_piece, line_end, line_piece, line_stop, piece_between, pieces_of_lines}
 use Rattle.markdown_lines.proofs.LineCodes.{IsEnding, IsWholeLine, filled-plain, filled-whole, ink-fills, line-codes, near-code, next-index, plain-codes, whole-ends}
 use Rattle.markdown_lines.proofs.LineNumbers.{IsInk, IsLineAt, first-before, line-at, to-blank}
 use Rattle.markdown_lines.proofs.StartsInOrder.{start_within}

@@ -3,7 +3,7 @@ use Rattle.std.proofs.Common.{◌≡◌, ℕ, ◌+◌, ◌<◌, ◌-◌, ◌≤�
 use Rattle.std.proofs.lemmas.List.{drop_all, drop_more}
 use Rattle.std.proofs.lemmas.Bool.{eqb-false, eqb-true}
 use Rattle.markdown_content.specs.declared.parser.Piece.{Piece}
-use Rattle.markdown_lines.specs.LinePieces.{last_piece, line_piece, pieces_of_lines}
+use Rattle.markdown_lines.specs.PiecesOfLines.{last_piece, line_piece, pieces_of_lines}
 
 abbrev piece_of : List ℕ → ℕ → Bool → Piece
 piece_of bytes at is_last = if is_last then last_piece bytes at else line_piece bytes at

@@ -1,7 +1,7 @@
 -- Starts of lines, tested one after another.
 use Rattle.std.proofs.Common.{◌≡◌, ℕ, zero, suc, ◌+◌, ◌<◌, ◌≤◌, ap, refl, sym, ◌∙◌, subst, IsTrue, List, [], ◌∷◌, ◌++◌, length, take, drop, get_or, Option, Some, None, IfSome, arith, length-take}
 use Rattle.std.proofs.lemmas.List.{drop_more, take_all, take_more, take-append-drop}
-use Rattle.markdown_lines.specs.LinePieces.{AreLines, AreLinesBehind, AreLinesRefused, IsStartFault, MayBegin, is_filled, last_behind}
+use Rattle.markdown_lines.specs.PiecesOfLines.{AreLines, AreLinesBehind, AreLinesRefused, IsStartFault, MayBegin, is_filled, last_behind}
 use Rattle.markdown_lines.specs.declared.lines.LineFault.{LineFault}
 
 pub start_within : (bytes : List ℕ) (before : Option ℕ) (at : ℕ) → MayBegin bytes before at → at ≤ length bytes

@@ -1,3 +1,3 @@
 -- The definitions of this crate.
-pub mod LinePieces
+pub mod PiecesOfLines
 pub mod LineLaws

@@ -7,7 +7,7 @@ ghost use Rattle.std.specs.Prelude.{◌≡◌, ◌+◌, ◌≤◌, ◌↔◌, �
 ghost use Rattle.std.specs.List.{suffix_len};
 ghost use Rattle.std.specs.Str.{IsCharBoundary};
 ghost use Rattle.markdown_content.specs.Codes.{is_line_ending_byte};
-ghost use Rattle.markdown_lines.specs.LinePieces.{AreLines, AreLinesRefused, IsOnNextLine, IsStartFault, MayBegin, ending_len, first_ink, ink_end, is_blank_byte, is_filled, last_piece, line_end, line_piece, line_stop, pieces_of_lines};
+ghost use Rattle.markdown_lines.specs.PiecesOfLines.{AreLines, AreLinesRefused, IsOnNextLine, IsStartFault, MayBegin, ending_len, first_ink, ink_end, is_blank_byte, is_filled, last_piece, line_end, line_piece, line_stop, pieces_of_lines};
 
 use markdown_content::parser::Piece;
 use std::alloc::{AllocError, Global};

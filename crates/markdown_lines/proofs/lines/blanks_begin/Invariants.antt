@@ -1,6 +1,6 @@
 use Rattle.std.proofs.Common.{◌≡◌, ◌-◌, ◌≤◌, length, take}
 use Rattle.std.specs.List.{suffix_len}
-use Rattle.markdown_lines.specs.LinePieces.{is_blank_byte}
+use Rattle.markdown_lines.specs.PiecesOfLines.{is_blank_byte}
 use Rattle.markdown_lines.proofs.lines.blanks_begin.Given as goal
 
 abbrev pub invariant-loop-end : goal.invariant-loop-end

@@ -1,5 +1,5 @@
 use Rattle.std.proofs.Common.{◌≡◌, ◌-◌, ◌≤◌, length}
-use Rattle.markdown_lines.specs.LinePieces.{first_ink}
+use Rattle.markdown_lines.specs.PiecesOfLines.{first_ink}
 use Rattle.markdown_lines.proofs.lines.first_ink.Given as goal
 
 abbrev pub invariant-loop-ink : goal.invariant-loop-ink

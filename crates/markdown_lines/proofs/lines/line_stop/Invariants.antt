@@ -1,5 +1,5 @@
 use Rattle.std.proofs.Common.{◌≡◌, ◌-◌, ◌≤◌, length}
-use Rattle.markdown_lines.specs.LinePieces.{line_stop}
+use Rattle.markdown_lines.specs.PiecesOfLines.{line_stop}
 use Rattle.markdown_lines.proofs.lines.line_stop.Given as goal
 
 abbrev pub invariant-loop-stop : goal.invariant-loop-stop
