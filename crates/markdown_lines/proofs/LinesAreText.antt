@@ -48,9 +48,6 @@ no-feed b h e = grind (arith, nat_tests)
 no-return : (b : ℕ) → is_line_ending_byte b ≡ false → (b == carriage_return) ≡ false
 no-return b h = grind (arith, nat_tests)
 
-blank-no-feed : (b : ℕ) → is_blank_byte b ≡ true → b ≡ line_feed → ⊥
-blank-no-feed b h e = grind (arith, nat_tests)
-
 at-ink : (bytes : List ℕ) (i : ℕ) → IsInk bytes i → IsByteAt bytes i
 at-ink bytes i h = byte-at bytes i (sym (other-place bytes i h.within (no-feed (get_or bytes i 0) h.other)))
 
