@@ -47,24 +47,6 @@ counted_more ds all d to most bytes larger before leads is grown more = λ q sma
 
 -- What a definition brings.
 
-label_within : (p : Page) (most : ℕ) → BringAtMost p.definitions most → (label : Option (ℕ × ℕ)) → target_bytes (label_target p label) ≤ most
-label_within p most few None = omega arith
-label_within p most few (Some place) = few _
-
-reference_within : (p : Page) (most : ℕ) → BringAtMost p.definitions most → (label reference : Option (ℕ × ℕ)) → target_bytes (reference_target p label reference) ≤ most
-reference_within p most few label None = label_within p most few label
-reference_within p most few label (Some place) = few _
-
-one-within : (has : Bool) (n most : ℕ) → n ≤ most → (if has then 0 else n) ≤ 1 * most
-one-within true n most h = omega arith
-one-within false n most h = omega (arith, h)
-
-where_within : (p : Page) (most : ℕ) → BringAtMost p.definitions most → (seen : Seen) → brought_where p seen ≤ 1 * most
-where_within p most few seen = one-within seen.has_destination _ most (reference_within p most few seen.label seen.reference)
-
-seen_within : (p : Page) (most : ℕ) → BringAtMost p.definitions most → (role : Role) (seen : Seen) → seen_brought p role seen ≤ (if is_brought_to role then 1 else 0) * most
-seen_within p most few role seen = grind (arith, where_within)
-
 -- What is left.
 
 -- no less than so much is left
@@ -75,15 +57,6 @@ LeavesAtLeast (Some n) least = least ≤ n
 less-left : (left : Option ℕ) (least less : ℕ) → LeavesAtLeast left least → less ≤ least → LeavesAtLeast left less
 less-left None least less h k = h
 less-left (Some n) least less h k = omega (arith, h, k)
-
-taken-left : (left : Option ℕ) (least more taken : ℕ) → LeavesAtLeast left (more + least) → taken ≤ more → LeavesAtLeast (left_of left taken) least
-taken-left None least more taken h k = h
-taken-left (Some n) least more taken h k = grind (arith, nat_tests)
-
-close-left : (p : Page) (most : ℕ) → BringAtMost p.definitions most → (s : Counted) (opened : List Before) (role : Role) (to least : ℕ)
-    → LeavesAtLeast s.left ((if is_brought_to role then 1 else 0) * most + least) → LeavesAtLeast (Counted.left (counted_close p s opened role to)) least
-close-left p most few s [] role to least h = less-left s.left _ least h (omega arith)
-close-left p most few s (o ∷ opened) role to least h = taken-left s.left least _ (seen_brought p role s.seen) h (seen_within p most few role s.seen)
 
 step-left : (p : Page) (most : ℕ) → BringAtMost p.definitions most → (s : Counted) (role : Role) (kind : Kind) (at least : ℕ) (x : Bool)
     → LeavesAtLeast s.left ((if is_brought_to role then 1 else 0) * most + least) → LeavesAtLeast (Counted.left (if x then counted_apart p s role kind at else s)) least

@@ -285,12 +285,6 @@ filled-none : (p : Page) (s : State) (role : Role) (a b : Point) → is_leaf rol
 unfolding filled
 filled-none p s role a b e = with-nothing s _ (no-text p s.within role (text_between p.bytes a b) e)
 
-abbrev first-by : Point → Kind → Option Point
-first-by b k = elim k [ Kind.Enter ↦ None | Kind.Exit ↦ Some b ]
-
-abbrev filled-to : Page → State → Role → Point → Option Point → State
-filled-to p s role a to = elim to [ None ↦ s | Some b ↦ filled p s role a b ]
-
 unfilled : (p : Page) (s : State) (role : Role) (a : Point) (rest : List Event) → is_leaf role ≡ false → filled_before p s role a rest ≡ s
 unfilled p s role a [] e = refl
 unfilled p s role a (x ∷ rest) e = grind (arith, filled-none)

@@ -73,11 +73,3 @@ step-follows x y c d k g h f = grind arith
 pub same-follows : (b : ℕ) (rest more : List ℕ) → IsSameIfSome (before_colon is_scheme_byte rest) (before_colon goes_on_scheme more)
     → IsSameIfSome (before_colon is_scheme_byte (b ∷ rest)) (before_colon goes_on_scheme (b ∷ more))
 same-follows b rest more f = grind (arith, step-follows, scheme_byte-goes_on, colon-ends, mapped)
-
-ended : (x : Option (List ℕ)) (c k : Bool) (y : Option (List ℕ)) → c ≡ false → k ≡ false → IsSameIfSome (if c then x else (if k then Some [] else None)) y
-ended x false false y g h = tt
-ended x c k y g h = cc
-
--- a byte that no scheme has ends it
-pub other-follows : (c : ℕ) (rest : List ℕ) (y : Option (List ℕ)) → is_scheme_byte c ≡ false → (c == 58) ≡ false → IsSameIfSome (before_colon is_scheme_byte (c ∷ rest)) y
-other-follows c rest y g h = ended _ (is_scheme_byte c) (c == 58) y g h

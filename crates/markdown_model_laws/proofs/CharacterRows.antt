@@ -172,10 +172,6 @@ module _ {A : Type 0} (P : A → Type 0) where
     pub reads_unless : {B : Type 0} (a : Reading B) (b : Reading A) → ReadsFrom p r P b → ReadsFrom p r P (unless a b)
     reads_unless a b h = record { at = λ cs s w. given-unless (ToSound r P) a b cs (h.at cs s w) }
 
-  forgot : (r : Bool) (cs : List Code) → Where true cs → Where r cs
-  forgot true cs h = h
-  forgot false cs h = tt
-
   -- where more is known in front, and less behind
   pub reads_weaker : (p r : Bool) (a : Reading A) → ReadsFrom p true P a → ReadsFrom p r P a
   reads_weaker p r a h = search (rules, given-map)

@@ -18,21 +18,9 @@ use Rattle.markdown_model_laws.proofs.PieceBorders.{AreNext, Border, next-parts}
 
 -- Lines.
 
-ends-cons : (c : Code) (cs : List Code) → ends_line cs ≡ true → ends_line (c ∷ cs) ≡ true
-ends-cons c [] h = cc
-ends-cons c (d ∷ cs) h = h
-
--- what holds of a filtered list with a code in front and without it
-filtered : (P : List Code → Type 0) (f : Code → Bool) (d : Code) (cs : List Code) → P (d ∷ filter f cs) → P (filter f cs) →
-    P (filter f (d ∷ cs))
-filtered P f d cs h k = grind arith
-
 module _ (p q end : ℕ × ℕ) (h : is_before q p ≡ false) where
   abbrev EndsTheLine : List Code → Type 0
   EndsTheLine cs = ends_line (before_in end cs) ≡ true
-
-  one-more : (d : Code) (cs : List Code) → EndsTheLine cs → EndsTheLine (d ∷ cs)
-  one-more d cs k = grind (arith, ends-cons)
 
   -- codes from an earlier place on end a line where those from a later one do
   longer-codes : (x : Point) (cs : List Code) → IsChain x cs → EndsTheLine (from_in q cs) → EndsTheLine (from_in p cs)
