@@ -1,0 +1,3 @@
+pub mod PageNotation
+pub mod StandardPages
+pub mod ChosenPages

@@ -1,0 +1,3 @@
+-- The proofs of this crate.
+mod PageMarkups
+mod PageIsOwn
