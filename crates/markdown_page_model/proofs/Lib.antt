@@ -1,3 +1,4 @@
 -- The proofs of this crate.
 mod PageMarkups
+mod HeadingLevels
 mod PageIsOwn

@@ -21,6 +21,7 @@ use Rattle.markdown_page_model.specs.PageTexts.{text_of, own_ending, ending, lin
 use Rattle.markdown_page_model.specs.PageHtml.{Holder, no_item, tight_item, item_of, NextItem, text_html, on_line, code_html, leaf_html, line_begun, is_in_line, leaf_behind, quote_html, is_of_loose_list, list_opening, list_closing, before_item, item_html, tree_html, setting_of, page_of, document_html}
 use Rattle.markdown_page_model.specs.PageMarkup as markup
 use Rattle.markdown_page_model.specs.PageMarkup.{IsOwnPage}
+use Rattle.markdown_page_model.proofs.HeadingLevels.{HasLevel, HaveLevels, document-levels}
 use Rattle.markdown_page_model.proofs.PageMarkups.{own-nothing, own-append, own-markup, text-markup, own-break, own-text-element, own-block-element}
 
 -- Lines.
@@ -64,15 +65,15 @@ own-code any p [] ls = own-on_line any p _ (own-text-element any (markup.code No
 own-code any p (b ∷ bs) ls =
     own-on_line any p _ (own-text-element any (markup.code (Some (escaped (b ∷ bs)))) _ (escaped_quiet (b ∷ bs)) (text-markup any _ (quiet-lines p escaped escaped_quiet ls)))
 
-own-leaf : (any : Bool) (s : Setting) (p : Page) → IsBounded any s p → (leaf : Leaf) → IsOwnPage any (leaf_html s p leaf)
-own-leaf any s p b blank = own-nothing any
-own-leaf any s p b thematic_break = own-on_line any p _ (own-break any)
-own-leaf any s p b (heading level text) = own-on_line any p _ (own-text-element any (markup.heading level) _ tt (b.1 text))
-own-leaf any s p b (underlined level text) = own-on_line any p _ (own-text-element any (markup.heading level) _ tt (b.1 text))
-own-leaf any s p b (paragraph text) = own-on_line any p _ (own-text-element any markup.paragraph _ tt (b.1 text))
-own-leaf any s p b (indented_code ls) = own-code any p [] (filled ls)
-own-leaf any s p b (fenced_code f info ls ended) = own-code any p (first_word (resolved p.decoding (text_of info))) ls
-own-leaf any s p b (html kind text ended) = own-quiet any _ (quiet-lines p (raw_html p Within.Outside) (λ text. quiet-raw p.options.raw_html text b.0) (lines_of text))
+own-leaf : (any : Bool) (s : Setting) (p : Page) → IsBounded any s p → (leaf : Leaf) → HasLevel leaf → IsOwnPage any (leaf_html s p leaf)
+own-leaf any s p b blank g = own-nothing any
+own-leaf any s p b thematic_break g = own-on_line any p _ (own-break any)
+own-leaf any s p b (heading level text) g = own-on_line any p _ (own-text-element any (markup.heading level) _ g (b.1 text))
+own-leaf any s p b (underlined level text) g = own-on_line any p _ (own-text-element any (markup.heading level) _ g (b.1 text))
+own-leaf any s p b (paragraph text) g = own-on_line any p _ (own-text-element any markup.paragraph _ tt (b.1 text))
+own-leaf any s p b (indented_code ls) g = own-code any p [] (filled ls)
+own-leaf any s p b (fenced_code f info ls ended) g = own-code any p (first_word (resolved p.decoding (text_of info))) ls
+own-leaf any s p b (html kind text ended) g = own-quiet any _ (quiet-lines p (raw_html p Within.Outside) (λ text. quiet-raw p.options.raw_html text b.0) (lines_of text))
 
 -- Siblings.
 
@@ -83,14 +84,14 @@ own-if any false x h = own-nothing any
 own-line_begun : (any : Bool) (p : Page) (holder : Holder) (before : Tree) → IsOwnPage any (line_begun p holder before)
 own-line_begun any p holder before = own-if any (is_in_line holder before) (own_ending p) (own-ending any p)
 
-own-begun : (any : Bool) (s : Setting) (p : Page) → IsBounded any s p → (holder : Holder) (before : Tree) (leaf : Leaf) → IsOwnPage any (line_begun p holder before ++ leaf_html s p leaf)
-own-begun any s p b holder before leaf = own-append any _ _ (own-line_begun any p holder before) (own-leaf any s p b leaf)
+own-begun : (any : Bool) (s : Setting) (p : Page) → IsBounded any s p → (holder : Holder) (before : Tree) (leaf : Leaf) → HasLevel leaf → IsOwnPage any (line_begun p holder before ++ leaf_html s p leaf)
+own-begun any s p b holder before leaf g = own-append any _ _ (own-line_begun any p holder before) (own-leaf any s p b leaf g)
 
-own-leaf_behind : (any : Bool) (s : Setting) (p : Page) → IsBounded any s p → (holder : Holder) (before : Tree) (leaf : Leaf) → IsOwnPage any (leaf_behind s p holder before leaf)
-own-leaf_behind any s p b holder before blank = own-nothing any
-own-leaf_behind any s p b holder before (paragraph []) = own-nothing any
-own-leaf_behind any s p b tight_item before (paragraph (c ∷ cs)) = own-markup any _ (b.1 (c ∷ cs))
-own-leaf_behind any s p b holder before leaf = own-begun any s p b holder before leaf
+own-leaf_behind : (any : Bool) (s : Setting) (p : Page) → IsBounded any s p → (holder : Holder) (before : Tree) (leaf : Leaf) → HasLevel leaf → IsOwnPage any (leaf_behind s p holder before leaf)
+own-leaf_behind any s p b holder before blank g = own-nothing any
+own-leaf_behind any s p b holder before (paragraph []) g = own-nothing any
+own-leaf_behind any s p b tight_item before (paragraph (c ∷ cs)) g = own-markup any _ (b.1 (c ∷ cs))
+own-leaf_behind any s p b holder before leaf g = own-begun any s p b holder before leaf g
 
 quote-bytes : (a e i c : List ℕ) → ((a ++ (e ++ i)) ++ c) ++ e ≡ ((a ++ e) ++ i) ++ (c ++ e)
 quote-bytes a e i c = simp append_assoc
@@ -164,18 +165,18 @@ own-item any s p holder m loose before inside h g y f =
     own-begun_item any (goes_on_list m before) p m _ (line_begun p holder before) (item_html p inside) y (h.1 (record { marker = m; is_loose = loose }))
     (own-line_begun any p holder before) (own-on_line any p _ (own-block-element any markup.item inside g)) f
 
-own-tree : (any : Bool) (s : Setting) (p : Page) → IsBounded any s p → (t : Tree) (holder : Holder) → AreOwn any s p holder t
-own-tree any s p b nothing holder = (own-nothing any, λ next. own-nothing any)
-own-tree any s p b (and_leaf before blank) holder = own-tree any s p b before holder
-own-tree any s p b (and_leaf before leaf) holder =
-    let h = own-append any _ _ (own-tree any s p b before holder).0 (own-leaf_behind any s p b holder before leaf) in
+own-tree : (any : Bool) (s : Setting) (p : Page) → IsBounded any s p → (t : Tree) → HaveLevels t → (holder : Holder) → AreOwn any s p holder t
+own-tree any s p b nothing g holder = (own-nothing any, λ next. own-nothing any)
+own-tree any s p b (and_leaf before blank) g holder = own-tree any s p b before g.0 holder
+own-tree any s p b (and_leaf before leaf) g holder =
+    let h = own-append any _ _ (own-tree any s p b before g.0 holder).0 (own-leaf_behind any s p b holder before leaf g.1) in
     (h, λ next. h)
-own-tree any s p b (and_container before quote inside) holder =
-    let h = own-append any _ _ (own-append any _ _ (own-tree any s p b before holder).0 (own-line_begun any p holder before)) (own-quote any p _ (own-tree any s p b inside no_item).0) in
+own-tree any s p b (and_container before quote inside) g holder =
+    let h = own-append any _ _ (own-append any _ _ (own-tree any s p b before g.0 holder).0 (own-line_begun any p holder before)) (own-quote any p _ (own-tree any s p b inside g.1 no_item).0) in
     (h, λ next. h)
-own-tree any s p b (and_container before (item m columns) inside) holder =
+own-tree any s p b (and_container before (item m columns) inside) g holder =
     let t = and_container before (item m columns) inside in
-    let own = λ (loose : Bool). own-item any s p holder m loose before (tree_html s p (item_of loose) None inside) (own-tree any s p b before holder) (own-tree any s p b inside (item_of loose)).0 in
+    let own = λ (loose : Bool). own-item any s p holder m loose before (tree_html s p (item_of loose) None inside) (own-tree any s p b before g.0 holder) (own-tree any s p b inside g.1 (item_of loose)).0 in
     (own-ended any p _ m (own (is_of_loose_list None m t)), λ next. own-followed any p _ m next.marker (are_alike next.marker m) refl (own (is_of_loose_list (Some next) m t)))
 
 pub document-is-own : (options : HtmlOptions) (bytes : List ℕ) → options.raw_html ≡ false → IsOwnPage true (document_html options bytes)
@@ -183,11 +184,11 @@ unfolding document_html
 document-is-own options bytes off =
     let s = setting_of bytes in
     let p = page_of options bytes in
-    (own-tree true s p (off, λ text. html-is-own (page_of_content text p) [] (text_tree s text) off) (document_tree bytes) no_item).0
+    (own-tree true s p (off, λ text. html-is-own (page_of_content text p) [] (text_tree s text) off) (document_tree bytes) (document-levels bytes) no_item).0
 
 pub document-is-safe : (options : HtmlOptions) (bytes : List ℕ) → options.raw_html ≡ false → options.any_link ≡ false → IsOwnPage false (document_html options bytes)
 unfolding document_html
 document-is-safe options bytes off safe =
     let s = setting_of bytes in
     let p = page_of options bytes in
-    (own-tree false s p (off, λ text. html-is-safe (page_of_content text p) [] (text_tree s text) off safe) (document_tree bytes) no_item).0
+    (own-tree false s p (off, λ text. html-is-safe (page_of_content text p) [] (text_tree s text) off safe) (document_tree bytes) (document-levels bytes) no_item).0

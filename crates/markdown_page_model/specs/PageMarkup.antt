@@ -1,8 +1,9 @@
 -- Markup of a page that the writer alone makes: elements of blocks, from a list, balanced and nested, with own markup of texts between and inside them.
-use Rattle.std.specs.Prelude.{ℕ, ◌≡◌, Bool, List, [], ◌++◌, codes, decimal, Option, None, Some}
+use Rattle.std.specs.Prelude.{ℕ, ◌≡◌, Bool, true, List, [], ◌++◌, codes, decimal, Option, None, Some}
+use Rattle.markdown_model.specs.CodeTests.{is_between}
 use Rattle.markdown_html_model.specs.OwnMarkup.{Markup, bytes_of, HasNoMarkup, IsOwn}
 
--- elements that hold markup of texts alone: a paragraph, a heading of a level, and code in a language, if it names one
+-- elements that hold markup of texts alone: a paragraph, a heading of a level from 1 to 6, and code in a language, if it names one
 pub data TextElement : Type 0 where
   paragraph : TextElement
   heading : ℕ → TextElement
@@ -53,6 +54,7 @@ page_bytes (block_element_then element inside rest) = block_element_bytes elemen
 -- What each text, each value of an attribute and each address is. With `any` an address may lead anywhere.
 
 abbrev pub IsOwnTextElement : TextElement → Type 0
+IsOwnTextElement (heading level) = is_between 1 6 level ≡ true
 IsOwnTextElement (code (Some language)) = HasNoMarkup language
 IsOwnTextElement element = Unit {0}
 

@@ -1,16 +1,16 @@
 -- What CommonMark's examples do not show of HTML: both sides of each row compute to one list. Written by tools/pages.py.
 use Rattle.std.proofs.Common.{refl}
 use Rattle.markdown_page_examples.proofs.PageComputed.{page_computed}
-use Rattle.markdown_page_examples.specs.ChosenPages.{LineFeeds, ListTags, CodeTexts, HtmlTexts, PageDefinitions, LineEndings, SafePages, StandardChoices}
+use Rattle.markdown_page_examples.specs.ChosenPages.{LineFeeds, ListTags, CodeTexts, HtmlTexts, PageDefinitions, PageRules, LineEndings, SafePages, StandardChoices}
 use Rattle.markdown_page_examples.proofs.chosen_pages.Goals as goal
 
 line_feeds : LineFeeds
 unfolding page_computed
-line_feeds = (refl, refl, refl, refl, refl, refl, refl, refl, refl, refl, refl)
+line_feeds = (refl, refl, refl, refl, refl, refl, refl, refl, refl, refl, refl, refl)
 
 list_tags : ListTags
 unfolding page_computed
-list_tags = (refl, refl, refl, refl, refl, refl, refl, refl, refl, refl, refl, refl)
+list_tags = (refl, refl, refl, refl, refl, refl, refl, refl, refl, refl, refl, refl, refl, refl)
 
 code_texts : CodeTexts
 unfolding page_computed
@@ -23,6 +23,10 @@ html_texts = (refl, refl)
 page_definitions : PageDefinitions
 unfolding page_computed
 page_definitions = (refl, refl, refl, refl, refl)
+
+page_rules : PageRules
+unfolding page_computed
+page_rules = (refl, refl)
 
 line_endings : LineEndings
 unfolding page_computed
@@ -37,4 +41,4 @@ unfolding page_computed
 standard_choices = (refl, refl, refl, refl, refl, refl, refl)
 
 pub returns : goal.returns
-returns c = (line_feeds, list_tags, code_texts, html_texts, page_definitions, line_endings, safe_pages, standard_choices)
+returns c = (line_feeds, list_tags, code_texts, html_texts, page_definitions, page_rules, line_endings, safe_pages, standard_choices)
