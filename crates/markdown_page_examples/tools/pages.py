@@ -61,12 +61,12 @@ def write_standard(path):
 
 
 def standard_rows():
-    """The rows of the standard, by groups."""
+    """The rows of the standard, by groups, whose names say that they are pages."""
     documents = groups_of(os.path.join(HERE, '../markdown_block_examples/tools/standard.txt'))
     answers = groups_of(os.path.join(HERE, 'tools/standard.txt'))
     if [(name, len(rows)) for name, rows in documents.items()] != [(name, len(rows)) for name, rows in answers.items()]:
         sys.exit('the HTML of some example is missing')
-    return {name: ['«%s»: %s' % (blocks.divided(row)[0], answer) for row, answer in zip(rows, answers[name])] for name, rows in documents.items()}
+    return {'PagesOf' + name: ['«%s»: %s' % (blocks.divided(row)[0], answer) for row, answer in zip(rows, answers[name])] for name, rows in documents.items()}
 
 
 def rows():
@@ -95,7 +95,7 @@ def main():
         write('proofs/%s/Answers.antt' % function,
               ['-- %s: both sides of each row compute to one list. Written by tools/pages.py.' % title, 'use Rattle.std.proofs.Common.{refl}',
                'use Rattle.markdown_page_examples.proofs.PageComputed.{page_computed}',
-               'use Rattle.markdown_page_examples.specs.%s.{%s}' % (name, ', '.join(groups)),
+               *['use Rattle.markdown_page_examples.specs.%s.{%s}' % (name, ', '.join(list(groups)[at:at + 10])) for at in range(0, len(groups), 10)],
                'use Rattle.markdown_page_examples.proofs.%s.Goals as goal' % function, *proof,
                '', 'pub returns : goal.returns', 'returns c = (%s)' % ', '.join(map(snake, groups))])
 

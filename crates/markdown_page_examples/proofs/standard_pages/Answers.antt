@@ -1,112 +1,114 @@
 -- The HTML of the examples of CommonMark: both sides of each row compute to one list. Written by tools/pages.py.
 use Rattle.std.proofs.Common.{refl}
 use Rattle.markdown_page_examples.proofs.PageComputed.{page_computed}
-use Rattle.markdown_page_examples.specs.StandardPages.{Tabs, BackslashEscapes, References, Precedence, ThematicBreaks, AtxHeadings, SetextHeadings, IndentedCode, FencedCode, HtmlBlocks, Definitions, Paragraphs, BlankLines, BlockQuotes, ListItems, Lists, Inlines, CodeSpans, Emphasis, Links, Images, Autolinks, RawHtml, HardBreaks, SoftBreaks, TextualContent}
+use Rattle.markdown_page_examples.specs.StandardPages.{PagesOfTabs, PagesOfBackslashEscapes, PagesOfReferences, PagesOfPrecedence, PagesOfThematicBreaks, PagesOfAtxHeadings, PagesOfSetextHeadings, PagesOfIndentedCode, PagesOfFencedCode, PagesOfHtmlBlocks}
+use Rattle.markdown_page_examples.specs.StandardPages.{PagesOfDefinitions, PagesOfParagraphs, PagesOfBlankLines, PagesOfBlockQuotes, PagesOfListItems, PagesOfLists, PagesOfInlines, PagesOfCodeSpans, PagesOfEmphasis, PagesOfLinks}
+use Rattle.markdown_page_examples.specs.StandardPages.{PagesOfImages, PagesOfAutolinks, PagesOfRawHtml, PagesOfHardBreaks, PagesOfSoftBreaks, PagesOfTextualContent}
 use Rattle.markdown_page_examples.proofs.standard_pages.Goals as goal
 
-tabs : Tabs
+pages_of_tabs : PagesOfTabs
 unfolding page_computed
-tabs = (refl, refl, refl, refl, refl, refl, refl, refl, refl, refl, refl)
+pages_of_tabs = (refl, refl, refl, refl, refl, refl, refl, refl, refl, refl, refl)
 
-backslash_escapes : BackslashEscapes
+pages_of_backslash_escapes : PagesOfBackslashEscapes
 unfolding page_computed
-backslash_escapes = (refl, refl, refl, refl, refl, refl, refl, refl, refl, refl, refl, refl, refl)
+pages_of_backslash_escapes = (refl, refl, refl, refl, refl, refl, refl, refl, refl, refl, refl, refl, refl)
 
-references : References
+pages_of_references : PagesOfReferences
 unfolding page_computed
-references = (refl, refl, refl, refl, refl, refl, refl, refl, refl, refl, refl, refl, refl, refl, refl, refl, refl)
+pages_of_references = (refl, refl, refl, refl, refl, refl, refl, refl, refl, refl, refl, refl, refl, refl, refl, refl, refl)
 
-precedence : Precedence
+pages_of_precedence : PagesOfPrecedence
 unfolding page_computed
-precedence = (refl)
+pages_of_precedence = (refl)
 
-thematic_breaks : ThematicBreaks
+pages_of_thematic_breaks : PagesOfThematicBreaks
 unfolding page_computed
-thematic_breaks = (refl, refl, refl, refl, refl, refl, refl, refl, refl, refl, refl, refl, refl, refl, refl, refl, refl, refl, refl)
+pages_of_thematic_breaks = (refl, refl, refl, refl, refl, refl, refl, refl, refl, refl, refl, refl, refl, refl, refl, refl, refl, refl, refl)
 
-atx_headings : AtxHeadings
+pages_of_atx_headings : PagesOfAtxHeadings
 unfolding page_computed
-atx_headings = (refl, refl, refl, refl, refl, refl, refl, refl, refl, refl, refl, refl, refl, refl, refl, refl, refl, refl)
+pages_of_atx_headings = (refl, refl, refl, refl, refl, refl, refl, refl, refl, refl, refl, refl, refl, refl, refl, refl, refl, refl)
 
-setext_headings : SetextHeadings
+pages_of_setext_headings : PagesOfSetextHeadings
 unfolding page_computed
-setext_headings = (refl, refl, refl, refl, refl, refl, refl, refl, refl, refl, refl, refl, refl, refl, refl, refl, refl, refl, refl, refl, refl, refl, refl, refl, refl, refl, refl)
+pages_of_setext_headings = (refl, refl, refl, refl, refl, refl, refl, refl, refl, refl, refl, refl, refl, refl, refl, refl, refl, refl, refl, refl, refl, refl, refl, refl, refl, refl, refl)
 
-indented_code : IndentedCode
+pages_of_indented_code : PagesOfIndentedCode
 unfolding page_computed
-indented_code = (refl, refl, refl, refl, refl, refl, refl, refl, refl, refl, refl, refl)
+pages_of_indented_code = (refl, refl, refl, refl, refl, refl, refl, refl, refl, refl, refl, refl)
 
-fenced_code : FencedCode
+pages_of_fenced_code : PagesOfFencedCode
 unfolding page_computed
-fenced_code = (refl, refl, refl, refl, refl, refl, refl, refl, refl, refl, refl, refl, refl, refl, refl, refl, refl, refl, refl, refl, refl, refl, refl, refl, refl, refl, refl, refl, refl)
+pages_of_fenced_code = (refl, refl, refl, refl, refl, refl, refl, refl, refl, refl, refl, refl, refl, refl, refl, refl, refl, refl, refl, refl, refl, refl, refl, refl, refl, refl, refl, refl, refl)
 
-html_blocks : HtmlBlocks
+pages_of_html_blocks : PagesOfHtmlBlocks
 unfolding page_computed
-html_blocks = (refl, refl, refl, refl, refl, refl, refl, refl, refl, refl, refl, refl, refl, refl, refl, refl, refl, refl, refl, refl, refl, refl, refl, refl, refl, refl, refl, refl, refl, refl, refl, refl, refl, refl, refl, refl, refl, refl, refl, refl, refl, refl, refl, refl)
+pages_of_html_blocks = (refl, refl, refl, refl, refl, refl, refl, refl, refl, refl, refl, refl, refl, refl, refl, refl, refl, refl, refl, refl, refl, refl, refl, refl, refl, refl, refl, refl, refl, refl, refl, refl, refl, refl, refl, refl, refl, refl, refl, refl, refl, refl, refl, refl)
 
-definitions : Definitions
+pages_of_definitions : PagesOfDefinitions
 unfolding page_computed
-definitions = (refl, refl, refl, refl, refl, refl, refl, refl, refl, refl, refl, refl, refl, refl, refl, refl, refl, refl, refl, refl, refl, refl, refl, refl, refl, refl, refl)
+pages_of_definitions = (refl, refl, refl, refl, refl, refl, refl, refl, refl, refl, refl, refl, refl, refl, refl, refl, refl, refl, refl, refl, refl, refl, refl, refl, refl, refl, refl)
 
-paragraphs : Paragraphs
+pages_of_paragraphs : PagesOfParagraphs
 unfolding page_computed
-paragraphs = (refl, refl, refl, refl, refl, refl, refl, refl)
+pages_of_paragraphs = (refl, refl, refl, refl, refl, refl, refl, refl)
 
-blank_lines : BlankLines
+pages_of_blank_lines : PagesOfBlankLines
 unfolding page_computed
-blank_lines = (refl)
+pages_of_blank_lines = (refl)
 
-block_quotes : BlockQuotes
+pages_of_block_quotes : PagesOfBlockQuotes
 unfolding page_computed
-block_quotes = (refl, refl, refl, refl, refl, refl, refl, refl, refl, refl, refl, refl, refl, refl, refl, refl, refl, refl, refl, refl, refl, refl, refl, refl, refl)
+pages_of_block_quotes = (refl, refl, refl, refl, refl, refl, refl, refl, refl, refl, refl, refl, refl, refl, refl, refl, refl, refl, refl, refl, refl, refl, refl, refl, refl)
 
-list_items : ListItems
+pages_of_list_items : PagesOfListItems
 unfolding page_computed
-list_items = (refl, refl, refl, refl, refl, refl, refl, refl, refl, refl, refl, refl, refl, refl, refl, refl, refl, refl, refl, refl, refl, refl, refl, refl, refl, refl, refl, refl, refl, refl, refl, refl, refl, refl, refl, refl, refl, refl, refl, refl, refl, refl, refl, refl, refl, refl, refl, refl)
+pages_of_list_items = (refl, refl, refl, refl, refl, refl, refl, refl, refl, refl, refl, refl, refl, refl, refl, refl, refl, refl, refl, refl, refl, refl, refl, refl, refl, refl, refl, refl, refl, refl, refl, refl, refl, refl, refl, refl, refl, refl, refl, refl, refl, refl, refl, refl, refl, refl, refl, refl)
 
-lists : Lists
+pages_of_lists : PagesOfLists
 unfolding page_computed
-lists = (refl, refl, refl, refl, refl, refl, refl, refl, refl, refl, refl, refl, refl, refl, refl, refl, refl, refl, refl, refl, refl, refl, refl, refl, refl, refl)
+pages_of_lists = (refl, refl, refl, refl, refl, refl, refl, refl, refl, refl, refl, refl, refl, refl, refl, refl, refl, refl, refl, refl, refl, refl, refl, refl, refl, refl)
 
-inlines : Inlines
+pages_of_inlines : PagesOfInlines
 unfolding page_computed
-inlines = (refl)
+pages_of_inlines = (refl)
 
-code_spans : CodeSpans
+pages_of_code_spans : PagesOfCodeSpans
 unfolding page_computed
-code_spans = (refl, refl, refl, refl, refl, refl, refl, refl, refl, refl, refl, refl, refl, refl, refl, refl, refl, refl, refl, refl, refl, refl)
+pages_of_code_spans = (refl, refl, refl, refl, refl, refl, refl, refl, refl, refl, refl, refl, refl, refl, refl, refl, refl, refl, refl, refl, refl, refl)
 
-emphasis : Emphasis
+pages_of_emphasis : PagesOfEmphasis
 unfolding page_computed
-emphasis = (refl, refl, refl, refl, refl, refl, refl, refl, refl, refl, refl, refl, refl, refl, refl, refl, refl, refl, refl, refl, refl, refl, refl, refl, refl, refl, refl, refl, refl, refl, refl, refl, refl, refl, refl, refl, refl, refl, refl, refl, refl, refl, refl, refl, refl, refl, refl, refl, refl, refl, refl, refl, refl, refl, refl, refl, refl, refl, refl, refl, refl, refl, refl, refl, refl, refl, refl, refl, refl, refl, refl, refl, refl, refl, refl, refl, refl, refl, refl, refl, refl, refl, refl, refl, refl, refl, refl, refl, refl, refl, refl, refl, refl, refl, refl, refl, refl, refl, refl, refl, refl, refl, refl, refl, refl, refl, refl, refl, refl, refl, refl, refl, refl, refl, refl, refl, refl, refl, refl, refl, refl, refl, refl, refl, refl, refl, refl, refl, refl, refl, refl)
+pages_of_emphasis = (refl, refl, refl, refl, refl, refl, refl, refl, refl, refl, refl, refl, refl, refl, refl, refl, refl, refl, refl, refl, refl, refl, refl, refl, refl, refl, refl, refl, refl, refl, refl, refl, refl, refl, refl, refl, refl, refl, refl, refl, refl, refl, refl, refl, refl, refl, refl, refl, refl, refl, refl, refl, refl, refl, refl, refl, refl, refl, refl, refl, refl, refl, refl, refl, refl, refl, refl, refl, refl, refl, refl, refl, refl, refl, refl, refl, refl, refl, refl, refl, refl, refl, refl, refl, refl, refl, refl, refl, refl, refl, refl, refl, refl, refl, refl, refl, refl, refl, refl, refl, refl, refl, refl, refl, refl, refl, refl, refl, refl, refl, refl, refl, refl, refl, refl, refl, refl, refl, refl, refl, refl, refl, refl, refl, refl, refl, refl, refl, refl, refl, refl)
 
-links : Links
+pages_of_links : PagesOfLinks
 unfolding page_computed
-links = (refl, refl, refl, refl, refl, refl, refl, refl, refl, refl, refl, refl, refl, refl, refl, refl, refl, refl, refl, refl, refl, refl, refl, refl, refl, refl, refl, refl, refl, refl, refl, refl, refl, refl, refl, refl, refl, refl, refl, refl, refl, refl, refl, refl, refl, refl, refl, refl, refl, refl, refl, refl, refl, refl, refl, refl, refl, refl, refl, refl, refl, refl, refl, refl, refl, refl, refl, refl, refl, refl, refl, refl, refl, refl, refl, refl, refl, refl, refl, refl, refl, refl, refl, refl, refl, refl, refl, refl, refl, refl)
+pages_of_links = (refl, refl, refl, refl, refl, refl, refl, refl, refl, refl, refl, refl, refl, refl, refl, refl, refl, refl, refl, refl, refl, refl, refl, refl, refl, refl, refl, refl, refl, refl, refl, refl, refl, refl, refl, refl, refl, refl, refl, refl, refl, refl, refl, refl, refl, refl, refl, refl, refl, refl, refl, refl, refl, refl, refl, refl, refl, refl, refl, refl, refl, refl, refl, refl, refl, refl, refl, refl, refl, refl, refl, refl, refl, refl, refl, refl, refl, refl, refl, refl, refl, refl, refl, refl, refl, refl, refl, refl, refl, refl)
 
-images : Images
+pages_of_images : PagesOfImages
 unfolding page_computed
-images = (refl, refl, refl, refl, refl, refl, refl, refl, refl, refl, refl, refl, refl, refl, refl, refl, refl, refl, refl, refl, refl, refl)
+pages_of_images = (refl, refl, refl, refl, refl, refl, refl, refl, refl, refl, refl, refl, refl, refl, refl, refl, refl, refl, refl, refl, refl, refl)
 
-autolinks : Autolinks
+pages_of_autolinks : PagesOfAutolinks
 unfolding page_computed
-autolinks = (refl, refl, refl, refl, refl, refl, refl, refl, refl, refl, refl, refl, refl, refl, refl, refl, refl, refl, refl)
+pages_of_autolinks = (refl, refl, refl, refl, refl, refl, refl, refl, refl, refl, refl, refl, refl, refl, refl, refl, refl, refl, refl)
 
-raw_html : RawHtml
+pages_of_raw_html : PagesOfRawHtml
 unfolding page_computed
-raw_html = (refl, refl, refl, refl, refl, refl, refl, refl, refl, refl, refl, refl, refl, refl, refl, refl, refl, refl, refl, refl, refl)
+pages_of_raw_html = (refl, refl, refl, refl, refl, refl, refl, refl, refl, refl, refl, refl, refl, refl, refl, refl, refl, refl, refl, refl, refl)
 
-hard_breaks : HardBreaks
+pages_of_hard_breaks : PagesOfHardBreaks
 unfolding page_computed
-hard_breaks = (refl, refl, refl, refl, refl, refl, refl, refl, refl, refl, refl, refl, refl, refl, refl)
+pages_of_hard_breaks = (refl, refl, refl, refl, refl, refl, refl, refl, refl, refl, refl, refl, refl, refl, refl)
 
-soft_breaks : SoftBreaks
+pages_of_soft_breaks : PagesOfSoftBreaks
 unfolding page_computed
-soft_breaks = (refl, refl)
+pages_of_soft_breaks = (refl, refl)
 
-textual_content : TextualContent
+pages_of_textual_content : PagesOfTextualContent
 unfolding page_computed
-textual_content = (refl, refl, refl)
+pages_of_textual_content = (refl, refl, refl)
 
 pub returns : goal.returns
-returns c = (tabs, backslash_escapes, references, precedence, thematic_breaks, atx_headings, setext_headings, indented_code, fenced_code, html_blocks, definitions, paragraphs, blank_lines, block_quotes, list_items, lists, inlines, code_spans, emphasis, links, images, autolinks, raw_html, hard_breaks, soft_breaks, textual_content)
+returns c = (pages_of_tabs, pages_of_backslash_escapes, pages_of_references, pages_of_precedence, pages_of_thematic_breaks, pages_of_atx_headings, pages_of_setext_headings, pages_of_indented_code, pages_of_fenced_code, pages_of_html_blocks, pages_of_definitions, pages_of_paragraphs, pages_of_blank_lines, pages_of_block_quotes, pages_of_list_items, pages_of_lists, pages_of_inlines, pages_of_code_spans, pages_of_emphasis, pages_of_links, pages_of_images, pages_of_autolinks, pages_of_raw_html, pages_of_hard_breaks, pages_of_soft_breaks, pages_of_textual_content)
