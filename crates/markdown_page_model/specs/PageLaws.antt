@@ -1,8 +1,17 @@
--- What options promise of the HTML of a document.
+-- Laws on texts, and what options promise of the HTML of a document.
 use Rattle.std.specs.Prelude.{◌≡◌, ℕ, List, true, false}
+use Rattle.std.specs.List.{list_any}
+use Rattle.markdown_event.specs.declared.event.Point.{Point}
+use Rattle.markdown_content.specs.Codes.{codes_from, is_line_ending_byte}
 use Rattle.markdown_html_model.specs.declared.options.HtmlOptions.{HtmlOptions}
+use Rattle.markdown_page_model.specs.PageTexts.{text_of}
 use Rattle.markdown_page_model.specs.PageHtml.{document_html}
 use Rattle.markdown_page_model.specs.PageMarkup.{IsOwnPage}
+
+-- from a place in no tab the text of the codes is the bytes themselves, where no line ending is among them
+abbrev pub TextsAreBytes : Type 0
+TextsAreBytes =
+    (before : ℕ) (p : Point) (bytes : List ℕ) → p.vs ≡ 0 → list_any is_line_ending_byte bytes ≡ false → text_of (codes_from before p bytes) ≡ bytes
 
 -- with raw HTML off the page is the writer's own markup
 abbrev pub NoMarkupFromDocument : Type 0

@@ -3,7 +3,12 @@
 //! Nothing here is run. A function of this crate has no parameters and an empty body: its contract is a law, and the check proves it.
 #![tactic(auto)]
 
-ghost use Rattle.markdown_page_model.specs.PageLaws.{NoMarkupFromDocument, NoScriptFromDocument};
+ghost use Rattle.markdown_page_model.specs.PageLaws.{TextsAreBytes, NoMarkupFromDocument, NoScriptFromDocument};
+
+/// The text of a line is its bytes: no byte is lost, and a tab that is not cut stays a tab.
+pub fn texts_are_bytes()
+    ensures { TextsAreBytes }
+{}
 
 /// No text of a document becomes markup. With raw HTML off the HTML of any document is a sequence of texts without `<`, `>` and `"` and of elements of a
 /// list, balanced and nested.
