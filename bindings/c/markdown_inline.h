@@ -288,7 +288,7 @@ enum { MARKDOWN_INLINE_STRING_LINE_FEEDS = 0x1, MARKDOWN_INLINE_STRING_REPLACED_
 /* The number of no event, and of no content, no string, no definition and no byte that is refused. */
 #define MARKDOWN_INLINE_NONE SIZE_MAX
 
-/* The number of no definition, in a short event. */
+/* The number of no definition and the code point of no character, in a short event. */
 #define MARKDOWN_INLINE_NO_DEFINITION UINT32_MAX
 
 /* A piece of a document, from a place to a place. A place is a byte and a column, which is 0 unless the byte is a tab: then it is how many columns of
@@ -347,10 +347,11 @@ typedef struct markdown_inline_event {
     size_t previous, next;
 } markdown_inline_event;
 
-/* An event in 16 bytes, without its line, its column and the numbers of its chain. If the event is the Enter of a link or an image that refers to a
- * definition, `definition` is the number of that definition in the input; if it is the Enter of a footnote call, that of the footnote in the input. Of
- * several with one identifier the first counts. For all other events, and for numbers that do not fit, it is MARKDOWN_INLINE_NO_DEFINITION. `vs` is 255
- * at most. */
+/* An event in 16 bytes, without its line, its column and the numbers of its chain. The event's name tells what `definition` is: of the Enter of a link or an
+ * image that refers to a definition, the number of that definition in the input; of the Enter of a footnote call, that of the footnote in the input; of the
+ * Enter of a character reference that stands for one character, the code point of that character. Of several definitions with one identifier the first
+ * counts. For all other events, and for numbers that do not fit, it is MARKDOWN_INLINE_NO_DEFINITION: so of a reference by a name that stands for two
+ * characters, as `&ngE;`, whose text markdown_inline_reference finds. `vs` is 255 at most. */
 typedef struct markdown_inline_short_event {
     uint8_t kind, name, link, vs;
     uint32_t definition;
@@ -461,9 +462,9 @@ MARKDOWN_INLINE_API uint32_t markdown_inline_reference(uint32_t options, const u
 MARKDOWN_INLINE_API uint32_t markdown_inline_texts(const markdown_inline_input *input, const markdown_inline_content *contents, size_t contents_len,
     markdown_inline_event *events, size_t events_len, size_t *ends, size_t ends_len, markdown_inline_outcome *outcome);
 
-/* Finds the same events in 16 bytes each, with the definitions that links, images and footnote calls refer to: which is all that a renderer needs. An
- * event has the number of a definition and no copy of what that says, so the call has no limit. A caller that copies destinations and titles to
- * references needs a limit, as markdown_inline_html has. */
+/* Finds the same events in 16 bytes each, with the definitions that links, images and footnote calls refer to, and the characters that character references
+ * stand for: which is all that a renderer needs. An event has the number of a definition and no copy of what that says, so the call has no limit. A caller
+ * that copies destinations and titles to references needs a limit, as markdown_inline_html has. */
 MARKDOWN_INLINE_API uint32_t markdown_inline_short_texts(const markdown_inline_input *input, const markdown_inline_content *contents, size_t contents_len,
     markdown_inline_short_event *events, size_t events_len, size_t *ends, size_t ends_len, markdown_inline_outcome *outcome);
 

@@ -378,6 +378,34 @@ static void test_short_texts(void) {
     want("how many refer to a definition", met == 8);
 }
 
+/* Short events tell the characters of references by these options; NO_DEFINITION stands for a reference of two characters. */
+static void want_characters(const char *text, uint32_t options, const uint32_t *wanted, size_t wanted_len) {
+    markdown_inline_piece piece = whole(text);
+    markdown_inline_content content = {{0, 1}, 0, 0};
+    markdown_inline_input input = input_of(text, &piece);
+    markdown_inline_short_event found[256];
+    markdown_inline_outcome outcome;
+    size_t end = 0, met = 0;
+    input.options = options;
+    want("a text with references", markdown_inline_short_texts(&input, &content, 1, found, 256, &end, 1, &outcome) == MARKDOWN_INLINE_DONE);
+    for (size_t at = 0; at < end; at++) {
+        int is_reference = found[at].kind == MARKDOWN_INLINE_ENTER && found[at].name == MARKDOWN_INLINE_NAME_CHARACTER_REFERENCE;
+        want("which character a reference stands for", is_reference ? met < wanted_len && found[at].definition == wanted[met] : found[at].definition == MARKDOWN_INLINE_NO_DEFINITION);
+        met += is_reference;
+    }
+    want("how many references there are", met == wanted_len);
+}
+
+/* CommonMark 2.5: U+FFFD stands for 0, for surrogates and for what is past the last code point. The shorter table lacks `check`. */
+static void test_characters(void) {
+    static const char text[] = "&amp;*&#65;* ![&#x1F600;](&lt; '&gt;') &copy; &#1; &ngE; &#0; &#xd800; &#x110000; &check; &nosuch; `&lt;` &gt";
+    static const uint32_t by_commonmark[] = {'&', 'A', 0x1f600, 0xa9, 1, MARKDOWN_INLINE_NO_DEFINITION, 0xfffd, 0xfffd, 0xfffd, 0x2713};
+    static const uint32_t by_the_crate[] = {'&', 'A', 0x1f600, 0xa9, 0xfffd, MARKDOWN_INLINE_NO_DEFINITION, 0xfffd, 0xfffd, 0xfffd};
+    want_characters(text, MARKDOWN_INLINE_COMMONMARK, by_commonmark, 10);
+    want_characters(text, MARKDOWN_INLINE_CRATE, by_the_crate, 9);
+    want_characters("a *b* [c](d)", MARKDOWN_INLINE_COMMONMARK, NULL, 0);
+}
+
 /* What the header says of pieces, of contents and of ids. */
 static void test_the_header(void) {
     static const char quote[] = "> a *b\n> c*";
@@ -931,6 +959,7 @@ int main(int argc, char **argv) {
     test_texts();
     test_texts_refused();
     test_short_texts();
+    test_characters();
     test_the_header();
     test_ids();
     test_html();

@@ -168,6 +168,18 @@ class Calls(unittest.TestCase):
         self.assertEqual(met, [(*it, Kind.Enter) for it in begins])
         self.assertEqual([it[:3] for it in found.flat() if it[2] < 2 ** 32 - 1], [(Kind.Enter, name, number) for name, _, number in begins])
 
+    def test_short_events_tell_the_characters_of_references(self):
+        # CommonMark 2.5: U+FFFD for 0, for surrogates, and for what is past the last code point. Two characters have no code point.
+        document = '&amp; *&#65;* [&#x1f600;](&lt; "&gt;") &copy; &#1; &ngE; &#0; &#xd800; &#x110000; &check; &nosuch; `&amp;`'
+        for options, characters in (({}, '&A😀©\1\ufffd\ufffd\ufffd✓'), ({'rules': 'crate'}, '&A😀©\ufffd\ufffd\ufffd\ufffd')):
+            found, = short_texts(document, [Content([(0, len(document))])], definitions=['c'], **options)
+            references = [it for it in found if it.kind == Kind.Enter and it.name == Name.CharacterReference]
+            self.assertEqual(''.join(it.stands_for for it in references if it.stands_for), characters)
+            self.assertEqual([it.index for it in references if it.stands_for is None], [document.index('&ngE;')])
+            self.assertEqual([it for it in found if it.definition is not None], [])
+            self.assertEqual([it for it in found if it.stands_for and it not in references], [])
+            self.assertEqual([number for kind, name, number, _ in found.flat() if number < 2 ** 32 - 1], list(map(ord, characters)))
+
     def test_labels_go_by_their_text(self):
         # By CommonMark what a content leaves out is no part of a label; else the identifier is that of all bytes of the document.
         document, pieces = '> [a\n> b]', [(2, 5), (7, 9)]

@@ -46,9 +46,9 @@ def shown(event, places):
 
 def shown_short(event, places):
     places.check(event.index, event.character)
-    definition = '' if event.definition is None else ':%d' % event.definition
+    told = ord(event.stands_for) if event.stands_for else event.definition
     link = (None, 'String', 'Text').index(event.link)
-    return ' %s%s %d:%d:%d%s' % ('+' if event.kind == Kind.Enter else '-', event.name, event.index, event.vs, link, definition)
+    return ' %s%s %d:%d:%d%s' % ('+' if event.kind == Kind.Enter else '-', event.name, event.index, event.vs, link, '' if told is None else ':%d' % told)
 
 
 def shown_leaf(leaf, places):

@@ -103,7 +103,8 @@ export interface Event {
   link: Chain | null;
 }
 
-/** The beginning or the end of something, without its line and column, with the number of the definition or the footnote that it refers to. */
+/** The beginning or the end of something, without its line and column, with the number of the definition or the footnote that it refers to, or with the
+ * character that a character reference stands for: null where it stands for two. */
 export interface ShortEvent {
   enter: boolean;
   name: Name;
@@ -113,6 +114,7 @@ export interface ShortEvent {
   byte: number;
   link: 'String' | 'Text' | null;
   definition: number | null;
+  standsFor: string | null;
 }
 
 /** What stands inside an event that has no other inside. `before` and `after` count virtual spaces of tabs on either side of the content. */

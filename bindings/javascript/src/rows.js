@@ -55,10 +55,10 @@ export class ShortEvents extends Rows {
   get size() { return SHORT_EVENT / 4; }
 
   row(at) {
-    const { words, unit } = this, head = words[at];
+    const { words, unit } = this, head = words[at], name = NAMES[head >> 8 & 255], told = numberOf(words[at + 1]), isReference = name === 'CharacterReference';
     return {
-      enter: (head & 255) === 0, name: NAMES[head >> 8 & 255], offset: words[at + 2 + unit], vs: head >>> 24, byte: words[at + 2],
-      link: CONTENTS[head >> 16 & 255], definition: numberOf(words[at + 1]),
+      enter: (head & 255) === 0, name, offset: words[at + 2 + unit], vs: head >>> 24, byte: words[at + 2], link: CONTENTS[head >> 16 & 255],
+      definition: isReference ? null : told, standsFor: isReference && told !== null ? String.fromCodePoint(told) : null,
     };
   }
 }

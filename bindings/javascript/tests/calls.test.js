@@ -114,6 +114,11 @@ test('offsets count units of UTF-16', () => {
   assert.equal(html(bytesOf('\ufeffa')), '\ufeffa');
 });
 
+test('short events tell the characters of references', () => {
+  const told = [...shortTexts('&amp; &#x1f600; &ngE; &#0; [a](b)', [[0, 33]]).at(0)].filter(({ enter, name }) => enter && name === 'CharacterReference');
+  assert.deepEqual(told.map(({ standsFor, definition }) => [standsFor, definition]), [['&', null], ['😀', null], [null, null], ['\ufffd', null]]);
+});
+
 test('definitions are a list, a Map or an object', () => {
   const numberOf = (definitions) => shortTexts('[A  b]', [[0, 6]], { definitions }).at(0).at(0).definition;
   for (const definitions of [['c', 'a b'], new Set(['c', 'a b']), new Map([['c', ''], ['a b', '']]), { c: '', 'a b': '' }]) assert.equal(numberOf(definitions), 1);

@@ -44,7 +44,8 @@ function shown(it, places) {
 
 function shownShort(it, places) {
   check(places, it.byte, it.offset);
-  return ` ${it.enter ? '+' : '-'}${it.name} ${it.byte}:${it.vs}:${[null, 'String', 'Text'].indexOf(it.link)}${it.definition === null ? '' : ':' + it.definition}`;
+  const told = it.definition ?? it.standsFor?.codePointAt(0) ?? null;
+  return ` ${it.enter ? '+' : '-'}${it.name} ${it.byte}:${it.vs}:${[null, 'String', 'Text'].indexOf(it.link)}${told === null ? '' : ':' + told}`;
 }
 
 function shownLeaf(it, places) {

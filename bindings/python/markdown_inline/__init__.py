@@ -230,12 +230,14 @@ def texts(document: Text, contents: Contents, gfm: bool = False, math: bool = Fa
 
 def short_texts(document: Text, contents: Contents, gfm: bool = False, math: bool = False, *, rules: Rules = 'commonmark', options: Optional[int] = None,
                 definitions: Iterable[Text] = (), footnotes: Iterable[Text] = ()) -> ShortTexts:
-    """The same events without their lines and columns, with the numbers of the definitions that links, images and footnote calls refer to. The rest is as of
-    `texts`.
+    """The same events without their lines and columns, with the numbers of the definitions that links, images and footnote calls refer to, and the characters
+    that character references stand for. The rest is as of `texts`.
 
-    >>> events = short_texts('[a](b) [c]', [Content([(0, 10)])], definitions=['d', 'C'])[0]
+    >>> events = short_texts('[a](b) [c]&copy;', [Content([(0, 16)])], definitions=['d', 'C'])[0]
     >>> [event.definition for event in events if event.kind == Kind.Enter and event.name == Name.Link]
     [None, 1]
+    >>> [event.stands_for for event in events if event.stands_for]
+    ['©']
     """
     bits = _bits(options, rules, gfm, math)
     return ShortTexts(*_texts('markdown_inline_short_texts', _library.SHORT_SIZE, document, contents, bits, definitions, footnotes))

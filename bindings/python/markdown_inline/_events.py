@@ -56,7 +56,8 @@ class Event(NamedTuple):
 class ShortEvent(NamedTuple):
     """The beginning or the end of something, without its line and column. `link` is 'String' or 'Text' where it is to be read again. `definition` is the number of
     the definition that a link or an image refers to where it begins, in the order in which they were given, or that of the footnote where a footnote call
-    begins; else it is None. Of several with one identifier it is the first."""
+    begins; else it is None. Of several with one identifier it is the first. `stands_for` is the character that a character reference stands for where it begins;
+    it is None where it stands for two, and for all else."""
     kind: Kind
     name: Name
     index: int
@@ -64,6 +65,7 @@ class ShortEvent(NamedTuple):
     link: Optional[str]
     definition: Optional[int]
     character: Optional[int]
+    stands_for: Optional[str]
 
 
 class Leaf(NamedTuple):
@@ -226,15 +228,20 @@ class ShortEvents(_Rows[ShortEvent]):
     _ROW = SHORT
 
     def _made(self, row: Tuple[Any, ...]) -> ShortEvent:
-        kind, name, link, vs, definition, index = row
+        kind, name, link, vs, told, index = row
         characters = self._characters
         place = None if characters is None else characters.before(index)
-        return _new(ShortEvent, (
-            _KINDS[kind], _NAMES[name], index, vs, _CONTENTS[link], None if definition == _NO_DEFINITION else definition, place))
+        definition = character = None
+        if told != _NO_DEFINITION:
+            if name == Name.CharacterReference:
+                character = chr(told)
+            else:
+                definition = told
+        return _new(ShortEvent, (_KINDS[kind], _NAMES[name], index, vs, _CONTENTS[link], definition, place, character))
 
     def flat(self) -> Iterator[Tuple[int, int, int, int]]:
-        """The kind, the name, the definition and the byte of each event, as plain numbers: much faster than events. The number of no definition is
-        4,294,967,295."""
+        """The kind, the name, the definition and the byte of each event, as plain numbers: much faster than events. Of a character reference the code point of
+        its character stands in the definition's place. The number of no definition and of no character is 4,294,967,295."""
         return _FLAT_SHORT.iter_unpack(self._raw)
 
 

@@ -96,11 +96,12 @@ fn texts_of(input: &Input, contents: &str) -> Result<String, Refusal> {
 fn shown_short(event: ShortEvent) -> String {
     let sign = if event.is_enter() { '+' } else { '-' };
     let link = event.link.map_or(0, |content| content as u8 + 1);
-    let definition = event
+    let told = event
         .definition
+        .or(event.stands_for.map(|it| it as usize))
         .map_or(String::new(), |it| format!(":{it}"));
     format!(
-        " {sign}{} {}:{}:{link}{definition}",
+        " {sign}{} {}:{}:{link}{told}",
         event.name, event.index, event.vs
     )
 }

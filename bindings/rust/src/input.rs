@@ -367,7 +367,8 @@ impl<'a> Input<'a> {
         self.fill_texts(call, contents, &mut texts.events, &mut texts.ends)
     }
 
-    /// The same events in 16 bytes each, with the definitions that links, images and footnote calls refer to.
+    /// The same events in 16 bytes each, with the definitions that links, images and footnote calls refer to, and the characters that character references
+    /// stand for.
     ///
     /// # Errors
     ///

@@ -23,6 +23,8 @@ pub struct ShortEvent {
     /// Where a link or an image begins that refers to a definition, the number of that, in the order in which they were given; where a footnote call begins, the
     /// number of the footnote. Of several with one identifier it is the first.
     pub definition: Option<usize>,
+    /// Where a character reference begins, the character that it stands for; none where it stands for two.
+    pub stands_for: Option<char>,
     /// The byte, from 0.
     pub index: usize,
 }
@@ -36,12 +38,19 @@ pub struct ShortTexts {
 
 impl ShortEvent {
     fn of(raw: &RawShortEvent) -> ShortEvent {
+        let name = Name::ALL[usize::from(raw.name)];
+        let told = Some(raw.definition).filter(|told| *told != u32::MAX);
+        let (definition, stands_for) = match name {
+            Name::CharacterReference => (None, told.and_then(char::from_u32)),
+            _ => (told.map(|told| told as usize), None),
+        };
         ShortEvent {
             kind: Kind::of(raw.kind),
-            name: Name::ALL[usize::from(raw.name)],
+            name,
             link: Content::of(raw.link),
             vs: raw.vs,
-            definition: (raw.definition != u32::MAX).then_some(raw.definition as usize),
+            definition,
+            stands_for,
             index: raw.index,
         }
     }

@@ -277,6 +277,43 @@ fn short_events_tell_the_definitions_that_are_met() {
 }
 
 #[test]
+fn short_events_tell_the_characters_of_references() {
+    let content = TextContent {
+        pieces: 0..1,
+        ..TextContent::default()
+    };
+    let input = Input::new("&amp;[&#x1f600;](&lt;) &ngE; &#0; &#1; `&gt;`").definitions(["a"]);
+    let told = |input: &Input| {
+        let texts = input.short_texts(std::slice::from_ref(&content)).unwrap();
+        let events = texts.get(0).unwrap();
+        events
+            .filter(|it| it.stands_for.is_some() || it.name == Name::CharacterReference)
+            .filter(ShortEvent::is_enter)
+            .map(|it| (it.name, it.stands_for, it.definition))
+            .collect::<Vec<_>>()
+    };
+    let wanted =
+        |characters: [Option<char>; 5]| characters.map(|it| (Name::CharacterReference, it, None));
+    // The reference by a name that stands for two characters tells none.
+    let standard = [
+        Some('&'),
+        Some('\u{1f600}'),
+        None,
+        Some('\u{fffd}'),
+        Some('\u{1}'),
+    ];
+    assert_eq!(told(&input), wanted(standard));
+    let replaced = [
+        Some('&'),
+        Some('\u{1f600}'),
+        None,
+        Some('\u{fffd}'),
+        Some('\u{fffd}'),
+    ];
+    assert_eq!(told(&input.options(Options::CRATE)), wanted(replaced));
+}
+
+#[test]
 fn strings_have_their_texts() {
     let document = "[a](<b\\*c> 'd\r\n &copy; \u{e9}')";
     let parts = [5..9, 12..13, 13..15, 16..25];

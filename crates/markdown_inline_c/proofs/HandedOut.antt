@@ -6,7 +6,7 @@ use Rattle.std.proofs.lemmas.List.{drop-drop, flat_map_more, length-append, leng
 use Rattle.std.proofs.lemmas.Slice.{drop-put_mid, take-put_mid}
 use borrow.Rule.Slice.PartMut.{put_mid}
 use Rattle.markdown_inline_c.specs.HandingOut.{HasRoom, IsPlaced, counted}
-use Rattle.markdown_inline_c.specs.Many.{AreHandedOut, IsFront, ends_behind, one_list}
+use Rattle.markdown_inline_c.specs.Many.{AreHandedOut, ends_behind, one_list}
 use Rattle.markdown_inline_c.specs.declared.outcome.Outcome.{Outcome}
 
 one-push : {X : Type 0} (found : List (List X)) (x : List X) → one_list (found ++ x ∷ []) ≡ one_list found ++ x

@@ -1,3 +1,4 @@
+mod Characters
 mod Errors
 mod Filled
 mod HandedOut
@@ -8,5 +9,6 @@ mod Leaves
 mod MetDefinitions
 mod Noted
 mod Targets
+mod Told
 mod Written
 mod WrittenContents

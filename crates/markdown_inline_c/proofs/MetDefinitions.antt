@@ -1,5 +1,5 @@
 -- Which events refer to definitions.
-use Rattle.std.proofs.Common.{◌≡◌, ◌∙◌, ap, refl, ℕ, false, List, [], map, Option, None, Some}
+use Rattle.std.proofs.Common.{◌≡◌, ap, refl, ℕ, false, List, [], Option, None, Some}
 use Rattle.std.specs.Option.{option_and_then}
 use Rattle.markdown_tree.specs.Numbers.{number_of}
 use Rattle.markdown_tree.specs.Referred.{Given, behind, definition_of, first_inside, met, met_by, named_by_label, named_by_part, named_by_reference, named_by_tail, named_by_text, node_identifier, second_inside}
@@ -7,12 +7,10 @@ use Rattle.markdown_event.specs.declared.event.Event.{Event}
 use Rattle.markdown_event.specs.declared.event.Name.{Name}
 use Rattle.markdown_tree.specs.Nodes.{node_at}
 use Rattle.markdown_tree.specs.declared.node.Node.{Node}
-use Rattle.markdown_inline_c.specs.FlatEvents.{short_event}
-use Rattle.markdown_inline_c.specs.ShortEvents.{AreAllMet, HasNone, noted}
-use Rattle.markdown_inline_c.proofs.Noted.{none_noted}
+use Rattle.markdown_inline_c.specs.ShortEvents.{HasNone}
 
 -- a step that never finds anything
-and-none : {A B : Type 0} (f : A → Option B) (o : Option A) → ((a : A) → f a ≡ None) → option_and_then f o ≡ None
+pub and-none : {A B : Type 0} (f : A → Option B) (o : Option A) → ((a : A) → f a ≡ None) → option_and_then f o ≡ None
 and-none f None h = refl
 and-none f (Some a) h = h a
 
@@ -53,8 +51,3 @@ pub none_met : (g : Given) (es : List Event) (n : ℕ) → HasNone g → met g e
 none_met g es n none =
     and-none (λ (node : Node). option_and_then (met_by g es node.name) (first_inside es node)) (node_at es n)
     (λ (node : Node). and-none (met_by g es node.name) (first_inside es node) (λ label. by-name g es node.name label none))
-
--- Then there is nothing to note.
-
-pub none_given : (g : Given) (es : List Event) (found : List (ℕ × ℕ)) → found ≡ [] → HasNone g → AreAllMet (met g es) es found
-none_given g es found e none = ap (λ xs. noted xs (map (short_event None) es)) e ∙ none_noted (met g es) es (λ i l. none_met g es i none)

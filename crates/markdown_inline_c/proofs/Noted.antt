@@ -1,10 +1,11 @@
--- Definitions noted in short events.
-use Rattle.std.proofs.Common.{◌≡◌, ◌∙◌, sym, ap, refl, ℕ, zero, suc, ◌+◌, ◌<◌, ◌≤◌, List, [], ◌∷◌, ◌++◌, get_or, set, length, map, take, drop, append_assoc, arith, Option, None, Some}
+-- What is noted in short events.
+use Rattle.std.proofs.Common.{◌≡◌, ◌∙◌, sym, ap, refl, ℕ, zero, suc, ◌+◌, ◌-◌, ◌<◌, ◌≤◌, List, [], ◌∷◌, ◌++◌, get_or, set, length, map, take, drop, append_assoc, arith, inl, inr, Option, None, Some}
 use Rattle.std.proofs.lemmas.List.{drop_more, length-map, length-take-le, take_more}
+use Rattle.std.proofs.lemmas.Option.{slice_get_cases}
 use Rattle.markdown_engine_events.specs.EventChains.{changed_at}
 use Rattle.markdown_event.specs.declared.event.Event.{Event}
-use Rattle.markdown_inline_c.specs.FlatEvents.{referring_to, short_event}
-use Rattle.markdown_inline_c.specs.ShortEvents.{noted, short_from, with_met}
+use Rattle.markdown_inline_c.specs.FlatEvents.{telling, short_event}
+use Rattle.markdown_inline_c.specs.ShortEvents.{noted, short_from, with_told}
 use Rattle.markdown_inline_c.specs.declared.flat.ShortEvent.{ShortEvent}
 
 -- One element that is changed.
@@ -32,24 +33,24 @@ changed-seam f (y ∷ front) x rest = ap (λ ys. y ∷ ys) (changed-seam f front
 
 length-noted : (ms : List (ℕ × ℕ)) (es : List ShortEvent) → length (noted ms es) ≡ length es
 length-noted [] es = refl
-length-noted (met ∷ ms) es = length-noted ms (changed_at (referring_to met.1) met.0 es) ∙ length-changed (referring_to met.1) met.0 es
+length-noted (pair ∷ ms) es = length-noted ms (changed_at (telling pair.1) pair.0 es) ∙ length-changed (telling pair.1) pair.0 es
 
 pub length_noted : (ms : List (ℕ × ℕ)) (es : List Event) → length (noted ms (map (short_event None) es)) ≡ length es
 length_noted ms es = length-noted ms (map (short_event None) es) ∙ length-map es (short_event None)
 
-noted-push : (ms : List (ℕ × ℕ)) (met : ℕ × ℕ) (es : List ShortEvent) → noted (ms ++ met ∷ []) es ≡ changed_at (referring_to met.1) met.0 (noted ms es)
-noted-push [] met es = refl
-noted-push (m ∷ ms) met es = noted-push ms met (changed_at (referring_to m.1) m.0 es)
+noted-push : (ms : List (ℕ × ℕ)) (pair : ℕ × ℕ) (es : List ShortEvent) → noted (ms ++ pair ∷ []) es ≡ changed_at (telling pair.1) pair.0 (noted ms es)
+noted-push [] pair es = refl
+noted-push (m ∷ ms) pair es = noted-push ms pair (changed_at (telling m.1) m.0 es)
 
 pub noted_more : (ms : List (ℕ × ℕ)) (old array new : List ShortEvent) (at : ℕ) (d : ℕ × ℕ) → at < length ms → array ≡ noted (take at ms) old →
-    new ≡ changed_at (referring_to (get_or ms at d).1) (get_or ms at d).0 array → new ≡ noted (take (at + 1) ms) old
+    new ≡ changed_at (telling (get_or ms at d).1) (get_or ms at d).0 array → new ≡ noted (take (at + 1) ms) old
 noted_more ms old array new at d l so_far is =
     is
-    ∙ ap (changed_at (referring_to (get_or ms at d).1) (get_or ms at d).0) so_far
+    ∙ ap (changed_at (telling (get_or ms at d).1) (get_or ms at d).0) so_far
     ∙ sym (noted-push (take at ms) (get_or ms at d) old)
     ∙ ap (λ xs. noted xs old) (sym (take_more ms at d l))
 
--- Short events, with definitions up to some event.
+-- Short events, with what they tell up to some event.
 
 length-short : (m : ℕ → Option ℕ) (n : ℕ) (es : List Event) → length (short_from m n es) ≡ length es
 length-short m n [] = refl
@@ -88,18 +89,31 @@ pass_met m es ms i k d l is so_far =
     let rest = map (short_event None) (drop (i + 1) es) in
     let at : length front ≡ i = length-short m 0 (take i es) ∙ length-take-le i es (omega (arith, l)) in
     noted-push ms (i, k) (map (short_event None) es)
-    ∙ ap (changed_at (referring_to k) i) (so_far ∙ up-to-here m es i d l)
-    ∙ ap (λ n. changed_at (referring_to k) n (front ++ short_event None (get_or es i d) ∷ rest)) (sym at)
-    ∙ changed-seam (referring_to k) front (short_event None (get_or es i d)) rest
+    ∙ ap (changed_at (telling k) i) (so_far ∙ up-to-here m es i d l)
+    ∙ ap (λ n. changed_at (telling k) n (front ++ short_event None (get_or es i d) ∷ rest)) (sym at)
+    ∙ changed-seam (telling k) front (short_event None (get_or es i d)) rest
     ∙ ap (λ o. front ++ short_event o (get_or es i d) ∷ rest) (sym is)
     ∙ sym (up-to-more m es i d l)
 
-pub one_more : (m : ℕ → Option ℕ) (es : List Event) (ms more : List (ℕ × ℕ)) (i : ℕ) (d : Event) (o : Option ℕ) → i < length es → o ≡ m i → more ≡ with_met i o ms →
+pub one_more : (m : ℕ → Option ℕ) (es : List Event) (ms more : List (ℕ × ℕ)) (i : ℕ) (d : Event) (o : Option ℕ) → i < length es → o ≡ m i → more ≡ with_told i o ms →
     noted ms (map (short_event None) es) ≡ up-to m es i → noted more (map (short_event None) es) ≡ up-to m es (i + 1)
 one_more m es ms more i d None l is e so_far = ap (λ xs. noted xs (map (short_event None) es)) e ∙ so_far ∙ pass_none m es i d l (sym is)
 one_more m es ms more i d (Some k) l is e so_far = ap (λ xs. noted xs (map (short_event None) es)) e ∙ pass_met m es ms i k d l (sym is) so_far
 
--- Where nothing refers to a definition, there is nothing to note.
+-- past events that tell nothing
+pass-nones : (m : ℕ → Option ℕ) (es : List Event) (i n : ℕ) → i + n ≤ length es → ((k : ℕ) → i ≤ k → k < i + n → m k ≡ None) → up-to m es i ≡ up-to m es (i + n)
+pass-nones m es i zero l h = ap (up-to m es) (omega arith)
+pass-nones m es i (suc n) l h =
+    elim (slice_get_cases es i).1 [
+      | inl x ↦ pass_none m es i x.0 x.1 (h i (omega arith) (omega arith)) ∙ pass-nones m es (i + 1) n (omega (arith, l)) (λ k low high. h k (omega (arith, low)) (omega (arith, high))) ∙ ap (up-to m es) (omega arith)
+      | inr past ↦ absurd (omega (arith, l, past.0))
+    ]
+
+pub pass_nones : (m : ℕ → Option ℕ) (es : List Event) (i j : ℕ) → i ≤ j → j ≤ length es → ((k : ℕ) → i ≤ k → k < j → m k ≡ None) → up-to m es i ≡ up-to m es j
+pass_nones m es i j low high h =
+    pass-nones m es i (j - i) (omega (arith, low, high)) (λ k l u. h k l (omega (arith, low, u))) ∙ ap (up-to m es) (omega (arith, low))
+
+-- Where nothing is told, there is nothing to note.
 
 none-from : (m : ℕ → Option ℕ) (n : ℕ) (es : List Event) → ((i : ℕ) → i < length es → m (n + i) ≡ None) → map (short_event None) es ≡ short_from m n es
 none-from m n [] h = refl

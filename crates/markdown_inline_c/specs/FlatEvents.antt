@@ -45,22 +45,22 @@ abbrev pub linked_as : Option Link → ℕ
 linked_as None = 0
 linked_as (Some l) = link_number l.content
 
--- the number of a definition, or the highest number of 32 bits where there is none; it stands for those that are higher too
-abbrev pub definition_number : Option ℕ → ℕ
-definition_number None = 4294967295
-definition_number (Some n) = min n 4294967295
+-- the number that an event tells, or the highest number of 32 bits where it tells none; that stands for those that are higher too
+abbrev pub told_number : Option ℕ → ℕ
+told_number None = 4294967295
+told_number (Some n) = min n 4294967295
 
--- the event in 16 bytes, where it refers to this definition
+-- the event in 16 bytes, where it tells this number: of a definition or a footnote that it refers to, or of the character that it stands for
 abbrev pub short_event : Option ℕ → Event → ShortEvent
-short_event met e = record {
+short_event told e = record {
   kind = kind_number e.kind;
   name = name_number e.name;
   link = linked_as e.link;
   vs = min e.point.vs 255;
-  definition = definition_number met;
+  definition = told_number told;
   index = e.point.index;
 }
 
--- the same event, which refers to the definition of this number
-abbrev pub referring_to : ℕ → ShortEvent → ShortEvent
-referring_to number e = record e { definition = definition_number (Some number) }
+-- the same event, which tells this number
+abbrev pub telling : ℕ → ShortEvent → ShortEvent
+telling number e = record e { definition = told_number (Some number) }

@@ -2,7 +2,7 @@
 
 ghost use Rattle.std.specs.Prelude.{◌≡◌, min};
 ghost use Rattle.markdown_event.specs.EventNames.{name_number};
-ghost use Rattle.markdown_inline_c.specs.FlatEvents.{definition_number, flat_event, kind_number, link_number, linked_as, number_or_max, referring_to, short_event};
+ghost use Rattle.markdown_inline_c.specs.FlatEvents.{flat_event, kind_number, link_number, linked_as, number_or_max, short_event, telling, told_number};
 ghost use Rattle.markdown_inline_c.specs.FlatInput.{piece_of};
 
 use markdown_content::parser::Piece;
@@ -89,8 +89,8 @@ pub struct ShortEvent {
     pub link: u8,
     /// How many columns of the tab at `index` come before the place, and 255 where it would be more; 0 outside of tabs.
     pub vs: u8,
-    /// Where a link or an image begins, the number of the definition that it refers to; where a footnote call begins, that of the footnote. `u32::MAX`
-    /// elsewhere, and for numbers that are higher.
+    /// Where a link or an image begins, the number of the definition that it refers to; where a footnote call begins, that of the footnote; where a
+    /// character reference begins that stands for one character, the code point of that. `u32::MAX` elsewhere, and for numbers that are higher.
     pub definition: u32,
     /// The byte, from 0.
     pub index: usize,
@@ -231,8 +231,8 @@ fn byte_or_max(number: usize) -> u8
     number.min(255) as u8
 }
 
-fn definition_number(number: Option<usize>) -> u32
-    ensures { result ≡ definition_number number }
+fn told_number(number: Option<usize>) -> u32
+    ensures { result ≡ told_number number }
 {
     match number {
         None => u32::MAX,
@@ -240,26 +240,26 @@ fn definition_number(number: Option<usize>) -> u32
     }
 }
 
-pub(crate) fn short_event(event: &Event, met: Option<usize>) -> ShortEvent
-    ensures { result ≡ short_event met event.now }
+pub(crate) fn short_event(event: &Event, told: Option<usize>) -> ShortEvent
+    ensures { result ≡ short_event told event.now }
 {
     ShortEvent {
         kind: kind_number(event.kind),
         name: name_number(event.name),
         link: linked_as(event.link),
         vs: byte_or_max(event.point.vs),
-        definition: definition_number(met),
+        definition: told_number(told),
         index: event.point.index,
     }
 }
 
 impl ShortEvent {
-    /// The same event, which refers to the definition of a number.
-    pub(crate) fn referring_to(self, definition: usize) -> ShortEvent
-        ensures { result ≡ referring_to definition self }
+    /// The same event, which tells a number.
+    pub(crate) fn telling(self, number: usize) -> ShortEvent
+        ensures { result ≡ telling number self }
     {
         ShortEvent {
-            definition: definition_number(Some(definition)),
+            definition: told_number(Some(number)),
             ..self
         }
     }

@@ -1,25 +1,31 @@
 //! The forms in which events cross to C.
 
-ghost use Rattle.std.specs.Prelude.{◌≡◌, List, IfOk, IsTrue, None, OnOk, Some, map, slice_get, string_bytes};
+ghost use Rattle.std.specs.Prelude.{◌≡◌, ◌≤◌, List, IfOk, IsFalse, IsTrue, None, OnOk, Some, drop, length, map, slice_get, string_bytes};
 ghost use Rattle.markdown_content.specs.Content.{IsContent, content_of};
 ghost use Rattle.markdown_tree.specs.LabelsView.{given_of};
 ghost use Rattle.markdown_tree.specs.Referred.{met};
 ghost use Rattle.markdown_event.specs.declared.event.Event.{Event};
+ghost use Rattle.markdown_html_model.specs.Resolved.{decoding_of};
 ghost use Rattle.markdown_model.specs.Setting.{Setting, within};
 ghost use Rattle.markdown_run_text.specs.RunSetting.{setting_of};
 ghost use Rattle.markdown_inline_c.specs.FlatEvents.{flat_event, short_event};
-ghost use Rattle.markdown_inline_c.specs.ShortEvents.{AreAllMet, HasNone, with_met, refers, short_events, short_from};
+ghost use Rattle.markdown_inline_c.specs.References.{character_ahead};
+ghost use Rattle.markdown_inline_c.specs.ShortEvents.{AreAllTold, HasNone, LacksCharacters, LacksSign, TellNothing, may_tell, short_events, told, with_told};
 
 use crate::flat::{FlatEvent, ShortEvent};
-use crate::found::{Found, Referring};
+use crate::found::{Found, Telling};
+use crate::reference::character_ahead;
 use markdown_content::parser::Piece;
 use markdown_document::document::Document;
 use markdown_engine_events::event_list::EventSlice;
 use markdown_event::event::{Event, Kind, Name};
+use markdown_html_model::resolve::{bytes_from, decoding_of};
 use markdown_run::run::ListRun;
 use markdown_tree::definitions::Definitions;
 use markdown_tree::labels::Labels;
 use markdown_tree::tree::Tree;
+use markdown_util::decoding::Decoding;
+use memchr::memchr;
 use std::alloc::{AllocError, Global};
 
 /// How the events of a content cross to C.
@@ -46,8 +52,9 @@ pub trait Form {
         pieces: &[Piece],
         run: ListRun,
     ) -> Result<Self::Events, AllocError>
-        requires { IsContent document.now.bytes.now pieces.now }
-        ensures { IsFor self.now (setting_of document.now) → IfOk result (λ found. Self.Events.items found ≡ items (within (content_of document.now.bytes.now pieces.now) (setting_of document.now)) run.events) };
+        requires content { IsContent document.now.bytes.now pieces.now }
+        requires form { IsFor self.now (setting_of document.now) }
+        ensures { IfOk result (λ found. Self.Events.items found ≡ items (within (content_of document.now.bytes.now pieces.now) (setting_of document.now)) run.events) };
 }
 
 /// Events with all that is known of each by itself.
@@ -78,12 +85,14 @@ impl Form for Large {
     }
 }
 
-/// Events in 16 bytes each, with the definitions that they refer to.
+/// Events in 16 bytes each, with what they tell.
 #[derive(Drop)]
 pub struct Short {
     // The identifiers of all definitions, in the order in which they are given.
     definitions: Definitions,
     footnotes: Definitions,
+    // Whether a reference that stands for one character begins somewhere in the document.
+    has_characters: bool,
 }
 
 // The identifiers in the order in which they are given, each found by a search.
@@ -97,15 +106,65 @@ fn listed(alloc: Global, identifiers: &[String]) -> Result<Definitions, AllocErr
     Ok(found)
 }
 
-// Whether an event may refer to a definition.
+// Where the first `&` stands from an index on, or where the bytes end.
+fn next_sign(bytes: &[u8], from: usize) -> usize
+    requires { from ≤ length bytes.now }
+    ensures low { from ≤ result }
+    ensures high { result ≤ length bytes.now }
+    ensures others { LacksSign bytes.now from result }
+{
+    match memchr(b'&', bytes_from(bytes, from)) {
+        Some(before) => from + before,
+        None => bytes.len(),
+    }
+}
+
+// Whether a reference that stands for one character begins somewhere in these bytes.
+#[tactic(auto, using(crate::proofs::Told::past_all))]
+fn has_characters(alloc: Global, how: Decoding, bytes: &[u8]) -> Result<bool, AllocError>
+    ensures { IfOk result (λ has. IsFalse has → LacksCharacters how bytes.now) }
+{
+    let mut at = next_sign(bytes, 0);
+    while at < bytes.len() {
+        match character_ahead(alloc, how, bytes_from(bytes, at))? {
+            Some(_) => return Ok(true),
+            None => at = next_sign(bytes, at + 1),
+        }
+    }
+    Ok(false)
+}
+
+// Whether there are no definitions to which an event may refer.
+fn none_defined(labels: &Labels) -> bool
+    ensures { IsTrue result → HasNone (given_of labels.now) }
+{
+    labels.definitions.is_empty() && labels.footnotes.is_empty()
+}
+
+// Whether an event may tell something: a link, an image, a footnote call or a character reference begins.
 #[inline(always)]
-fn refers(event: &Event) -> bool
-    ensures { result ≡ refers event.now }
+fn may_tell(event: &Event) -> bool
+    ensures { result ≡ may_tell event.now }
 {
     match (event.kind, event.name) {
         (Kind::Enter, Name::Link | Name::Image | Name::GfmFootnoteCall) => true,
+        (Kind::Enter, Name::CharacterReference) => true,
         _ => false,
     }
+}
+
+// The number of the first event from a number on that may tell something, or how many events there are.
+fn next_telling(events: &EventSlice, from: usize) -> usize
+    requires { from ≤ length events.now }
+    ensures low { from ≤ result }
+    ensures high { result ≤ length events.now }
+    ensures others { TellNothing events.now from result }
+{
+    let mut number = from;
+    while number < events.len() && !may_tell(&events.at(number)) {
+        number += 1;
+    }
+    number
 }
 
 // Has a tree know all its nodes where a reference begins inside an image: images stand in one another to any depth, and each would be walked again.
@@ -131,8 +190,40 @@ fn know_inside(
 }
 
 // The definition that the event of a number refers to.
-#[inline(always)]
+#[tactic(auto, using(crate::proofs::MetDefinitions::none_met))]
 fn referred(
+    alloc: Global,
+    labels: &Labels,
+    tree: &mut Tree,
+    inside: &mut usize,
+    number: usize,
+    event: &Event,
+) -> Result<Option<usize>, AllocError>
+    requires { IsContent labels.now.bytes.now labels.now.pieces.now }
+    ensures found { IfOk result (λ found. found ≡ met (given_of labels.now) tree.old number) }
+    ensures tree { tree.new ≡ tree.old }
+{
+    if none_defined(labels) {
+        return Ok(None);
+    }
+    know_inside(alloc, tree, inside, number, event)?;
+    labels.met(tree, number)
+}
+
+// The code point of the character that the reference at an index stands for.
+fn character_at(alloc: Global, labels: &Labels, index: usize) -> Result<Option<usize>, AllocError>
+    ensures { IfOk result (λ found. found ≡ character_ahead (decoding_of labels.now.options.now) (drop index labels.now.bytes.now)) }
+{
+    let how = decoding_of(labels.options);
+    match character_ahead(alloc, how, bytes_from(labels.bytes, index))? {
+        Some(character) => Ok(Some(character as usize)),
+        None => Ok(None),
+    }
+}
+
+// What the event of a number tells.
+#[inline(never)]
+fn told(
     alloc: Global,
     labels: &Labels,
     tree: &mut Tree,
@@ -142,81 +233,76 @@ fn referred(
 ) -> Result<Option<usize>, AllocError>
     requires content { IsContent labels.now.bytes.now labels.now.pieces.now }
     requires event { slice_get tree.old number ≡ Some event.now }
-    ensures found { IfOk result (λ found. found ≡ met (given_of labels.now) tree.old number) }
+    ensures found { IfOk result (λ found. found ≡ told (given_of labels.now) (decoding_of labels.now.options.now) tree.old number) }
     ensures tree { tree.new ≡ tree.old }
 {
-    if refers(event) {
-        know_inside(alloc, tree, inside, number, event)?;
-        labels.met(tree, number)
-    } else {
-        Ok(None)
+    match (event.kind, event.name) {
+        (Kind::Enter, Name::CharacterReference) => character_at(alloc, labels, event.point.index),
+        _ => referred(alloc, labels, tree, inside, number, event),
     }
 }
 
-// Adds an event's number with that of the definition it refers to, if there is one.
-fn add_met(
+// Adds an event's number with what it tells, if it tells something.
+fn add_told(
     found: &mut Vec<(usize, usize)>,
     number: usize,
-    met: Option<usize>,
+    told: Option<usize>,
 ) -> Result<(), AllocError>
-    ensures { OnOk result (found.new.items ≡ with_met number met found.old.items) }
+    ensures { OnOk result (found.new.items ≡ with_told number told found.old.items) }
 {
-    if let Some(definition) = met {
-        found.push((number, definition))?;
+    if let Some(told) = told {
+        found.push((number, told))?;
     }
     Ok(())
 }
 
-// The numbers of all events that refer to a definition, each with the number of that definition.
-#[tactic(auto, using(crate::proofs::Noted::one_more))]
-fn all_met(
+// The numbers of all events that tell something, each with what it tells.
+fn all_told(
     alloc: Global,
     labels: &Labels,
     events: &EventSlice,
 ) -> Result<Vec<(usize, usize)>, AllocError>
     requires { IsContent labels.now.bytes.now labels.now.pieces.now }
-    ensures { IfOk result (λ found. AreAllMet (met (given_of labels.now) events.now) events.now found.items) }
+    ensures { IfOk result (λ found. AreAllTold (told (given_of labels.now) (decoding_of labels.now.options.now) events.now) events.now found.items) }
 {
     let mut tree = Tree::over(events);
     let mut found = Vec::new(alloc);
     let mut inside = 0;
-    for number in 0..events.len() {
+    let mut number = next_telling(events, 0);
+    while number < events.len() {
         let event = events.at(number);
-        let met = referred(alloc, labels, &mut tree, &mut inside, number, &event)?;
-        add_met(&mut found, number, met)?;
+        let told = told(alloc, labels, &mut tree, &mut inside, number, &event)?;
+        add_told(&mut found, number, told)?;
+        number = next_telling(events, number + 1);
     }
     Ok(found)
 }
 
-// Whether there are no definitions to which an event may refer.
-fn none_defined(labels: &Labels) -> bool
-    ensures { IsTrue result → HasNone (given_of labels.now) }
-{
-    labels.definitions.is_empty() && labels.footnotes.is_empty()
-}
-
-// The same, where there may be definitions.
-#[tactic(auto, using(crate::proofs::MetDefinitions::none_given))]
-fn met_in(
+// The same, where it is known whether the document has references that stand for one character: without them, and without definitions, no event tells
+// anything.
+#[tactic(auto, using(crate::proofs::Told::none_told))]
+fn told_in(
     alloc: Global,
     labels: &Labels,
+    has_characters: bool,
     events: &EventSlice,
 ) -> Result<Vec<(usize, usize)>, AllocError>
-    requires { IsContent labels.now.bytes.now labels.now.pieces.now }
-    ensures { IfOk result (λ found. AreAllMet (met (given_of labels.now) events.now) events.now found.items) }
+    requires content { IsContent labels.now.bytes.now labels.now.pieces.now }
+    requires characters { IsFalse has_characters → LacksCharacters (decoding_of labels.now.options.now) labels.now.bytes.now }
+    ensures { IfOk result (λ found. AreAllTold (told (given_of labels.now) (decoding_of labels.now.options.now) events.now) events.now found.items) }
 {
-    if none_defined(labels) {
+    if !has_characters && none_defined(labels) {
         return Ok(Vec::new(alloc));
     }
-    all_met(alloc, labels, events)
+    all_told(alloc, labels, events)
 }
 
 impl Form for Short {
     type Item = ShortEvent;
 
-    type Events = Referring;
+    type Events = Telling;
 
-    ghost IsFor = { λ form s. (form.definitions ≡ s.definitions) × (form.footnotes ≡ s.footnotes) };
+    ghost IsFor = { λ form s. (form.definitions ≡ s.definitions) × (form.footnotes ≡ s.footnotes) × (IsFalse form.has_characters → LacksCharacters (decoding_of s.options) s.bytes) };
 
     ghost items = { short_events };
 
@@ -225,6 +311,11 @@ impl Form for Short {
         Ok(Short {
             definitions: listed(alloc, parse_state.definitions.as_slice())?,
             footnotes: listed(alloc, parse_state.gfm_footnote_definitions.as_slice())?,
+            has_characters: has_characters(
+                alloc,
+                decoding_of(parse_state.options),
+                parse_state.bytes,
+            )?,
         })
     }
 
@@ -234,7 +325,7 @@ impl Form for Short {
         document: &Document,
         pieces: &[Piece],
         run: ListRun,
-    ) -> Result<Referring, AllocError> {
+    ) -> Result<Telling, AllocError> {
         let parse_state = document.parse_state();
         let labels = Labels {
             bytes: parse_state.bytes,
@@ -243,7 +334,7 @@ impl Form for Short {
             definitions: &self.definitions,
             footnotes: &self.footnotes,
         };
-        let met = met_in(alloc, &labels, &run.events.as_slice())?;
-        Ok(Referring { run, met })
+        let told = told_in(alloc, &labels, self.has_characters, &run.events.as_slice())?;
+        Ok(Telling { run, told })
     }
 }

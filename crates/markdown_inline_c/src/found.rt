@@ -2,7 +2,7 @@
 
 ghost use Rattle.std.specs.Prelude.{◌≡◌, List, None, length, map};
 ghost use Rattle.markdown_engine_events.specs.EventChains.{changed_at};
-ghost use Rattle.markdown_inline_c.specs.FlatEvents.{flat_event, referring_to, short_event};
+ghost use Rattle.markdown_inline_c.specs.FlatEvents.{flat_event, short_event, telling};
 ghost use Rattle.markdown_inline_c.specs.ShortEvents.{noted};
 
 use crate::flat::{FlatEvent, ShortEvent, flat_event, short_event};
@@ -46,7 +46,7 @@ fn fill(events: &EventSlice, array: &mut [FlatEvent])
     }
 }
 
-// The same with short events, none of which refers to a definition.
+// The same with short events, which tell nothing.
 #[tactic(auto, using(crate::proofs::Filled::one_more, crate::proofs::Filled::whole))]
 fn fill_short(events: &EventSlice, array: &mut [ShortEvent])
     requires { length array.old ≡ length events.now }
@@ -57,22 +57,22 @@ fn fill_short(events: &EventSlice, array: &mut [ShortEvent])
     }
 }
 
-// Notes the number of a definition in the short event of a number, if there is one.
+// Notes in the short event of a number what it tells, if there is one.
 #[tactic(auto, using(crate::proofs::Noted::changed_out))]
-fn note(number: usize, definition: usize, array: &mut [ShortEvent])
-    ensures { array.new ≡ changed_at (referring_to definition) number array.old }
+fn note(number: usize, told: usize, array: &mut [ShortEvent])
+    ensures { array.new ≡ changed_at (telling told) number array.old }
 {
     if number < array.len() {
-        array[number] = array[number].referring_to(definition);
+        array[number] = array[number].telling(told);
     }
 }
 
-// Notes definitions in short events.
-fn note_all(met: &[(usize, usize)], array: &mut [ShortEvent])
-    ensures { array.new ≡ noted met.now array.old }
+// Notes in short events what they tell.
+fn note_all(told: &[(usize, usize)], array: &mut [ShortEvent])
+    ensures { array.new ≡ noted told.now array.old }
 {
-    for at in 0..met.len() {
-        note(met[at].0, met[at].1, array);
+    for at in 0..told.len() {
+        note(told[at].0, told[at].1, array);
     }
 }
 
@@ -88,17 +88,17 @@ impl Found<FlatEvent> for ListRun {
     }
 }
 
-/// The events of a run, and which of them refer to definitions.
+/// The events of a run, and what they tell.
 #[derive(Drop)]
-pub struct Referring {
+pub struct Telling {
     /// The run.
     pub run: ListRun,
-    /// The numbers of events that refer to a definition, each with the number of that definition.
-    pub met: Vec<(usize, usize)>,
+    /// The numbers of events that tell something, each with what it tells.
+    pub told: Vec<(usize, usize)>,
 }
 
-impl Found<ShortEvent> for Referring {
-    ghost items = { λ found. noted found.met.items (map (short_event None) found.run.events) };
+impl Found<ShortEvent> for Telling {
+    ghost items = { λ found. noted found.told.items (map (short_event None) found.run.events) };
 
     #[tactic(auto, using(crate::proofs::Noted::length_noted))]
     fn count(&self) -> usize {
@@ -108,6 +108,6 @@ impl Found<ShortEvent> for Referring {
     #[tactic(auto, using(crate::proofs::Noted::length_noted))]
     fn write(&self, array: &mut [ShortEvent]) {
         fill_short(&self.run.events.as_slice(), array);
-        note_all(self.met.as_slice(), array);
+        note_all(self.told.as_slice(), array);
     }
 }

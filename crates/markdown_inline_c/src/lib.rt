@@ -221,7 +221,8 @@ pub extern "C" fn markdown_inline_texts(
 }
 
 /// The same events in 16 bytes each, with the definitions that links, images and footnote calls refer to: of several with one identifier the first
-/// counts. It costs what `markdown_inline_texts` costs, and for each reference what it takes to find its definition.
+/// counts; and with the code points of the characters that character references stand for (CommonMark 0.31, section 2.5), but where a reference stands for
+/// two. It costs what `markdown_inline_texts` costs, and for each reference what it takes to find its definition or its character.
 ///
 /// The events are handed out, and inputs are refused, as by `markdown_inline_texts`.
 #[unsafe(no_mangle)]

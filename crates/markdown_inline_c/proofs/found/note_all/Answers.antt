@@ -4,4 +4,4 @@ use Rattle.markdown_inline_c.proofs.found.note_all.Goals as goal
 
 pub loop-at-preserved : goal.loop-at-preserved
 loop-at-preserved c =
-    noted_more c.args.met.now c.args.array.now c.loop-at.array c.note.new.array c.loop-at.at _ (omega (arith, c.loop-at-test.true)) c.loop-at.invariant c.note.ensures
+    noted_more c.args.told.now c.args.array.now c.loop-at.array c.note.new.array c.loop-at.at _ (omega (arith, c.loop-at-test.true)) c.loop-at.invariant c.note.ensures

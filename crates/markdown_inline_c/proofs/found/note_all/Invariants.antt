@@ -3,4 +3,4 @@ use Rattle.markdown_inline_c.specs.ShortEvents.{noted}
 use Rattle.markdown_inline_c.proofs.found.note_all.Given as goal
 
 abbrev pub invariant-loop-at : goal.invariant-loop-at
-invariant-loop-at l = l.array ≡ noted (take l.at l.met) l.fn.array
+invariant-loop-at l = l.array ≡ noted (take l.at l.told) l.fn.array
