@@ -56,8 +56,8 @@ class Event(NamedTuple):
 class ShortEvent(NamedTuple):
     """The beginning or the end of something, without its line and column. `link` is 'String' or 'Text' where it is to be read again. `definition` is the number of
     the definition that a link or an image refers to where it begins, in the order in which they were given, or that of the footnote where a footnote call
-    begins; else it is None. Of several with one identifier it is the first. `stands_for` is the character that a character reference stands for where it begins;
-    it is None where it stands for two, and for all else."""
+    begins; else it is None. Of several with one identifier it is the first. `stands_for` is the character that a character reference stands for where it
+    begins; it is None where it stands for two, and for all else."""
     kind: Kind
     name: Name
     index: int

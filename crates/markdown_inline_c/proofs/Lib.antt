@@ -1,4 +1,3 @@
-mod Characters
 mod Errors
 mod Filled
 mod HandedOut
@@ -8,6 +7,7 @@ mod Labels
 mod Leaves
 mod MetDefinitions
 mod Noted
+mod OneCharacter
 mod Targets
 mod Told
 mod Written

@@ -1,6 +1,6 @@
 use Rattle.std.proofs.Common.{◌∙◌, sym}
 use Rattle.std.specs.Str.Iter.{chars_rest}
-use Rattle.markdown_inline_c.proofs.Characters.{only_ends, only_goes_on}
+use Rattle.markdown_inline_c.proofs.OneCharacter.{only_ends, only_goes_on}
 use Rattle.markdown_inline_c.proofs.reference.only_character.Goals as goal
 
 pub returns-in-Some : goal.returns-in-Some
