@@ -17,7 +17,7 @@
 #include <unistd.h>
 
 /* The most of each that is drawn, and how often each status has to come in so many calls. */
-enum { BYTES = 120, PIECES = 8, RANGES = 4, CONTENTS = 4, CODES = 4 * BYTES, ENOUGH = 20000, FLOOR = 20, FILL = 0xa5 };
+enum { BYTES = 120, PIECES = 8, RANGES = 4, CONTENTS = 4, CODES = 4 * BYTES, ENOUGH = 100000, FLOOR = 20, FILL = 0xa5 };
 
 /* Drawn numbers. */
 
@@ -119,7 +119,7 @@ typedef struct drawn {
 
 static const char *const PARTS[] = {"a", "bc", "\xc3\xa9", "\xe6\xbc\xa2", "\xf0\x9f\x98\x80", " ", "  ", "\t", "*", "**", "_", "~", "~~", "`", "``", "$", "$$", "[", "]",
     "![", "](", ")", "(", "<", ">", "\"", "'", "\\", "&", ";", "!", "#", "@", ":", ".", "/", "[x] ", "[a]", "[^a]", "[b c][]", "[d](e \"f\")", "![g](<h i>)", "&amp;",
-    "&#65;", "&#x1f4a9;", "&copy;", "&nosuch;", "<https://j.k>", "<l@m.n>", "https://o.p/q", "www.r.s", "t@u.v", "<w x=\"y\">", "</z>", "<!-- c -->", "<?p?>",
+    "&#65;", "&#x1f4a9;", "&copy;", "&ngE;", "&nosuch;", "<https://j.k>", "<l@m.n>", "https://o.p/q", "www.r.s", "t@u.v", "<w x=\"y\">", "</z>", "<!-- c -->", "<?p?>",
     "\\*", "\\\n", "  \n", "\n", "\n", "\r\n", "\r", "*a*", "**b**", "_c_ ", "~d~", "`e f`", "$g$", "word ", "[d](\\*e&amp;f 'g\\*h&lt;')",
     "[a][b\\*c]", "[d](e \"f\ng\")", "[d](e (f\r\n&amp;g))", "[a]", "[D]", "![a]", "[x][d]", "[a [d] c][B  c]", "[^a]", "[^d]", "b[^a]", "[^d][^A]", "[^a]*"};
 static const char *const BROKEN[] = {"\x80", "\xc3", "\xc0\x80", "\xed\xa0\x80", "\xf4\x90\x80\x80", "\xf8", "\xe6\xbc", "\xf0\x9f\x98", "\xff"};
@@ -555,6 +555,33 @@ static uint32_t called(which call, const drawn *it, size_t room, size_t room_of_
     return status;
 }
 
+/* How often each call for many has told what is to blame, by status, and how often a number other than the first. */
+static size_t blames[STRINGS + 1][16], later_blames[STRINGS + 1][16];
+
+/* Whether a call for many tells what is to blame where it ends with this status. */
+static int tells_blame(which call, uint32_t status) {
+    switch (status) {
+    case MARKDOWN_INLINE_NOT_UTF8:
+    case MARKDOWN_INLINE_BLANK_LINE:
+    case MARKDOWN_INLINE_NO_CONTENT:
+    case MARKDOWN_INLINE_DEFINITION: return call == TEXTS || call == SHORT_TEXTS || call == HTMLS;
+    case MARKDOWN_INLINE_REFERENCES: return call == HTMLS;
+    case MARKDOWN_INLINE_NO_STRING: return call == STRINGS;
+    default: return 0;
+    }
+}
+
+/* Each call for many has told often what is to blame, by each status that does, and by no other. */
+static void look_at_blames(void) {
+    for (which call = TEXTS; call <= STRINGS; call++)
+        for (uint32_t status = 0; status < 16; status++) {
+            int is_told = tells_blame(call, status);
+            call_name = NAMES[call];
+            want("what is to blame is told often, and by no other status", is_told ? blames[call][status] >= FLOOR : blames[call][status] == 0);
+            want("what is to blame is often not the first", !is_told || later_blames[call][status] >= FLOOR);
+        }
+}
+
 /* Makes a call in each way, and compares what they answer. Answers whether it is done; then what it found stands in `found`. */
 static int is_done(which call, const drawn *it, uint32_t wanted) {
     static answer first;
@@ -587,6 +614,8 @@ static int are_done(which call, const drawn *it, uint32_t wanted, size_t read) {
     want("the status of the model", status == wanted);
     want("as many are read as in the model", outcome->done == read && outcome->count == (read > 0 ? found_ends[read - 1] : 0));
     want("what the model blames", outcome->blamed == model_blames);
+    blames[call][status] += outcome->blamed != MARKDOWN_INLINE_NONE;
+    later_blames[call][status] += outcome->blamed != MARKDOWN_INLINE_NONE && outcome->blamed > 0;
     if (faults > 0) return 0;
     size_t needed = outcome->count;
     memcpy(first.bytes, found.bytes, needed * each);
@@ -721,8 +750,36 @@ static size_t brought_to(const drawn *it, const markdown_inline_event *events, s
     return brought;
 }
 
-/* Each short event is an event of a text, with the definition that is referred to. */
-static size_t met_definitions, met_footnotes;
+/* The code point of UTF-8 that is one character. */
+static uint32_t only_character(const uint8_t *text, size_t len) {
+    uint32_t found = len == 1 ? text[0] : text[0] & (0x7fu >> len);
+    for (size_t at = 1; at < len; at++) {
+        if ((text[at] & 0xc0) != 0x80) return MARKDOWN_INLINE_NO_DEFINITION;
+        found = found << 6 | (text[at] & 0x3f);
+    }
+    return found;
+}
+
+/* The code point that the reference stands for which begins at this event, by its text. */
+static uint32_t stood_for(const drawn *it, const markdown_inline_event *events, size_t at) {
+    uint8_t text[16];
+    size_t stop = at + 1, len = 0;
+    while (events[stop].name != MARKDOWN_INLINE_NAME_CHARACTER_REFERENCE) stop++;
+    uint32_t status = markdown_inline_reference(it->options, it->bytes + events[at].index, events[stop].index - events[at].index, text, sizeof text, &len);
+    want("a reference has a text", status == MARKDOWN_INLINE_DONE && len > 0);
+    /* The first byte tells how many its character has. */
+    size_t own = text[0] < 0x80 ? 1 : text[0] < 0xe0 ? 2 : text[0] < 0xf0 ? 3 : 4;
+    return own == len ? only_character(text, len) : (uint32_t)MARKDOWN_INLINE_NO_DEFINITION;
+}
+
+/* What a short event of this event tells. */
+static uint32_t told(const drawn *it, const markdown_inline_event *events, size_t at) {
+    int is_reference = events[at].kind == MARKDOWN_INLINE_ENTER && events[at].name == MARKDOWN_INLINE_NAME_CHARACTER_REFERENCE;
+    return is_reference ? stood_for(it, events, at) : referred(it, events, at);
+}
+
+/* Each short event is an event of a text, with the definition that is referred to, or the character that is stood for. */
+static size_t met_definitions, met_footnotes, met_characters, met_pairs;
 static void look_at_short_texts(const drawn *all) {
     static answer many;
     size_t starts[CONTENTS + 1] = {0}, len = all->contents_len;
@@ -737,8 +794,10 @@ static void look_at_short_texts(const drawn *all) {
             const markdown_inline_event *it = found.events + event;
             const markdown_inline_short_event *other = many.short_events + starts[at] + event;
             want("a short event is an event", it->kind == other->kind && it->name == other->name && it->link == other->link && it->vs == other->vs && it->index == other->index);
-            want("which definition is referred to", other->definition == referred(&alone, found.events, event));
-            if (other->definition != MARKDOWN_INLINE_NO_DEFINITION) (it->name == MARKDOWN_INLINE_NAME_GFM_FOOTNOTE_CALL ? met_footnotes++ : met_definitions++);
+            want("which definition is referred to, or which character is stood for", other->definition == told(&alone, found.events, event));
+            int is_told = other->definition != MARKDOWN_INLINE_NO_DEFINITION, is_enter = it->kind == MARKDOWN_INLINE_ENTER;
+            if (it->name == MARKDOWN_INLINE_NAME_CHARACTER_REFERENCE) met_characters += is_told, met_pairs += is_enter && !is_told;
+            else if (is_told) (it->name == MARKDOWN_INLINE_NAME_GFM_FOOTNOTE_CALL ? met_footnotes++ : met_definitions++);
         }
     }
 }
@@ -1058,13 +1117,15 @@ int main(int argc, char **argv) {
         try_case();
         if (faults > 0) break;
     }
+    if (most >= 2 * ENOUGH && faults == 0) look_at_blames();
     call_name = "all";
     for (uint32_t status = 0; most >= ENOUGH && faults == 0 && status < 16; status++) {
         int is_drawn = markdown_inline_status_text(status) && status != MARKDOWN_INLINE_NO_MEMORY;
         want("each status comes often, and no other", is_drawn ? counts[status] >= FLOOR : counts[status] == 0);
     }
     for (size_t call = 0; most >= ENOUGH && faults == 0 && call <= PIECES_OF_LINES; call++) want("each function is called often", functions[call] >= ENOUGH / 100);
-    want("references meet definitions and footnotes", most < ENOUGH || faults > 0 || (met_definitions >= FLOOR && met_footnotes >= FLOOR / 2));
+    want("references meet definitions and footnotes", most < 2 * ENOUGH || faults > 0 || (met_definitions >= FLOOR && met_footnotes >= FLOOR / 2));
+    want("references stand for characters, and some for two", most < 2 * ENOUGH || faults > 0 || (met_characters >= FLOOR && met_pairs >= FLOOR / 2));
     if (faults == 0) printf("bindings: %zu drawn calls of C, %zu done, %zu without room, %zu refused\n", calls, counts[0], counts[6], calls - counts[0] - counts[6]);
     return faults != 0;
 }
