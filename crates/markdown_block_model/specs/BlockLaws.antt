@@ -3,8 +3,9 @@ use Rattle.std.specs.Prelude.{◌≡◌, ◌⊎◌, ℕ, suc, ◌<◌, List, [],
 use Rattle.std.specs.Str.{byte}
 use Rattle.std.specs.List.{list_any}
 use Rattle.markdown_content.specs.Codes.{Code, codes_of, is_blank}
-use Rattle.markdown_model.specs.CodeTests.{is_whitespace_code}
-use Rattle.markdown_block_model.specs.LineRests.{is_blank_line}
+use Rattle.markdown_content.specs.Content.{is_text_codes}
+use Rattle.markdown_model.specs.CodeTests.{is_whitespace_code, next_is}
+use Rattle.markdown_block_model.specs.LineRests.{is_blank_line, trimmed_end}
 use Rattle.markdown_block_model.specs.BlockTree.{bullet, Container, quote, item, Leaf, blank, thematic_break, heading, underlined, paragraph, indented_code, fenced_code, html, Tree, nothing, and_leaf, and_container}
 use Rattle.markdown_block_model.specs.LeafStarts.{is_break}
 use Rattle.markdown_block_model.specs.BlockStarts.{with_rest}
@@ -88,6 +89,34 @@ IsPart xs (y ∷ ys) = IsPart xs ys ⊎ ((rest : List Code) × (xs ≡ y ∷ res
 -- the leaves hold codes of the document, in order: nothing is moved, doubled or made
 abbrev pub LeavesInOrder : Type 0
 LeavesInOrder = (bytes : List ℕ) → IsPart (tree_text (document_tree bytes)) (codes_of bytes)
+
+-- Texts.
+
+-- what the inline layer takes: no line is blank, and the last one has no line ending; neither end is whitespace
+pub record IsText (text : List Code) : Type 0 where
+  pub filled : is_text_codes text ≡ true
+  pub begins : next_is is_whitespace_code text ≡ false
+  pub ends : trimmed_end text ≡ text
+
+-- the text of a paragraph or a heading is one
+abbrev pub IsTextLeaf : Leaf → Type 0
+IsTextLeaf blank = Unit {0}
+IsTextLeaf thematic_break = Unit {0}
+IsTextLeaf (heading n text) = IsText text
+IsTextLeaf (underlined n text) = IsText text
+IsTextLeaf (paragraph text) = IsText text
+IsTextLeaf (indented_code ls) = Unit {0}
+IsTextLeaf (fenced_code f info ls ended) = Unit {0}
+IsTextLeaf (html k text ended) = Unit {0}
+
+abbrev pub HaveTexts : Tree → Type 0
+HaveTexts nothing = Unit {0}
+HaveTexts (and_leaf before leaf) = HaveTexts before × IsTextLeaf leaf
+HaveTexts (and_container before c inside) = HaveTexts before × HaveTexts inside
+
+-- so that `text_tree` is the inline tree of each
+abbrev pub TextsAreContents : Type 0
+TextsAreContents = (bytes : List ℕ) → HaveTexts (document_tree bytes)
 
 -- The number of containers that begin with a line, which the definition counts down, is enough: with more steps nothing more begins.
 abbrev pub StepsSuffice : Type 0

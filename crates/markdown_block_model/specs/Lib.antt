@@ -8,4 +8,5 @@ pub mod BlockStarts
 pub mod DocumentBlocks
 pub mod LinkDefinitions
 pub mod LooseLists
+pub mod TextStarts
 pub mod BlockLaws

@@ -4,7 +4,7 @@
 //! the check proves it.
 #![tactic(auto)]
 
-ghost use Rattle.markdown_block_model.specs.BlockLaws.{ContainersHold, QuotesHold, ItemsHold, LeavesInOrder, StepsSuffice, OneDefinition};
+ghost use Rattle.markdown_block_model.specs.BlockLaws.{ContainersHold, QuotesHold, ItemsHold, LeavesInOrder, TextsAreContents, StepsSuffice, OneDefinition};
 
 /// A container holds what its lines are inside it (CommonMark 5.1 and 5.2).
 pub fn containers_hold()
@@ -24,6 +24,11 @@ pub fn items_hold()
 /// The leaves hold codes of the document, in order: nothing is moved, doubled or made.
 pub fn leaves_in_order()
     ensures { LeavesInOrder }
+{}
+
+/// The text of each paragraph and of each heading is a text content: no line of it is blank, and it neither begins nor ends with whitespace.
+pub fn texts_are_contents()
+    ensures { TextsAreContents }
 {}
 
 /// The number of steps that the definition counts down is enough: a line begins no more containers than it has codes.
