@@ -1,6 +1,8 @@
 -- What begins with the rest of a line.
-use Rattle.std.specs.Prelude.{ℕ, ◌+◌, ◌<◌, ◌≤◌, List, [], ◌∷◌, take, drop, false}
+use Rattle.std.specs.Prelude.{◌≡◌, ℕ, ◌+◌, ◌<◌, ◌≤◌, List, [], ◌∷◌, take, drop, false}
+use Rattle.std.specs.Str.{byte}
 use Rattle.markdown_content.specs.Codes.{Code}
+use Rattle.markdown_block_model.specs.LineRests.{indent, trimmed, count_first}
 use Rattle.markdown_block_model.specs.BlockTree.{thematic_break, heading, fenced_code, html, indented_code}
 use Rattle.markdown_block_model.specs.BlockStarts as block_starts
 use Rattle.markdown_block_line.specs.declared.begins.Begun.{Begun}
@@ -23,3 +25,16 @@ IsWithin n (FencedCode f) = f.start + f.len ≤ n
 IsWithin n (Html h) = Unit {0}
 IsWithin n IndentedCode = 4 ≤ n
 IsWithin n (Container c k) = (0 < k) × (k ≤ n)
+
+-- how many codes stand before the text of a heading: its markers, and the blanks behind them
+abbrev pub heading_start : List Code → ℕ
+heading_start cs = count_first (byte "#") cs + indent (drop (count_first (byte "#") cs) cs)
+
+-- a heading's text stands there, also where it is empty
+abbrev pub StandsWhere : List Code → Begun → Type 0
+StandsWhere cs ThematicBreak = Unit {0}
+StandsWhere cs (Heading h) = h.start ≡ indent cs + heading_start (trimmed cs)
+StandsWhere cs (FencedCode f) = Unit {0}
+StandsWhere cs (Html h) = Unit {0}
+StandsWhere cs IndentedCode = Unit {0}
+StandsWhere cs (Container c k) = Unit {0}

@@ -7,7 +7,7 @@ ghost use Rattle.markdown_model.specs.CodeTests.{values_of};
 ghost use Rattle.markdown_block_model.specs.LineRests.{is_blank_line};
 ghost use Rattle.markdown_block_model.specs.BlockStarts.{begun};
 ghost use Rattle.markdown_block_line.specs.LineBreaks.{IsBreakLens};
-ghost use Rattle.markdown_block_line.specs.LineStarts.{begun_of, IsWithin};
+ghost use Rattle.markdown_block_line.specs.LineStarts.{begun_of, StandsWhere, IsWithin};
 
 use crate::breaks::BreakLens;
 use crate::containers::{Container, item_at};
@@ -44,6 +44,7 @@ pub fn begun_at(
 ) -> Option<Begun>
     requires { IsBreakLens breaks line.now }
     ensures found { (cs : List Code) → values_of cs ≡ line.now → MatchOption result (begun in_paragraph after_text cs ≡ None) (λ b. begun in_paragraph after_text cs ≡ Some (begun_of cs b)) }
+    ensures start { (cs : List Code) → values_of cs ≡ line.now → IfSome result (StandsWhere cs) }
     ensures within { IfSome result (IsWithin (length line.now)) }
 {
     let columns = indent_to(line, 4);

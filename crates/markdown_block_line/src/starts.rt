@@ -8,6 +8,7 @@ ghost use Rattle.markdown_block_model.specs.BlockTree.{heading, fenced_code, bul
 ghost use Rattle.markdown_block_model.specs.LeafStarts.{is_break, ends_blank, heading_text, heading_at, is_row_of, underline, may_be_info, fence_at, is_closing};
 ghost use Rattle.markdown_block_model.specs.ContainerStarts.{behind_quote, bullet_at, ordered_at};
 ghost use Rattle.markdown_block_line.specs.LineBlocks.{fence_of};
+ghost use Rattle.markdown_block_line.specs.LineStarts.{heading_start};
 ghost use Rattle.markdown_block_line.specs.LineValues.{front, is_break_values, is_digit_value, number_values};
 
 use crate::line::{self, count_first, indent, indent_to, is_blank_line, is_gap, trimmed_len};
@@ -214,6 +215,7 @@ fn digits_at(line: &[u8]) -> Digits
 /// Returns the heading of number signs that the rest is, or `None` (CommonMark 4.2). The rest begins behind the indent.
 pub fn heading_at(line: &[u8]) -> Option<Heading>
     ensures found { (cs : List Code) → values_of cs ≡ line.now → MatchOption result (heading_at cs ≡ None) (λ h. heading_at cs ≡ Some (heading h.level (take h.len (drop h.start cs)))) }
+    ensures start { (cs : List Code) → values_of cs ≡ line.now → IfSome result (λ h. h.start ≡ heading_start cs) }
     ensures within { IfSome result (λ h. h.start + h.len ≤ length line.now) }
 {
     let level = count_first(line, b'#');

@@ -1,10 +1,12 @@
-use Rattle.std.proofs.Common.{◌∙◌, refl, ap, sym, arith, List, [], take, drop, length, false, Some, drop-drop}
+use Rattle.std.proofs.Common.{◌≡◌, ◌+◌, ◌∙◌, refl, ap, sym, arith, List, [], take, drop, length, false, Some, drop-drop}
 use Rattle.markdown_content.specs.Codes.{Code}
 use Rattle.markdown_model.specs.CodeTests.{is_between}
+use Rattle.markdown_block_model.specs.LineRests.{indent}
 use Rattle.markdown_block_model.specs.BlockTree.{heading, fenced_code, item}
 use Rattle.markdown_block_model.specs.BlockStarts.{leaf_begins, container_begins}
+use Rattle.markdown_block_line.specs.LineStarts.{heading_start}
 use Rattle.markdown_block_line.specs.LineBlocks.{marker_of, fence_of}
-use Rattle.markdown_block_line.proofs.RestValues.{rest-values, values-length, codes_with, values-of-codes}
+use Rattle.markdown_block_line.proofs.RestValues.{rest-values, trimmed-drop, values-length, codes_with, values-of-codes}
 use Rattle.markdown_block_line.proofs.BlocksBegin.{begun-code, begun-first}
 use Rattle.markdown_block_line.proofs.begins.begun_at.Goals as goal
 
@@ -68,3 +70,9 @@ returns-clause-found c = λ cs h.
     (c.in_default-heading_at.ensures.found (drop k cs) r) (c.in_default-fence_at.ensures.found (drop k cs) r) (c.in_default-html_at.ensures cs h)
     (c.requires cs k h ∙ ap (is_between c.args.breaks.least c.args.breaks.most) l ∙ sym c.contains.ensures ∙ c.if-contains.false) (c.in-Some-item_at.ensures.found (drop k cs) r)
     ∙ ap (λ (d : List Code). Some (container_begins (item (marker_of s.marker) s.columns) d)) (drop-drop s.outside k cs)
+
+pub returns-in-Some-heading_at-clause-start : goal.returns-in-Some-heading_at-clause-start
+returns-in-Some-heading_at-clause-start c = λ cs h.
+    let k = c.indent_to-columns.result in
+    let e : k ≡ indent cs = omega (arith, c.indent_to-columns.ensures.count cs h, c.if-columns-eq4.false) in
+    ap (λ i. k + i) (c.in-Some-heading_at.ensures.start (drop k cs) (rest-values k cs c.args.line.now h)) ∙ ap (λ j. j + heading_start (drop j cs)) e ∙ ap (λ (r : List Code). indent cs + heading_start r) (sym (trimmed-drop cs))
