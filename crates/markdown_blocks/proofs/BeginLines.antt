@@ -8,7 +8,8 @@ use Rattle.markdown_block_model.specs.BlockTree.{Tree, nothing, and_leaf, and_co
 use Rattle.markdown_block_model.specs.BlockStarts as block_starts
 use Rattle.markdown_block_model.specs.BlockStarts.{with_rest, with_found, with_begun, begun}
 use Rattle.markdown_blocks.specs.TreeDepth.{inside_at, at_depth}
-use Rattle.markdown_blocks.specs.BlockRows.{closed_tree, whole_tree, depth, IsStanding, HasLeaf, HasContainer, IsFinished, IsEntered, Begins}
+use Rattle.markdown_blocks.specs.BlockRows.{leaf_of, closed_tree, whole_tree, depth, IsStanding, HasLeaf, HasContainer, IsFinished, IsEntered, Begins}
+use Rattle.markdown_blocks.specs.declared.block.Leaf.{Leaf as Written}
 use Rattle.markdown_blocks.specs.declared.reader.Reader.{Reader}
 use Rattle.markdown_blocks.proofs.DepthLemmas.{at_depth-same, at_depth-deeper, at_depth-id}
 
@@ -81,3 +82,13 @@ all-container bytes rest r a b m c e =
     e ∙ rw (c.deeper.deeper, c.deeper.tree) (at_depth-deeper (depth r) (with_rest (suc (length rest)) rest) c.container (closed_tree bytes r)
     ∙ at_depth-same (depth r) (λ s. and_container s c.container (with_rest (suc (length rest)) rest nothing)) (with_begun m) (closed_tree bytes r)
     (ap (λ x. with_begun x (inside_at (depth r) (closed_tree bytes r))) (sym c.is)))
+
+-- a leaf is opened
+pub opened-leaf : (bytes : List ℕ) (r a : Reader) (l : Written) (m : model.Leaf) (b : block_starts.Begun) → a ≡ record r { «open» = Some l } → IsStanding bytes r → b ≡ block_starts.leaf_begins m → leaf_of bytes l ≡ m
+    → HasLeaf bytes b r a
+opened-leaf bytes r a l m b e s i k = record {
+  leaf = m;
+  is = i;
+  tree = rw e (ap (λ x. at_depth (depth r) (λ t. and_leaf t x) (closed_tree bytes r)) k);
+  between = rw e (record { is_front = record { front = s.is_front.front }; empty = λ o. absurd (cc) });
+}

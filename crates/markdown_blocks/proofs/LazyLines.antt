@@ -68,3 +68,12 @@ joined-some bytes r l m cs h o e =
     ∙ at_depth-twice (depth r) (with_lazy_line cs) (λ s. and_leaf s (leaf_of bytes l)) (closed_tree bytes r)
     ∙ at_depth-same (depth r) (λ s. with_lazy_line cs (and_leaf s (leaf_of bytes l))) (λ s. and_leaf s (leaf_of bytes m)) (closed_tree bytes r)
     (lazy-leaf cs (inside_at (depth r) (closed_tree bytes r)) (leaf_of bytes l) ∙ ap (λ x. and_leaf (inside_at (depth r) (closed_tree bytes r)) x) (sym e))))
+
+-- such a line is not blank
+pub lazy-filled : (cs : List Code) (t : Tree) → is_lazy cs t ≡ true → is_blank_line cs ≡ false
+lazy-filled cs t h = by_tests (ends_in_text t) (is_blank_line cs) (is_some (begun false true cs)) h
+  where
+    by_tests : (a b d : Bool) → (a && not (b || d)) ≡ true → b ≡ false
+    by_tests true true d h = sym h
+    by_tests true false d h = refl
+    by_tests false b d h = absurd (cc)

@@ -7,6 +7,10 @@ pub mod FollowLines
 pub mod ItemRowLemmas
 pub mod LazyLines
 pub mod LinePieces
+pub mod OuterCodes
 pub mod PathRows
+pub mod PlacedPieces
+pub mod PlacedTexts
 pub mod ReaderTrees
+pub mod TextEndLemmas
 pub mod TextPieces

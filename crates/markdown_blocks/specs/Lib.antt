@@ -4,4 +4,6 @@ pub mod ItemRows
 pub mod LineRest
 pub mod LinesLeft
 pub mod PathItems
+pub mod TextRows
+pub mod TextTrims
 pub mod TreeDepth

@@ -1,11 +1,12 @@
 //! The blocks of a document, line by line.
 
-ghost use Rattle.std.specs.Prelude.{◌≡◌, ◌<◌, ◌≤◌, length, IfOk};
+ghost use Rattle.std.specs.Prelude.{◌≡◌, ◌<◌, ◌≤◌, length, IfOk, All};
 ghost use Rattle.markdown_content.specs.Content.{document_limit};
 ghost use Rattle.markdown_content.specs.DocumentWalk.{IsPoint};
 ghost use Rattle.markdown_block_model.specs.DocumentBlocks.{blocks_of};
 ghost use Rattle.markdown_blocks.specs.BlockRows.{tree_of, IsBetween};
 ghost use Rattle.markdown_blocks.specs.LinesLeft.{read_on};
+ghost use Rattle.markdown_blocks.specs.TextRows.{StandsBetween, HasPlacedTexts, IsPlacedRow};
 
 use crate::block::Blocks;
 use crate::path::Path;
@@ -31,9 +32,13 @@ fn read_line_at<T: HasText>(
     requires is_point { IsPoint bytes.now start }
     requires begins { start.index < length bytes.now }
     requires between { IsBetween bytes.now reader.old }
+    requires characters { StandsBetween bytes.now start }
+    requires texts { HasPlacedTexts bytes.now start reader.old }
     ensures is_point { IfOk result (λ stop. IsPoint bytes.now stop) }
     ensures forward { IfOk result (λ stop. start.index < stop.index) }
     ensures between { IfOk result (λ _. IsBetween bytes.now reader.new) }
+    ensures characters { IfOk result (λ stop. StandsBetween bytes.now stop) }
+    ensures texts { IfOk result (λ stop. HasPlacedTexts bytes.now stop reader.new) }
     ensures same { IfOk result (λ stop. read_on T.has_text bytes.now reader.new stop ≡ read_on T.has_text bytes.now reader.old start) }
 {
     let line = line_at(bytes, start, buffer)?;
@@ -46,7 +51,8 @@ fn read_line_at<T: HasText>(
 /// The only error is that memory was refused.
 pub fn blocks<T: HasText>(alloc: Global, test: &T, bytes: &[u8]) -> Result<Blocks, AllocError>
     requires { length bytes.now ≤ document_limit }
-    ensures { IfOk result (λ b. tree_of bytes.now b ≡ blocks_of T.has_text bytes.now) }
+    ensures tree { IfOk result (λ b. tree_of bytes.now b ≡ blocks_of T.has_text bytes.now) }
+    ensures texts { IfOk result (λ b. All (IsPlacedRow bytes.now) b.rows.items) }
 {
     let mut reader = Reader {
         rows: Vec::new(alloc),

@@ -6,6 +6,7 @@
 
 pub mod block;
 pub mod document;
+pub mod ends;
 mod leaves;
 mod path;
 mod read;

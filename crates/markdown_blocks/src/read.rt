@@ -1,6 +1,8 @@
 //! A line on the blocks of the lines before it.
 
-ghost use Rattle.std.specs.Prelude.{◌≡◌, ◌≤◌, ◌<◌, ◌∷◌, [], Bool, ℕ, List, suc, length, drop, true, Some, None, IfOk, MatchOption};
+ghost use Rattle.std.specs.Prelude.{◌≡◌, ◌≤◌, ◌<◌, ◌∷◌, [], Bool, ℕ, List, suc, length, take, drop, true, false, Some, None, IfOk, IfSome, MatchOption};
+ghost use Rattle.std.specs.List.{list_all};
+ghost use Rattle.markdown_event.specs.declared.event.Point.{Point};
 ghost use Rattle.markdown_content.specs.Codes.{Code};
 ghost use Rattle.markdown_content.specs.Content.{content_of};
 ghost use Rattle.markdown_block_model.specs.LineRests.{is_blank_line, trimmed};
@@ -11,6 +13,9 @@ ghost use Rattle.markdown_block_line.specs.LineBlocks.{container_of};
 ghost use Rattle.markdown_block_line.specs.LineStarts.{begun_of, IsWithin};
 ghost use Rattle.markdown_blocks.specs.TreeDepth.{at_depth, inside_at};
 ghost use Rattle.markdown_blocks.specs.BlockRows.{leaf_of, closed_tree, whole_tree, depth, container_at, is_text, lazy_leaf, IsBetween, IsStanding, IsDeeper, HasLeaf, HasContainer, IsFinished, IsEntered};
+ghost use Rattle.markdown_blocks.specs.LineRest.{IsBegun, TextsBefore, TextsBehind};
+ghost use Rattle.markdown_blocks.specs.TextRows.{is_outer, line_stop, HasPlacedText, IsOpenLeaf, HasPlacedRows, HasPlacedTexts};
+ghost use Rattle.markdown_blocks.specs.declared.block.Leaf.TheVariants.{Paragraph};
 
 use crate::block::{Leaf, Row};
 use crate::leaves::{self, Next};
@@ -28,6 +33,7 @@ fn put_leaf(reader: &mut Reader, leaf: Leaf) -> Result<(), AllocError>
     ensures path { reader.new.path ≡ reader.old.path }
     ensures open { reader.new.open ≡ reader.old.open }
     ensures standing { IfOk result (λ _. (bytes : List ℕ) → IsStanding bytes reader.old → IsStanding bytes reader.new) }
+    ensures texts { IfOk result (λ _. (bytes : List ℕ) → HasPlacedRows bytes reader.old → HasPlacedText bytes leaf → HasPlacedRows bytes reader.new) }
 {
     let depth = reader.path.len();
     reader.rows.push(Row::LeafAt(depth, leaf))?;
@@ -36,7 +42,8 @@ fn put_leaf(reader: &mut Reader, leaf: Leaf) -> Result<(), AllocError>
 
 // Opens a container that holds nothing yet.
 fn put_container(reader: &mut Reader, container: Container) -> Result<(), AllocError>
-    ensures { IfOk result (λ _. (bytes : List ℕ) → IsStanding bytes reader.old → IsDeeper bytes (container_of container) reader.old reader.new) }
+    ensures deeper { IfOk result (λ _. (bytes : List ℕ) → IsStanding bytes reader.old → IsDeeper bytes (container_of container) reader.old reader.new) }
+    ensures texts { IfOk result (λ _. (bytes : List ℕ) → HasPlacedRows bytes reader.old → HasPlacedRows bytes reader.new) }
 {
     let depth = reader.path.len();
     reader.rows.push(Row::ContainerAt(depth, container))?;
@@ -62,7 +69,9 @@ fn one_piece(alloc: Global, piece: Piece) -> Result<Vec<Piece>, AllocError>
 
 // The paragraph that begins with a line.
 fn text_leaf(alloc: Global, rest: &Rest) -> Result<Leaf, AllocError>
-    ensures { IfOk result (λ leaf. leaf_of rest.now.bytes leaf ≡ paragraph (trimmed rest.now.codes)) }
+    requires { is_blank_line rest.now.codes ≡ false }
+    ensures leaf { IfOk result (λ leaf. leaf_of rest.now.bytes leaf ≡ paragraph (trimmed rest.now.codes)) }
+    ensures text { IfOk result (IsOpenLeaf rest.now.bytes (line_stop rest.now.bytes rest.now.start)) }
 {
     let text = one_piece(alloc, rest.trimmed_piece())?;
     Ok(Leaf::Paragraph(text))
@@ -77,7 +86,11 @@ fn begin(
 ) -> Result<Option<usize>, AllocError>
     requires standing { IsStanding rest.now.bytes reader.old }
     requires within { IsWithin (length rest.now.codes) begun }
-    ensures { IfOk result (λ outside. MatchOption outside (HasLeaf rest.now.bytes (begun_of rest.now.codes begun) reader.old reader.new) (λ k. (0 < k) × (k ≤ length rest.now.codes) × HasContainer rest.now.bytes (begun_of rest.now.codes begun) (drop k rest.now.codes) reader.old reader.new)) }
+    requires is { IsBegun rest.now.codes begun }
+    requires texts { HasPlacedRows rest.now.bytes reader.old }
+    ensures begun { IfOk result (λ outside. MatchOption outside (HasLeaf rest.now.bytes (begun_of rest.now.codes begun) reader.old reader.new) (λ k. (0 < k) × (k ≤ length rest.now.codes) × HasContainer rest.now.bytes (begun_of rest.now.codes begun) (drop k rest.now.codes) reader.old reader.new)) }
+    ensures outer { IfOk result (λ outside. IfSome outside (λ k. list_all is_outer (take k rest.now.codes) ≡ true)) }
+    ensures texts { IfOk result (λ _. TextsBehind rest.now reader.new) }
 {
     match begun {
         Begun::Container(container, outside) => {
@@ -118,7 +131,10 @@ fn begin(
 fn begin_next(alloc: Global, reader: &mut Reader, rest: &Rest) -> Result<Option<usize>, AllocError>
     requires standing { IsStanding rest.now.bytes reader.old }
     requires empty { is_blank_line rest.now.codes ≡ true → inside_at (depth reader.old) (closed_tree rest.now.bytes reader.old) ≡ nothing }
-    ensures { IfOk result (λ outside. MatchOption outside (IsFinished rest.now.bytes rest.now.codes reader.old reader.new) (λ k. (k ≤ length rest.now.codes) × IsEntered rest.now.bytes rest.now.codes (drop k rest.now.codes) reader.old reader.new)) }
+    requires texts { HasPlacedRows rest.now.bytes reader.old }
+    ensures begun { IfOk result (λ outside. MatchOption outside (IsFinished rest.now.bytes rest.now.codes reader.old reader.new) (λ k. (k ≤ length rest.now.codes) × IsEntered rest.now.bytes rest.now.codes (drop k rest.now.codes) reader.old reader.new)) }
+    ensures outer { IfOk result (λ outside. IfSome outside (λ k. list_all is_outer (take k rest.now.codes) ≡ true)) }
+    ensures texts { IfOk result (λ _. TextsBehind rest.now reader.new) }
 {
     match rest.begun(false, false) {
         Some(begun) => {
@@ -140,8 +156,10 @@ fn begin_next(alloc: Global, reader: &mut Reader, rest: &Rest) -> Result<Option<
 fn begin_rest(alloc: Global, reader: &mut Reader, rest: &Rest) -> Result<(), AllocError>
     requires standing { IsStanding rest.now.bytes reader.old }
     requires empty { is_blank_line rest.now.codes ≡ true → inside_at (depth reader.old) (closed_tree rest.now.bytes reader.old) ≡ nothing }
+    requires texts { HasPlacedRows rest.now.bytes reader.old }
     ensures tree { IfOk result (λ _. whole_tree rest.now.bytes reader.new ≡ at_depth (depth reader.old) (with_rest (suc (length rest.now.codes)) rest.now.codes) (closed_tree rest.now.bytes reader.old)) }
     ensures between { IfOk result (λ _. IsBetween rest.now.bytes reader.new) }
+    ensures texts { IfOk result (λ _. TextsBehind rest.now reader.new) }
 {
     let mut inner = rest.behind(0);
     while let Some(outside) = begin_next(alloc, reader, &inner)? {
@@ -159,8 +177,11 @@ fn begin_all(
 ) -> Result<(), AllocError>
     requires standing { IsStanding rest.now.bytes reader.old }
     requires within { IsWithin (length rest.now.codes) begun }
+    requires is { IsBegun rest.now.codes begun }
+    requires texts { HasPlacedRows rest.now.bytes reader.old }
     ensures tree { IfOk result (λ _. whole_tree rest.now.bytes reader.new ≡ at_depth (depth reader.old) (with_begun (begun_of rest.now.codes begun)) (closed_tree rest.now.bytes reader.old)) }
     ensures between { IfOk result (λ _. IsBetween rest.now.bytes reader.new) }
+    ensures texts { IfOk result (λ _. TextsBehind rest.now reader.new) }
 {
     match begin(alloc, reader, begun, rest)? {
         None => Ok(()),
@@ -173,9 +194,11 @@ fn begin_all(
 
 // A line that stands behind the siblings of the innermost container.
 fn stand(alloc: Global, reader: &mut Reader, rest: &Rest) -> Result<(), AllocError>
-    requires { IsStanding rest.now.bytes reader.old }
+    requires standing { IsStanding rest.now.bytes reader.old }
+    requires texts { HasPlacedRows rest.now.bytes reader.old }
     ensures tree { IfOk result (λ _. whole_tree rest.now.bytes reader.new ≡ at_depth (depth reader.old) (with_line rest.now.codes) (closed_tree rest.now.bytes reader.old)) }
     ensures between { IfOk result (λ _. IsBetween rest.now.bytes reader.new) }
+    ensures texts { IfOk result (λ _. TextsBehind rest.now reader.new) }
 {
     if rest.is_blank() {
         open_leaf(reader, Leaf::Blank);
@@ -208,9 +231,12 @@ fn follow_text<T: HasText>(
     text: Vec<Piece>,
     rest: &Rest,
 ) -> Result<(), AllocError>
-    requires { IsStanding rest.now.bytes reader.old }
+    requires standing { IsStanding rest.now.bytes reader.old }
+    requires texts { HasPlacedRows rest.now.bytes reader.old }
+    requires text { IsOpenLeaf rest.now.bytes rest.now.start (Paragraph text) }
     ensures tree { IfOk result (λ _. whole_tree rest.now.bytes reader.new ≡ at_depth (depth reader.old) (λ s. with_text_line T.has_text rest.now.codes s (content_of rest.now.bytes text.items)) (closed_tree rest.now.bytes reader.old)) }
     ensures between { IfOk result (λ _. IsBetween rest.now.bytes reader.new) }
+    ensures texts { IfOk result (λ _. TextsBehind rest.now reader.new) }
 {
     let mut text = text;
     if rest.is_blank() {
@@ -243,9 +269,12 @@ fn follow_other(
     leaf: Leaf,
     rest: &Rest,
 ) -> Result<(), AllocError>
-    requires { IsStanding rest.now.bytes reader.old }
+    requires standing { IsStanding rest.now.bytes reader.old }
+    requires texts { HasPlacedRows rest.now.bytes reader.old }
+    requires text { HasPlacedText rest.now.bytes leaf }
     ensures tree { IfOk result (λ _. whole_tree rest.now.bytes reader.new ≡ at_depth (depth reader.old) (λ s. with_next_or_line rest.now.codes s (leaf_of rest.now.bytes leaf) (with_next (leaf_of rest.now.bytes leaf) rest.now.codes)) (closed_tree rest.now.bytes reader.old)) }
     ensures between { IfOk result (λ _. IsBetween rest.now.bytes reader.new) }
+    ensures texts { IfOk result (λ _. TextsBehind rest.now reader.new) }
 {
     match leaves::continued(leaf, rest)? {
         Next::WithLine(leaf) => {
@@ -268,9 +297,12 @@ fn follow_leaf<T: HasText>(
     leaf: Leaf,
     rest: &Rest,
 ) -> Result<(), AllocError>
-    requires { IsStanding rest.now.bytes reader.old }
+    requires standing { IsStanding rest.now.bytes reader.old }
+    requires texts { HasPlacedRows rest.now.bytes reader.old }
+    requires text { IsOpenLeaf rest.now.bytes rest.now.start leaf }
     ensures tree { IfOk result (λ _. whole_tree rest.now.bytes reader.new ≡ at_depth (depth reader.old) (λ s. with_leaf_line T.has_text rest.now.codes s (leaf_of rest.now.bytes leaf)) (closed_tree rest.now.bytes reader.old)) }
     ensures between { IfOk result (λ _. IsBetween rest.now.bytes reader.new) }
+    ensures texts { IfOk result (λ _. TextsBehind rest.now reader.new) }
 {
     match leaf {
         Leaf::Paragraph(text) => {
@@ -291,9 +323,11 @@ fn follow<T: HasText>(
     reader: &mut Reader,
     rest: &Rest,
 ) -> Result<(), AllocError>
-    requires { IsBetween rest.now.bytes reader.old }
+    requires between { IsBetween rest.now.bytes reader.old }
+    requires texts { TextsBefore rest.now reader.old }
     ensures tree { IfOk result (λ _. whole_tree rest.now.bytes reader.new ≡ at_depth (depth reader.old) (read_line T.has_text rest.now.codes) (whole_tree rest.now.bytes reader.old)) }
     ensures between { IfOk result (λ _. IsBetween rest.now.bytes reader.new) }
+    ensures texts { IfOk result (λ _. TextsBehind rest.now reader.new) }
 {
     match reader.open.take() {
         None => {
@@ -312,6 +346,7 @@ pub fn put_open(reader: &mut Reader) -> Result<(), AllocError>
     ensures tree { IfOk result (λ _. (bytes : List ℕ) → closed_tree bytes reader.new ≡ whole_tree bytes reader.old) }
     ensures path { reader.new.path ≡ reader.old.path }
     ensures standing { IfOk result (λ _. (bytes : List ℕ) → IsBetween bytes reader.old → IsStanding bytes reader.new) }
+    ensures texts { IfOk result (λ _. (bytes : List ℕ) (p : Point) → HasPlacedTexts bytes p reader.old → HasPlacedRows bytes reader.new) }
 {
     match reader.open.take() {
         None => Ok(()),
@@ -328,6 +363,7 @@ fn close(reader: &mut Reader, outside: usize) -> Result<(), AllocError>
     ensures tree { IfOk result (λ _. (bytes : List ℕ) → closed_tree bytes reader.new ≡ whole_tree bytes reader.old) }
     ensures depth { IfOk result (λ _. depth reader.new ≡ outside) }
     ensures standing { IfOk result (λ _. (bytes : List ℕ) → IsBetween bytes reader.old → IsStanding bytes reader.new) }
+    ensures texts { IfOk result (λ _. (bytes : List ℕ) (p : Point) → HasPlacedTexts bytes p reader.old → HasPlacedRows bytes reader.new) }
 {
     put_open(reader)?;
     reader.path.truncate(outside);
@@ -372,6 +408,7 @@ fn go_on<'a>(reader: &Reader, rest: &Rest<'a>) -> (usize, Rest<'a>)
     requires { IsBetween rest.now.bytes reader.now }
     ensures within { result.0 ≤ depth reader.now }
     ensures bytes { result.1.bytes ≡ rest.now.bytes }
+    ensures start { result.1.start ≡ rest.now.start }
     ensures tree { (has_text : List Code → Bool) → read_line has_text rest.now.codes (whole_tree rest.now.bytes reader.now) ≡ at_depth result.0 (read_line has_text result.1.codes) (whole_tree rest.now.bytes reader.now) }
     ensures stops { result.0 < depth reader.now → rest_inside (container_at result.0 reader.now) (inside_at (suc result.0) (whole_tree rest.now.bytes reader.now)) result.1.codes ≡ None }
 {
@@ -418,7 +455,10 @@ fn is_lazy(reader: &Reader, rest: &Rest) -> bool
 
 // A paragraph with a line that continues it lazily; another leaf as it is.
 fn longer(leaf: Leaf, rest: &Rest) -> Result<Leaf, AllocError>
-    ensures { IfOk result (λ l. leaf_of rest.now.bytes l ≡ lazy_leaf rest.now.codes (leaf_of rest.now.bytes leaf)) }
+    requires filled { is_blank_line rest.now.codes ≡ false }
+    requires text { IsOpenLeaf rest.now.bytes rest.now.start leaf }
+    ensures leaf { IfOk result (λ l. leaf_of rest.now.bytes l ≡ lazy_leaf rest.now.codes (leaf_of rest.now.bytes leaf)) }
+    ensures text { IfOk result (IsOpenLeaf rest.now.bytes (line_stop rest.now.bytes rest.now.start)) }
 {
     match leaf {
         Leaf::Paragraph(text) => {
@@ -432,9 +472,12 @@ fn longer(leaf: Leaf, rest: &Rest) -> Result<Leaf, AllocError>
 
 // A line that continues the open leaf lazily.
 fn join(reader: &mut Reader, rest: &Rest) -> Result<(), AllocError>
-    requires { IsBetween rest.now.bytes reader.old }
+    requires between { IsBetween rest.now.bytes reader.old }
+    requires filled { is_blank_line rest.now.codes ≡ false }
+    requires texts { TextsBefore rest.now reader.old }
     ensures tree { IfOk result (λ _. whole_tree rest.now.bytes reader.new ≡ with_lazy_line rest.now.codes (whole_tree rest.now.bytes reader.old)) }
     ensures between { IfOk result (λ _. IsBetween rest.now.bytes reader.new) }
+    ensures texts { IfOk result (λ _. TextsBehind rest.now reader.new) }
 {
     match reader.open.take() {
         None => Ok(()),
@@ -453,9 +496,11 @@ pub fn read_line<T: HasText>(
     reader: &mut Reader,
     line: &Rest,
 ) -> Result<(), AllocError>
-    requires { IsBetween line.now.bytes reader.old }
+    requires between { IsBetween line.now.bytes reader.old }
+    requires texts { TextsBefore line.now reader.old }
     ensures tree { IfOk result (λ _. whole_tree line.now.bytes reader.new ≡ read_line T.has_text line.now.codes (whole_tree line.now.bytes reader.old)) }
     ensures between { IfOk result (λ _. IsBetween line.now.bytes reader.new) }
+    ensures texts { IfOk result (λ _. TextsBehind line.now reader.new) }
 {
     let (depth, rest) = go_on(reader, line);
     if depth == reader.path.len() {

@@ -1,20 +1,23 @@
 //! The rest of a line: the document, where the line begins, the values of its codes, and how many of these stand before the rest.
 
-ghost use Rattle.std.specs.Prelude.{◌≡◌, ◌<◌, ◌≤◌, ◌+◌, ◌||◌, length, take, drop, not, is_some, true, false, List, Some, None, MatchOption, IfSome};
+ghost use Rattle.std.specs.Prelude.{◌≡◌, ◌<◌, ◌≤◌, ◌+◌, ◌||◌, ◌∷◌, [], length, take, drop, not, is_some, true, false, List, Some, None, MatchOption, IfSome};
+ghost use Rattle.std.specs.List.{list_all};
 ghost use Rattle.markdown_content.specs.Codes.{Code, codes_of};
 ghost use Rattle.markdown_content.specs.Content.{document_limit, piece_codes};
 ghost use Rattle.markdown_content.specs.DocumentWalk.{IsPoint};
 ghost use Rattle.markdown_model.specs.CodeTests.{values_of};
 ghost use Rattle.markdown_block_model.specs.LineRests.{indent, is_blank_line};
 ghost use Rattle.markdown_block_model.specs.BlockTree.{Tree};
+ghost use Rattle.markdown_block_model.specs.TextStarts.{lines_begin, is_line};
 ghost use Rattle.markdown_block_model.specs.LeafStarts.{underline};
 ghost use Rattle.markdown_block_model.specs.BlockStarts.{begun};
 ghost use Rattle.markdown_block_model.specs.DocumentBlocks.{rest_inside, is_nothing};
 ghost use Rattle.markdown_block_line.specs.DocumentLines.{line_from};
 ghost use Rattle.markdown_block_line.specs.LineBlocks.{container_of};
-ghost use Rattle.markdown_block_line.specs.LineStarts.{begun_of, IsWithin};
+ghost use Rattle.markdown_block_line.specs.LineStarts.{begun_of, StandsWhere, IsWithin};
 ghost use Rattle.markdown_blocks.specs.ItemRows.{IsBare};
 ghost use Rattle.markdown_blocks.specs.LineRest.{behind, IsLineStart};
+ghost use Rattle.markdown_blocks.specs.TextRows.{StandsBetween, is_outer, begins_ascii, ArePlaced, IsLineEnd};
 
 use markdown_block_line::begins::{self, Begun};
 use markdown_block_line::breaks::{BreakLens, break_lens};
@@ -46,7 +49,7 @@ impl<'a> Model for Rest<'a> {
 
     ghost Value = { LineRest };
 
-    ghost view = { λ r. record { bytes = r.document.now; codes = drop r.at (line_from r.document.now r.start) } };
+    ghost view = { λ r. record { bytes = r.document.now; start = r.start; codes = drop r.at (line_from r.document.now r.start) } };
 
     ghost invariant = { λ r. IsRest r.document.now r.start r.values.now r.breaks r.at };
 }
@@ -58,7 +61,8 @@ impl<'a> Rest<'a> {
         requires is_point { IsPoint document.now start }
         requires begins { IsLineStart document.now start (line_from document.now start) }
         requires same { values_of (line_from document.now start) ≡ values.now }
-        ensures { result ≡ record { bytes = document.entry.now; codes = line_from document.entry.now start } }
+        requires between { StandsBetween document.now start }
+        ensures { result ≡ record { bytes = document.entry.now; start = start; codes = line_from document.entry.now start } }
     {
         Rest {
             document,
@@ -90,9 +94,10 @@ impl<'a> Rest<'a> {
         self.values.len() - self.at
     }
 
-    /// Returns the rest behind so many codes.
+    /// Returns the rest behind so many codes, which are ASCII and no line ending.
     pub fn behind(&self, count: usize) -> Rest<'a>
-        requires { count ≤ length self.now.codes }
+        requires within { count ≤ length self.now.codes }
+        requires outer { list_all is_outer (take count self.now.codes) ≡ true }
         ensures { result ≡ behind count self.now }
     {
         Rest {
@@ -136,6 +141,7 @@ impl<'a> Rest<'a> {
     /// Returns what begins here, or `None`. `in_paragraph` says that a paragraph stands right before, and `after_text` that one is open here or further inside.
     pub fn begun(&self, in_paragraph: bool, after_text: bool) -> Option<Begun>
         ensures found { MatchOption result (begun in_paragraph after_text self.now.codes ≡ None) (λ b. begun in_paragraph after_text self.now.codes ≡ Some (begun_of self.now.codes b)) }
+        ensures start { IfSome result (StandsWhere self.now.codes) }
         ensures within { IfSome result (IsWithin (length self.now.codes)) }
     {
         begins::begun_at(in_paragraph, after_text, self.breaks, self.values())
@@ -151,7 +157,10 @@ impl<'a> Rest<'a> {
     /// Returns the piece of the document that has so many codes, behind so many.
     pub fn piece(&self, from: usize, len: usize) -> Piece
         requires { from + len ≤ length self.now.codes }
-        ensures { piece_codes (codes_of self.now.bytes) result ≡ take len (drop from self.now.codes) }
+        ensures codes { piece_codes (codes_of self.now.bytes) result ≡ take len (drop from self.now.codes) }
+        ensures placed { list_all is_outer (take from self.now.codes) ≡ true → begins_ascii (drop (from + len) self.now.codes) ≡ true → lines_begin true (take len (drop from self.now.codes)) ≡ true → ArePlaced self.now.bytes (result ∷ []) }
+        ensures line { list_all is_outer (take from self.now.codes) ≡ true → from + len ≡ length self.now.codes → 0 < len → lines_begin true (drop from self.now.codes) ≡ true → IsLineEnd self.now.bytes self.now.start result }
+        ensures is_line { is_line self.now.codes ≡ true }
     {
         let start = past_codes(self.document, self.start, self.at + from);
         let end = past_codes(self.document, start, len);
@@ -164,14 +173,17 @@ impl<'a> Rest<'a> {
     /// Returns the piece of the document that has the codes behind so many.
     pub fn piece_from(&self, from: usize) -> Piece
         requires { from ≤ length self.now.codes }
-        ensures { piece_codes (codes_of self.now.bytes) result ≡ drop from self.now.codes }
+        ensures codes { piece_codes (codes_of self.now.bytes) result ≡ drop from self.now.codes }
+        ensures line { list_all is_outer (take from self.now.codes) ≡ true → from < length self.now.codes → lines_begin true (drop from self.now.codes) ≡ true → IsLineEnd self.now.bytes self.now.start result }
+        ensures is_line { is_line self.now.codes ≡ true }
     {
         self.piece(from, self.len() - from)
     }
 
     /// Returns the piece of the document that has the codes from the first on that is not blank.
     pub fn trimmed_piece(&self) -> Piece
-        ensures { piece_codes (codes_of self.now.bytes) result ≡ drop (indent self.now.codes) self.now.codes }
+        ensures codes { piece_codes (codes_of self.now.bytes) result ≡ drop (indent self.now.codes) self.now.codes }
+        ensures line { is_blank_line self.now.codes ≡ false → IsLineEnd self.now.bytes self.now.start result }
     {
         self.piece_from(line::indent(self.values()))
     }

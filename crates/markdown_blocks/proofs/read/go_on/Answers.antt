@@ -6,6 +6,7 @@ use Rattle.markdown_blocks.specs.TreeDepth.{inside_at}
 use Rattle.markdown_blocks.specs.BlockRows.{depth, whole_tree, container_at}
 use Rattle.markdown_blocks.proofs.ReaderTrees.{whole-front, container-at}
 use Rattle.markdown_blocks.proofs.ContainerWalks.{walk-step}
+use Rattle.markdown_blocks.proofs.OuterCodes.{outside-continued}
 use Rattle.markdown_blocks.proofs.read.go_on.Goals as goal
 
 pub loop-depth-preserved : goal.loop-depth-preserved
@@ -20,6 +21,7 @@ loop-depth-preserved c =
     record {
       within = omega arith;
       same_bytes = rw c.behind-inner-in-Some.ensures c.loop-depth.invariant.same_bytes;
+      same_start = rw c.behind-inner-in-Some.ensures c.loop-depth.invariant.same_start;
       tree = λ (has_text : List Code → Bool).
           let leapt = rw c.loop-depth.invariant.same_bytes at (c.leap-depth.ensures.same has_text) in
           rw c.behind-inner-in-Some.ensures (c.loop-depth.invariant.tree has_text ∙ leapt ∙ rw add-one (walk-step has_text n (whole_tree bytes r) r.path _ _ (whole-front bytes r c.requires) k x));
@@ -39,3 +41,10 @@ pub returns-in-None-clause-tree : goal.returns-in-None-clause-tree
 returns-in-None-clause-tree c = λ (has_text : List Code → Bool).
     let leapt = rw c.loop-depth.invariant.same_bytes at (c.leap-depth.ensures.same has_text) in
     c.loop-depth.invariant.tree has_text ∙ leapt
+
+pub behind-inner-requires-in-Some-clause-outer : goal.behind-inner-requires-in-Some-clause-outer
+behind-inner-requires-in-Some-clause-outer c =
+    let r = c.args.reader.now in
+    let inside = inside_at (suc c.leap-depth.result) (whole_tree c.args.rest.now.bytes r) in
+    outside-continued (container_of c.get.result) inside c.loop-depth.inner.codes c.in-Some.outside c.in-Some.ensures.within
+    (c.in-Some.ensures.found inside (sym (c.holds_nothing.ensures c.args.rest.now.bytes c.requires)))

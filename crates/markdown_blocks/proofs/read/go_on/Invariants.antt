@@ -9,6 +9,7 @@ abbrev pub invariant-loop-depth : goal.invariant-loop-depth
 invariant-loop-depth l = record {
   within : l.depth ≤ depth l.reader;
   same_bytes : l.inner.bytes ≡ l.rest.bytes;
+  same_start : l.inner.start ≡ l.rest.start;
   tree : (has_text : List Code → Bool) → read_line has_text l.rest.codes (whole_tree l.rest.bytes l.reader) ≡ at_depth l.depth (read_line has_text l.inner.codes) (whole_tree l.rest.bytes l.reader);
 }
 
