@@ -209,16 +209,21 @@ fn stand(alloc: Global, reader: &mut Reader, rest: &Rest) -> Result<(), AllocErr
 }
 
 // The level of the heading that a line makes of a paragraph.
-fn heading_level<T: HasText>(test: &T, text: &[Piece], rest: &Rest) -> Option<usize>
-    ensures { result ≡ heading_level T.has_text rest.now.codes (content_of rest.now.bytes text.now) }
+fn heading_level<T: HasText>(
+    alloc: Global,
+    test: &T,
+    text: &[Piece],
+    rest: &Rest,
+) -> Result<Option<usize>, AllocError>
+    ensures { IfOk result (λ level. level ≡ heading_level T.has_text rest.now.codes (content_of rest.now.bytes text.now)) }
 {
     match rest.underline() {
-        None => None,
+        None => Ok(None),
         Some(level) => {
-            if test.test(rest.document(), text) {
-                return Some(level);
+            if test.test(alloc, rest.document(), text)? {
+                return Ok(Some(level));
             }
-            None
+            Ok(None)
         }
     }
 }
@@ -244,7 +249,8 @@ fn follow_text<T: HasText>(
         open_leaf(reader, Leaf::Blank);
         return Ok(());
     }
-    if let Some(level) = heading_level(test, &text, rest) {
+    let heading = heading_level(alloc, test, &text, rest)?;
+    if let Some(level) = heading {
         open_leaf(reader, Leaf::Underlined(level, text));
         return Ok(());
     }
