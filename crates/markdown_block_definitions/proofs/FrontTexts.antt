@@ -1,0 +1,64 @@
+-- The texts of definitions as bytes.
+use Rattle.std.proofs.Common.{◌≡◌, ℕ, suc, ◌+◌, ◌-◌, ◌≤◌, ◌<◌, refl, ap, ◌∙◌, sym, List, [], ◌∷◌, ◌++◌, length, take, drop, map, true, false, Some, None, Option, arith}
+use Rattle.std.specs.Prelude.{if◌then◌else◌}
+use Rattle.std.proofs.lemmas.List.{map-append}
+use Rattle.markdown_content.specs.Codes.{Code}
+use Rattle.markdown_model.specs.CodeTests.{values_of, is_value, next_is}
+use Rattle.markdown_block_model.specs.LinkDefinitions as link_definitions
+use Rattle.markdown_block_model.specs.LinkDefinitions.{between, destination_text, definition}
+use Rattle.markdown_block_line.proofs.RestValues.{values-drop, values-take, values-length}
+use Rattle.markdown_block_definitions.specs.DefinitionTexts.{Texts, texts_of, texts_in, IsFrontOf}
+use Rattle.markdown_block_definitions.specs.declared.front.Definition.{Definition}
+use Rattle.markdown_block_definitions.specs.declared.front.Front.{Front}
+use Rattle.markdown_block_definitions.proofs.DefinitionReads.{IsDefinedTo, front-start, start-none, front-more, front-end, front-all}
+
+pub inside-few : (cs : List Code) (vs : List ℕ) → values_of cs ≡ vs → length vs < 2 → values_of (between cs) ≡ []
+inside-few [] vs h l = refl
+inside-few (c ∷ []) vs h l = refl
+inside-few (c ∷ d ∷ cs) vs h l = absurd (omega (arith, l, ap length h))
+
+pub inside-is : (cs : List Code) (vs : List ℕ) (n : ℕ) → values_of cs ≡ vs → 2 ≤ length vs → n ≡ length vs - 1 - 1 → values_of (between cs) ≡ take n (drop 1 vs)
+inside-is cs vs n h l e =
+    let k : length cs - 1 ≡ suc n = omega (arith, e, l, ap length h, values-length cs) in
+    values-drop 1 (take (length cs - 1) cs) ∙ ap (drop 1) (values-take (length cs - 1) cs ∙ ap (take (length cs - 1)) h)
+    ∙ ap (λ m. drop 1 (take m vs)) k ∙ here n vs (omega (arith, e, l))
+  where
+    here : (n : ℕ) (vs : List ℕ) → 1 ≤ length vs → drop 1 (take (suc n) vs) ≡ take n (drop 1 vs)
+    here n [] l = absurd (omega (arith, l))
+    here n (v ∷ vs) l = refl
+
+pub destination-inside : (cs : List Code) (vs : List ℕ) → next_is (is_value 60) cs ≡ true → values_of (between cs) ≡ vs → values_of (destination_text cs) ≡ vs
+destination-inside cs vs e h = ap (λ b. values_of (if b then between cs else cs)) e ∙ h
+
+pub destination-bare : (cs : List Code) (vs : List ℕ) → next_is (is_value 60) cs ≡ false → values_of cs ≡ vs → values_of (destination_text cs) ≡ vs
+destination-bare cs vs e h = ap (λ b. values_of (if b then between cs else cs)) e ∙ h
+
+pub part-of : (cs : List Code) (vs : List ℕ) (s n m : ℕ) → values_of cs ≡ vs → m ≡ n → values_of (take n (drop s cs)) ≡ take m (drop s vs)
+part-of cs vs s n m h e = values-take n (drop s cs) ∙ ap (take n) (values-drop s cs ∙ ap (drop s) h) ∙ ap (λ k. take k (drop s vs)) (sym e)
+
+pub texts-same : (a x b y : List ℕ) (t u : Option (List ℕ)) → a ≡ x → b ≡ y → t ≡ u → ◌≡◌ {A = Texts} (record { label = a; destination = b; title = t }) (record { label = x; destination = y; title = u })
+texts-same a x b y t u e f g =
+    ap (λ (z : List ℕ). let r : Texts = record { label = z; destination = b; title = t } in r) e
+    ∙ ap (λ (z : List ℕ). let r : Texts = record { label = x; destination = z; title = t } in r) f
+    ∙ ap (λ (z : Option (List ℕ)). let r : Texts = record { label = x; destination = y; title = z } in r) g
+
+-- one definition more
+pub copies-more : (xs ys : List Definition) (x : Definition) (ds es : List link_definitions.Definition) (d : link_definitions.Definition) → ys ≡ xs ++ x ∷ [] → es ≡ ds ++ d ∷ [] → map texts_of xs ≡ map texts_in ds → texts_of x ≡ texts_in d → map texts_of ys ≡ map texts_in es
+copies-more xs ys x ds es d e f h g = ap (map texts_of) e ∙ map-append texts_of xs (x ∷ []) ∙ ap (λ (ts : List Texts). ts ++ texts_of x ∷ []) h ∙ ap (λ (t : Texts). map texts_in ds ++ t ∷ []) g ∙ sym (ap (map texts_in) f ∙ map-append texts_in ds (d ∷ []))
+
+-- the definitions of so many codes
+pub record IsCollected (cs : List Code) (len : ℕ) (xs : List Definition) : Type 0 where
+  pub front : IsDefinedTo cs len
+  pub same : map texts_of xs ≡ map texts_in front.done
+
+pub collected-start : (cs : List Code) (xs : List Definition) → xs ≡ [] → IsCollected cs 0 xs
+collected-start cs xs e = record { front = front-start cs; same = ap (map texts_of) e ∙ sym (ap (map texts_in) (start-none cs)) }
+
+pub collected-more : (cs : List Code) (len k : ℕ) (d : link_definitions.Definition) (xs ys : List Definition) (x : Definition) → IsCollected cs len xs → definition (drop len cs) ≡ Some (d, drop k (drop len cs)) → 0 < k → len + k ≤ length cs
+    → ys ≡ xs ++ x ∷ [] → texts_of x ≡ texts_in d → IsCollected cs (len + k) ys
+collected-more cs len k d xs ys x h e z l i g =
+    let more : (f : IsDefinedTo cs (len + k)) × (f.done ≡ h.front.done ++ d ∷ []) = front-more cs len k d h.front e z l in
+    record { front = more.0; same = copies-more xs ys x h.front.done more.0.done d i more.1 h.same g }
+
+pub collected-end : (cs : List Code) (len : ℕ) (f : Front) → IsCollected cs f.len f.definitions.items → definition (drop f.len cs) ≡ None → IsFrontOf cs f
+collected-end cs len f h e = record { definitions_are = h.same ∙ ap (map texts_in) (sym (front-all cs f.len h.front e)); rest = front-end cs f.len h.front e }

@@ -1,0 +1,13 @@
+-- The proofs of this crate.
+pub mod CodesAt
+pub mod DefinitionReads
+pub mod FrontTexts
+pub mod GapRests
+pub mod LineCounts
+pub mod PieceCuts
+pub mod RawWalks
+pub mod ReadingRests
+pub mod SpotReads
+pub mod TextPushes
+pub mod TextTrees
+pub mod TextWalks

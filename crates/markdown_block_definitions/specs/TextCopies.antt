@@ -1,0 +1,57 @@
+-- The codes of a text, from place to place.
+use Rattle.std.specs.Prelude.{◌≡◌, ℕ, ◌+◌, ◌-◌, ◌*◌, ◌%◌, ◌≤◌, Bool, true, ◌&&◌, ◌||◌, not, nat_lt, ◌==◌, List, [], ◌∷◌, ◌++◌, drop, slice_index, if◌then◌else◌}
+use Rattle.markdown_event.specs.declared.event.Point.{Point}
+use Rattle.markdown_content.specs.Codes.{Code, place_of, is_line_ending_byte, line_ending_len}
+use Rattle.markdown_content.specs.DocumentWalk.{IsPoint, codes_after}
+use Rattle.markdown_model.specs.CodeTests.{values_of, is_between}
+use Rattle.markdown_block_definitions.specs.TextReadings.{begins_of}
+use Rattle.markdown_block_definitions.specs.declared.copy.Spot.{Spot}
+
+-- where the spot stands, on this line and in this column
+abbrev pub point_of : Spot → ℕ → ℕ → Point
+point_of s l c = record { line = l; column = c; index = s.index; vs = s.vs }
+
+abbrev pub spot_place : Spot → ℕ × ℕ
+spot_place s = (s.index, s.vs)
+
+-- the start of a line
+abbrev pub line_spot : ℕ → Spot
+line_spot i = record { index = i; vs = 0; phase = 0 }
+
+-- it is a place of the document, so many columns behind a tab stop
+pub record IsSpot (bytes : List ℕ) (s : Spot) : Type 0 where
+  pub line : ℕ
+  pub column : ℕ
+  pub is_point : IsPoint bytes (point_of s line column)
+  pub phase : (column - 1) % 4 ≡ s.phase
+
+-- a line ends right before the byte of an index
+pub record EndsLine (bytes : List ℕ) (i : ℕ) : Type 0 where
+  pub byte : is_line_ending_byte (slice_index bytes (i - 1)) ≡ true
+  pub whole : line_ending_len (slice_index bytes (i - 1)) (drop (i - 1 + 1) bytes) ≡ 1
+
+-- the code at the first place has this value, and ends at the second
+pub record IsRead (bytes : List ℕ) (s : Spot) (value : ℕ) (t : Spot) : Type 0 where
+  pub code : Code
+  pub codes : codes_after bytes (spot_place s) ≡ code ∷ codes_after bytes (spot_place t)
+  pub values : code.value ≡ value
+  pub starts : place_of code.start ≡ spot_place s
+  pub stands : IsSpot bytes t
+  pub later : 4 * s.index + s.vs + 1 ≤ 4 * t.index + t.vs
+
+-- the place behind a column of a tab
+abbrev pub past_tab : Spot → Spot
+past_tab s = if nat_lt s.phase 3 then record { index = s.index; vs = s.vs + 1; phase = s.phase + 1 } else record { index = s.index + 1; vs = 0; phase = 0 }
+
+abbrev pub is_spot_before : Spot → ℕ × ℕ → Bool
+is_spot_before s at = nat_lt s.index at.0 || (s.index == at.0 && nat_lt s.vs at.1)
+
+-- values and marks, longer by those of some codes
+pub record IsLonger (values : List ℕ) (begins : List Bool) (more_values : List ℕ) (more_begins : List Bool) (cs : List Code) : Type 0 where
+  pub values_more : more_values ≡ values ++ values_of cs
+  pub begins_more : more_begins ≡ begins ++ begins_of cs
+
+-- the same by the code at a place, which counts if it is not before another
+pub record IsPut (start : ℕ × ℕ) (s : Spot) (value : ℕ) (values : List ℕ) (begins : List Bool) (more_values : List ℕ) (more_begins : List Bool) : Type 0 where
+  pub values_more : more_values ≡ (if is_spot_before s start then values else values ++ value ∷ [])
+  pub begins_more : more_begins ≡ (if is_spot_before s start then begins else begins ++ (not (is_between 128 191 value) && s.vs == 0) ∷ [])

@@ -1,0 +1,207 @@
+//! The codes of a text, copied: their values, and which of them begin a character.
+
+ghost use Rattle.std.specs.Prelude.{◌≡◌, ◌<◌, ◌≤◌, ◌+◌, length, drop, not, ◌&&◌, ◌==◌, true, [], IfOk, MatchOption, slice_index};
+ghost use Rattle.markdown_content.specs.Codes.{codes_of, is_line_ending_byte, line_ending_len};
+ghost use Rattle.markdown_content.specs.Content.{content_of, piece_codes};
+ghost use Rattle.markdown_model.specs.CodeTests.{is_between, is_value, next_is};
+ghost use Rattle.markdown_block_definitions.specs.TextCopies.{IsSpot, IsRead, EndsLine, IsLonger, IsPut, is_spot_before, line_spot, past_tab};
+
+use markdown_content::parser::Piece;
+use std::alloc::AllocError;
+
+// A place of a document in its line: the index of a byte, how many codes of a tab there stand before, and how many columns since the last tab stop.
+#[derive(Clone, Copy)]
+pub(crate) struct Spot {
+    pub(crate) index: usize,
+    pub(crate) vs: usize,
+    pub(crate) phase: usize,
+}
+
+// Whether a byte is a line feed or a carriage return.
+fn is_line_ending(byte: u8) -> bool
+    ensures { result ≡ is_line_ending_byte byte }
+{
+    byte == b'\n' || byte == b'\r'
+}
+
+// How many bytes the line ending has that begins at an index.
+fn line_ending_len(bytes: &[u8], index: usize) -> usize
+    requires { index < length bytes.now }
+    ensures { result ≡ line_ending_len (slice_index bytes.now index) (drop (index + 1) bytes.now) }
+{
+    if bytes[index..].starts_with(b"\r\n") {
+        2
+    } else {
+        1
+    }
+}
+
+// Whether a line ends right before the byte of an index.
+fn ends_line(bytes: &[u8], index: usize) -> bool
+    requires some { 0 < index }
+    requires within { index ≤ length bytes.now }
+    ensures { result ≡ true → EndsLine bytes.now index }
+{
+    if !is_line_ending(bytes[index - 1]) {
+        return false;
+    }
+    line_ending_len(bytes, index - 1) == 1
+}
+
+// Where the line of an index begins.
+pub(crate) fn line_start(bytes: &[u8], index: usize) -> usize
+    ensures spot { IsSpot bytes.now (line_spot result) }
+    ensures before { result ≤ index }
+{
+    let mut start = index.min(bytes.len());
+    while start > 0 {
+        if ends_line(bytes, start) {
+            return start;
+        }
+        start -= 1;
+    }
+    start
+}
+
+// The place behind a column of a tab.
+fn past_tab(spot: Spot) -> Spot
+    requires before_end { spot.index < usize.MAX }
+    requires inside { spot.vs ≤ 3 }
+    ensures { result ≡ past_tab spot }
+{
+    if spot.phase < 3 {
+        return Spot {
+            index: spot.index,
+            vs: spot.vs + 1,
+            phase: spot.phase + 1,
+        };
+    }
+    Spot {
+        index: spot.index + 1,
+        vs: 0,
+        phase: 0,
+    }
+}
+
+// The value of the code at a place before the end, and the place behind it.
+pub(crate) fn read(bytes: &[u8], spot: Spot) -> (u8, Spot)
+    requires is_spot { IsSpot bytes.now spot }
+    requires begins { spot.index < length bytes.now }
+    ensures { IsRead bytes.now spot result.0 result.1 }
+{
+    let byte = bytes[spot.index];
+    if is_line_ending(byte) {
+        let behind = Spot {
+            index: spot.index + line_ending_len(bytes, spot.index),
+            vs: 0,
+            phase: 0,
+        };
+        return (b'\n', behind);
+    }
+    if byte != b'\t' {
+        let behind = Spot {
+            index: spot.index + 1,
+            vs: 0,
+            phase: (spot.phase + 1) % 4,
+        };
+        return (byte, behind);
+    }
+    if spot.vs > 0 {
+        return (b' ', past_tab(spot));
+    }
+    (b'\t', past_tab(spot))
+}
+
+// Whether a place stands before another.
+pub(crate) fn is_before(spot: Spot, place: (usize, usize)) -> bool
+    ensures { result ≡ is_spot_before spot place }
+{
+    spot.index < place.0 || (spot.index == place.0 && spot.vs < place.1)
+}
+
+// Whether the code at a place begins a character.
+fn begins_character(spot: Spot, value: u8) -> bool
+    ensures { result ≡ (not (is_between 128 191 value) && spot.vs == 0) }
+{
+    (value < 128 || value > 191) && spot.vs == 0
+}
+
+// Appends a code, if it is not before the place.
+fn put(
+    from: (usize, usize),
+    spot: Spot,
+    value: u8,
+    values: &mut Vec<u8>,
+    begins: &mut Vec<bool>,
+) -> Result<(), AllocError>
+    ensures { IfOk result (λ _. IsPut from spot value values.old.items begins.old.items values.new.items begins.new.items) }
+{
+    if is_before(spot, from) {
+        return Ok(());
+    }
+    values.push(value)?;
+    begins.push(begins_character(spot, value))?;
+    Ok(())
+}
+
+// Appends the codes of a piece.
+fn push_piece(
+    bytes: &[u8],
+    piece: Piece,
+    values: &mut Vec<u8>,
+    begins: &mut Vec<bool>,
+) -> Result<(), AllocError>
+    ensures { IfOk result (λ _. IsLonger values.old.items begins.old.items values.new.items begins.new.items (piece_codes (codes_of bytes.now) piece)) }
+{
+    let mut spot = Spot {
+        index: line_start(bytes, piece.start.0),
+        vs: 0,
+        phase: 0,
+    };
+    while spot.index < bytes.len() {
+        if !is_before(spot, piece.end) {
+            return Ok(());
+        }
+        let (value, behind) = read(bytes, spot);
+        put(piece.start, spot, value, values, begins)?;
+        spot = behind;
+    }
+    Ok(())
+}
+
+// The value of the first code of a piece, or `None` if it has no codes.
+pub(crate) fn first_value(bytes: &[u8], piece: Piece) -> Option<u8>
+    ensures { MatchOption result (piece_codes (codes_of bytes.now) piece ≡ []) (λ v. next_is (is_value v) (piece_codes (codes_of bytes.now) piece) ≡ true) }
+{
+    let mut spot = Spot {
+        index: line_start(bytes, piece.start.0),
+        vs: 0,
+        phase: 0,
+    };
+    while spot.index < bytes.len() {
+        let (value, behind) = read(bytes, spot);
+        if !is_before(spot, piece.start) {
+            if !is_before(spot, piece.end) {
+                return None;
+            }
+            return Some(value);
+        }
+        spot = behind;
+    }
+    None
+}
+
+// Appends the codes of a text: their values, and which of them begin a character. The only error is that memory was refused.
+pub(crate) fn push_text(
+    bytes: &[u8],
+    text: &[Piece],
+    values: &mut Vec<u8>,
+    begins: &mut Vec<bool>,
+) -> Result<(), AllocError>
+    ensures { IfOk result (λ _. IsLonger values.old.items begins.old.items values.new.items begins.new.items (content_of bytes.now text.now)) }
+{
+    for piece in text {
+        push_piece(bytes, *piece, values, begins)?;
+    }
+    Ok(())
+}

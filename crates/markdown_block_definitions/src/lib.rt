@@ -1,0 +1,11 @@
+//! Reads link reference definitions at the front of a text, by CommonMark 0.31.2.
+#![tactic(auto)]
+
+mod copy;
+pub mod cut;
+mod definition;
+mod destinations;
+pub mod document;
+pub mod front;
+mod spacing;
+mod texts;
