@@ -1,0 +1,124 @@
+//! Reads documents from standard input, one a line, and prints of each what its texts have at their front, a line a document.
+//!
+//! In a document `|` stands for a line feed, and `~` for a tab. In a line of answer a paragraph is `p`, a heading that an underline made `h`, and a
+//! thematic break `b`. Behind the first two stand the link reference definitions at the front, each as `[label]<destination>(title)`, and how many pieces
+//! of the text are left behind them.
+//!
+//! Where memory is refused, the answers end there, and the status is 3.
+#![tactic(auto)]
+
+use markdown_block_definitions::cut::pieces_behind;
+use markdown_block_definitions::document;
+use markdown_block_definitions::front::{Definition, definitions_at_front};
+use markdown_blocks::block::{Leaf, Row};
+use markdown_content::parser::Piece;
+use std::alloc::{AllocError, Global};
+use std::io::{Read, Write};
+use std::process::ExitCode;
+
+// Appends a text between two marks, with its line feeds and tabs as in a document of the input.
+fn push_text(out: &mut Vec<u8>, open: u8, text: &[u8], close: u8) -> Result<(), AllocError> {
+    out.push(open)?;
+    for byte in text {
+        match *byte {
+            b'\n' => out.push(b'|')?,
+            b'\t' => out.push(b'~')?,
+            byte => out.push(byte)?,
+        }
+    }
+    out.push(close)?;
+    Ok(())
+}
+
+fn push_definition(out: &mut Vec<u8>, definition: &Definition) -> Result<(), AllocError> {
+    push_text(out, b'[', definition.label.as_slice(), b']')?;
+    push_text(out, b'<', definition.destination.as_slice(), b'>')?;
+    if let Some(title) = &definition.title {
+        push_text(out, b'(', title.as_slice(), b')')?;
+    }
+    Ok(())
+}
+
+// Appends what a text has at its front, and how many pieces are left.
+fn push_front(
+    alloc: Global,
+    out: &mut Vec<u8>,
+    document: &[u8],
+    text: &[Piece],
+) -> Result<(), AllocError> {
+    let front = definitions_at_front(alloc, document, text)?;
+    for definition in &front.definitions {
+        push_definition(out, definition)?;
+    }
+    let left = pieces_behind(alloc, document, text, front.len)?;
+    out.push(b'0' + (left.len() % 10) as u8)?;
+    Ok(())
+}
+
+fn push_leaf(
+    alloc: Global,
+    out: &mut Vec<u8>,
+    document: &[u8],
+    leaf: &Leaf,
+) -> Result<(), AllocError> {
+    match leaf {
+        Leaf::Paragraph(text) => {
+            out.push(b'p')?;
+            push_front(alloc, out, document, text.as_slice())?;
+        }
+        Leaf::Underlined(_, text) => {
+            out.push(b'h')?;
+            push_front(alloc, out, document, text.as_slice())?;
+        }
+        Leaf::ThematicBreak => out.push(b'b')?,
+        _ => {}
+    }
+    Ok(())
+}
+
+// Appends the answer to a document.
+fn push_answer(alloc: Global, out: &mut Vec<u8>, document: &[u8]) -> Result<(), AllocError> {
+    if document.len() <= usize::MAX / 8 {
+        let blocks = document::blocks(alloc, document)?;
+        for row in &blocks.rows {
+            if let Row::LeafAt(_, leaf) = row {
+                push_leaf(alloc, out, document, leaf)?;
+            }
+        }
+    }
+    out.push(b'\n')?;
+    Ok(())
+}
+
+// Appends the answers to all documents of the input.
+fn push_answers(alloc: Global, out: &mut Vec<u8>, input: &[u8]) -> Result<(), AllocError> {
+    let mut document = Vec::new(alloc);
+    for byte in input {
+        match *byte {
+            b'\n' => {
+                push_answer(alloc, out, document.as_slice())?;
+                document.clear();
+            }
+            b'|' => document.push(b'\n')?,
+            b'~' => document.push(b'\t')?,
+            byte => document.push(byte)?,
+        }
+    }
+    Ok(())
+}
+
+fn main(rt: HostRuntime) -> ExitCode {
+    let mut input = Vec::new(rt.alloc());
+    if rt.stdin().read_to_end(&mut input).is_err() {
+        return ExitCode::from(6);
+    }
+    let mut out = Vec::new(rt.alloc());
+    let answered = push_answers(rt.alloc(), &mut out, input.as_slice());
+    if rt.stdout().write_all(out.as_slice()).is_err() {
+        return ExitCode::from(6);
+    }
+    match answered {
+        Ok(()) => ExitCode::from(0),
+        Err(_) => ExitCode::from(3),
+    }
+}
