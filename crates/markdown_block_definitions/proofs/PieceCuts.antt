@@ -36,16 +36,16 @@ from-there piece at (c ∷ cs) l = by_bool (is_code_before at c)
     ∙ ap (filter (is_in_piece piece)) (sym (keep (λ d. not (is_code_before at d)) c cs (ap not e)))))
 
 -- so many codes are passed, and so many are left to pass
-pub record IsPassed (bytes : List ℕ) (piece : Piece) (count left : ℕ) (s : Spot) : Type 0 where
+pub record IsSpotBehind (bytes : List ℕ) (piece : Piece) (count left : ℕ) (s : Spot) : Type 0 where
   pub done : List Code
   pub split : piece_codes (codes_of bytes) piece ≡ done ++ filter (is_in_piece piece) (codes_after bytes (spot_place s))
   pub count_is : length done + left ≡ count
   pub stands : IsSpot bytes s
 
-pub passed-start : (bytes : List ℕ) (piece : Piece) (count n : ℕ) → n ≤ piece.start.0 → IsSpot bytes (line_spot n) → IsPassed bytes piece count count (line_spot n)
+pub passed-start : (bytes : List ℕ) (piece : Piece) (count n : ℕ) → n ≤ piece.start.0 → IsSpot bytes (line_spot n) → IsSpotBehind bytes piece count count (line_spot n)
 passed-start bytes piece count n l h = record { done = []; split = first-start bytes piece n l; count_is = omega arith; stands = h }
 
-module _ (bytes : List ℕ) (piece : Piece) (count left : ℕ) (s : Spot) (h : IsPassed bytes piece count left s) where
+module _ (bytes : List ℕ) (piece : Piece) (count left : ℕ) (s : Spot) (h : IsSpotBehind bytes piece count left s) where
   cut-none : filter (is_in_piece piece) (codes_after bytes (spot_place s)) ≡ [] → IsCut bytes piece count None left
   cut-none e =
       let x : piece_codes (codes_of bytes) piece ≡ h.done = h.split ∙ ap (λ (xs : List Code). h.done ++ xs) e ∙ append-nil h.done in
@@ -85,7 +85,7 @@ module _ (bytes : List ℕ) (piece : Piece) (count left : ℕ) (s : Spot) (h : I
     at-place : (at : ℕ × ℕ) → is_code_before at r.code ≡ is_spot_before s at
     at-place at = ap (λ (x : ℕ × ℕ). is_before x at) r.starts
 
-    early : is_spot_before s piece.start ≡ true → IsPassed bytes piece count left1 t
+    early : is_spot_before s piece.start ≡ true → IsSpotBehind bytes piece count left1 t
     early e =
         let same : left1 ≡ left = is ∙ ap (λ b. if b then left else left - 1) e in
         record {
@@ -96,7 +96,7 @@ module _ (bytes : List ℕ) (piece : Piece) (count left : ℕ) (s : Spot) (h : I
           stands = r.stands;
         }
 
-    counted : is_spot_before s piece.start ≡ false → IsPassed bytes piece count left1 t
+    counted : is_spot_before s piece.start ≡ false → IsSpotBehind bytes piece count left1 t
     counted e =
         let less : left1 ≡ left - 1 = is ∙ ap (λ b. if b then left else left - 1) e in
         let some : 0 < left = left-some more e in
@@ -109,7 +109,7 @@ module _ (bytes : List ℕ) (piece : Piece) (count left : ℕ) (s : Spot) (h : I
           stands = r.stands;
         }
 
-    pub passed-more : IsPassed bytes piece count left1 t
+    pub passed-more : IsSpotBehind bytes piece count left1 t
     passed-more = by_bool (is_spot_before s piece.start) (λ (e : is_spot_before s piece.start ≡ true). early e) (λ (e : is_spot_before s piece.start ≡ false). counted e)
 
 -- Pieces one after the other.

@@ -90,11 +90,11 @@ trimmed-line (c ∷ cs) h = by_test (is_blank c) (trimmed-line cs (tail-line c c
     by_test true k = k
     by_test false k = h
 
-abbrev pub AreLines : List (List Code) → Type 0
-AreLines [] = Unit {0}
-AreLines (l ∷ ls) = (is_line l ≡ true) × AreLines ls
+abbrev pub AreTextLines : List (List Code) → Type 0
+AreTextLines [] = Unit {0}
+AreTextLines (l ∷ ls) = (is_line l ≡ true) × AreTextLines ls
 
-onto-lines : (c : Code) (ls : List (List Code)) → AreLines ls → AreLines (onto_line c ls)
+onto-lines : (c : Code) (ls : List (List Code)) → AreTextLines ls → AreTextLines (onto_line c ls)
 onto-lines c [] h = (by_test (is_line_ending c), tt)
   where
     by_test : (b : Bool) → (if b then true else true) ≡ true
@@ -102,11 +102,11 @@ onto-lines c [] h = (by_test (is_line_ending c), tt)
     by_test false = refl
 onto-lines c (l ∷ ls) h = by_case (is_line_ending c) refl
   where
-    by_case : (b : Bool) → is_line_ending c ≡ b → AreLines (if b then (c ∷ []) ∷ l ∷ ls else (c ∷ l) ∷ ls)
+    by_case : (b : Bool) → is_line_ending c ≡ b → AreTextLines (if b then (c ∷ []) ∷ l ∷ ls else (c ∷ l) ∷ ls)
     by_case true e = (ap (λ v. if v then true else true) e, h)
     by_case false e = (ap (λ v. if v then is_empty l else is_line l) e ∙ h.0, h.1)
 
-pub are-lines : (cs : List Code) → AreLines (lines_of cs)
+pub are-lines : (cs : List Code) → AreTextLines (lines_of cs)
 are-lines [] = tt
 are-lines (c ∷ cs) = onto-lines c (lines_of cs) (are-lines cs)
 
@@ -664,7 +664,7 @@ read-good has_text cs (and_leaf before l) h g = leaf-line-good has_text cs befor
 read-good has_text cs (and_container before c inside) h g =
     rest-inside-good (λ rest. read_line has_text rest inside) cs before c inside (λ rest k. read-good has_text rest inside k g.1) (rest_inside c inside cs) h g.0 g.1 (inside-line c inside cs h)
 
-all-good : (has_text : List Code → Bool) (ls : List (List Code)) (t : Tree) → AreLines ls → GoodTree t → GoodTree (read_lines has_text ls t)
+all-good : (has_text : List Code → Bool) (ls : List (List Code)) (t : Tree) → AreTextLines ls → GoodTree t → GoodTree (read_lines has_text ls t)
 all-good has_text [] t h g = g
 all-good has_text (l ∷ ls) t h g = all-good has_text ls (read_line has_text l t) h.1 (read-good has_text l t h.0 g)
 

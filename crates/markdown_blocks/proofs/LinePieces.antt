@@ -15,7 +15,7 @@ use Rattle.markdown_content.proofs.ContentCodes.{piece-codes-is}
 use Rattle.markdown_model.specs.CodeTests.{values_of}
 use Rattle.markdown_block_model.specs.LineRests.{lines_of}
 use Rattle.markdown_block_model.specs.TextStarts.{lines_begin, is_line}
-use Rattle.markdown_block_model.proofs.TextsAreContents.{AreLines, are-lines, drop-line}
+use Rattle.markdown_block_model.proofs.TextsAreContents.{AreTextLines, are-lines, drop-line}
 use Rattle.markdown_block_line.specs.DocumentLines.{first_line, line_from}
 use Rattle.markdown_block_line.specs.declared.breaks.BreakLens.{BreakLens}
 use Rattle.markdown_block_line.proofs.BreakPlaces.{breaks-behind}
@@ -166,7 +166,7 @@ rest-breaks bytes start values breaks at ns h e =
     let x : drop at values ≡ ns = ap (drop at) (sym h.same) ∙ sym (values-drop at (line_from bytes start)) ∙ e in
     subst (λ (xs : List ℕ). IsBreakLens breaks xs) x (breaks-behind breaks values at h.breaks_are)
 
-first-is-line : (ls : List (List Code)) → AreLines ls → is_line (first_line ls) ≡ true
+first-is-line : (ls : List (List Code)) → AreTextLines ls → is_line (first_line ls) ≡ true
 first-is-line [] h = refl
 first-is-line (l ∷ ls) h = h.0
 
