@@ -1,10 +1,12 @@
 //! The blocks of a document, with the definitions of its paragraphs read.
 
-ghost use Rattle.std.specs.Prelude.{◌≡◌, ◌≤◌, length, true, IfOk};
+ghost use Rattle.std.specs.Prelude.{◌≡◌, ◌≤◌, length, true, IfOk, All};
 ghost use Rattle.markdown_content.specs.Content.{document_limit, content_of};
 ghost use Rattle.markdown_block_model.specs.DocumentBlocks.{blocks_of};
 ghost use Rattle.markdown_block_model.specs.LinkDefinitions.{has_text};
 ghost use Rattle.markdown_blocks.specs.BlockRows.{tree_of};
+ghost use Rattle.markdown_blocks.specs.NestedRows.{AreNested};
+ghost use Rattle.markdown_blocks.specs.TextRows.{IsPlacedRow};
 
 use crate::copy::{first_value, push_text};
 use crate::definition::definitions_len;
@@ -54,7 +56,9 @@ impl HasText for Definitions {
 /// The only error is that memory was refused.
 pub fn blocks(alloc: Global, bytes: &[u8]) -> Result<Blocks, AllocError>
     requires { length bytes.now ≤ document_limit }
-    ensures { IfOk result (λ b. tree_of bytes.now b ≡ blocks_of has_text bytes.now) }
+    ensures tree { IfOk result (λ b. tree_of bytes.now b ≡ blocks_of has_text bytes.now) }
+    ensures texts { IfOk result (λ b. All (IsPlacedRow bytes.now) b.rows.items) }
+    ensures nested { IfOk result (λ b. AreNested 0 b.rows.items) }
 {
     let found = markdown_blocks::document::blocks(alloc, &Definitions, bytes)?;
     Ok(found)

@@ -3,6 +3,7 @@ pub mod BlockRows
 pub mod ItemRows
 pub mod LineRest
 pub mod LinesLeft
+pub mod NestedRows
 pub mod PathItems
 pub mod TextRows
 pub mod TextTrims

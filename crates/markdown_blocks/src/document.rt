@@ -6,6 +6,7 @@ ghost use Rattle.markdown_content.specs.DocumentWalk.{IsPoint};
 ghost use Rattle.markdown_block_model.specs.DocumentBlocks.{blocks_of};
 ghost use Rattle.markdown_blocks.specs.BlockRows.{tree_of, IsBetween};
 ghost use Rattle.markdown_blocks.specs.LinesLeft.{read_on};
+ghost use Rattle.markdown_blocks.specs.NestedRows.{AreNested};
 ghost use Rattle.markdown_blocks.specs.TextRows.{StandsBetween, HasPlacedTexts, IsPlacedRow};
 
 use crate::block::Blocks;
@@ -53,6 +54,7 @@ pub fn blocks<T: HasText>(alloc: Global, test: &T, bytes: &[u8]) -> Result<Block
     requires { length bytes.now ≤ document_limit }
     ensures tree { IfOk result (λ b. tree_of bytes.now b ≡ blocks_of T.has_text bytes.now) }
     ensures texts { IfOk result (λ b. All (IsPlacedRow bytes.now) b.rows.items) }
+    ensures nested { IfOk result (λ b. AreNested 0 b.rows.items) }
 {
     let mut reader = Reader {
         rows: Vec::new(alloc),
