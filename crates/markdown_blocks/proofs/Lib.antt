@@ -7,6 +7,7 @@ pub mod FollowLines
 pub mod ItemRowLemmas
 pub mod LazyLines
 pub mod LinePieces
+pub mod NestedRowLemmas
 pub mod OuterCodes
 pub mod PathRows
 pub mod PlacedPieces

@@ -8,23 +8,41 @@ use Rattle.markdown_content.specs.Codes.{Code, codes_of}
 use Rattle.markdown_content.specs.Content.{piece_codes, content_of}
 use Rattle.markdown_block_model.specs.LineRests.{indent, is_blank_line, trimmed, trimmed_end, only_if}
 use Rattle.markdown_block_model.specs.BlockTree as model
+use Rattle.markdown_block_model.specs.BlockTree.{nothing}
 use Rattle.markdown_block_model.specs.LeafStarts.{is_closing}
 use Rattle.markdown_block_model.specs.HtmlStarts.{ends_html}
 use Rattle.markdown_block_model.specs.DocumentBlocks.{with_next, with_fenced_line, with_indented_line}
 use Rattle.markdown_block_line.specs.declared.containers.Container.{Container}
-use Rattle.markdown_blocks.specs.BlockRows.{leaf_of}
+use Rattle.markdown_blocks.specs.TreeDepth.{spine}
+use Rattle.markdown_blocks.specs.BlockRows.{leaf_of, closed_tree, depth, IsStanding}
+use Rattle.markdown_blocks.specs.NestedRows.{AreNested}
+use Rattle.markdown_blocks.specs.declared.reader.Reader.{Reader}
 use Rattle.markdown_blocks.specs.declared.block.Leaf.{Leaf}
 use Rattle.markdown_blocks.specs.declared.block.Leaf.TheVariants.{Blank, ThematicBreak, Heading, Underlined, Paragraph, IndentedCode, FencedCode, Html}
 use Rattle.markdown_blocks.specs.declared.block.Row.{Row}
 use Rattle.markdown_blocks.specs.declared.block.Row.TheVariants.{LeafAt, ContainerAt}
-use Rattle.markdown_blocks.specs.TextRows.{ArePlaced, IsTrimmedText, line_stop, IsLineEnd, EndAt, HasPlacedText, IsPlacedRow, IsOpenLeaf, IsOpen}
+use Rattle.markdown_blocks.specs.TextRows.{ArePlaced, IsTrimmedText, line_stop, IsLineEnd, EndAt, HasPlacedText, IsPlacedRow, HasPlacedRows, IsOpenLeaf, IsOpen}
+use Rattle.markdown_blocks.proofs.NestedRowLemmas.{nested-append}
 use Rattle.markdown_blocks.proofs.PlacedPieces.{next-placed, one-placed, ends-at}
+use Rattle.markdown_blocks.proofs.ReaderTrees.{closed-le}
 
-pub rows-leaf : (bytes : List ℕ) (rs ps : List Row) (n : ℕ) (l : Leaf) → ps ≡ rs ++ LeafAt n l ∷ [] → All (IsPlacedRow bytes) rs → HasPlacedText bytes l → All (IsPlacedRow bytes) ps
-rows-leaf bytes rs ps n l e h t = subst (λ xs. All (IsPlacedRow bytes) xs) (sym e) (All-push (IsPlacedRow bytes) rs (LeafAt n l) h t)
+-- a row more, which stands as deep as the path is long
+rows-more : (bytes : List ℕ) (r : Reader) (ps : List Row) (q : Row) → ps ≡ r.rows.items ++ q ∷ [] → HasPlacedRows bytes r → IsPlacedRow bytes q → AreNested (length (spine (closed_tree bytes r))) (q ∷ [])
+    → All (IsPlacedRow bytes) ps × AreNested 0 ps
+rows-more bytes r ps q e h t n =
+    subst (λ xs. All (IsPlacedRow bytes) xs × AreNested 0 xs) (sym e) (All-push (IsPlacedRow bytes) r.rows.items q h.0 t, nested-append bytes r.rows.items (q ∷ []) nothing h.1 n)
 
-pub rows-container : (bytes : List ℕ) (rs ps : List Row) (n : ℕ) (c : Container) → ps ≡ rs ++ ContainerAt n c ∷ [] → All (IsPlacedRow bytes) rs → All (IsPlacedRow bytes) ps
-rows-container bytes rs ps n c e h = subst (λ xs. All (IsPlacedRow bytes) xs) (sym e) (All-push (IsPlacedRow bytes) rs (ContainerAt n c) h tt)
+pub rows-leaf : (bytes : List ℕ) (r : Reader) (ps : List Row) (n : ℕ) (l : Leaf) → ps ≡ r.rows.items ++ LeafAt n l ∷ [] → n ≡ depth r → IsStanding bytes r → HasPlacedRows bytes r → HasPlacedText bytes l
+    → All (IsPlacedRow bytes) ps × AreNested 0 ps
+rows-leaf bytes r ps n l e d s h t =
+    let le = closed-le bytes r s.is_front in
+    rows-more bytes r ps (LeafAt n l) e h t (rw d le, tt)
+
+pub rows-container : (bytes : List ℕ) (r : Reader) (ps : List Row) (n : ℕ) (c : Container) → ps ≡ r.rows.items ++ ContainerAt n c ∷ [] → n ≡ depth r → IsStanding bytes r → HasPlacedRows bytes r
+    → All (IsPlacedRow bytes) ps × AreNested 0 ps
+rows-container bytes r ps n c e d s h =
+    let le = closed-le bytes r s.is_front in
+    rows-more bytes r ps (ContainerAt n c) e h tt (rw d le, tt)
 
 -- the paragraph that a line begins
 pub opened-one : (bytes : List ℕ) (p : Point) (ps : List Piece) (piece : Piece) → ps ≡ piece ∷ [] → IsLineEnd bytes p piece

@@ -8,6 +8,7 @@ use Rattle.markdown_content.specs.Content.{is_piece, are_pieces, is_one_line, en
 use Rattle.markdown_block_model.specs.LineRests.{trimmed_end}
 use Rattle.markdown_block_model.specs.TextStarts.{lines_begin}
 use Rattle.markdown_block_line.specs.DocumentLines.{line_from}
+use Rattle.markdown_blocks.specs.NestedRows.{AreNested}
 use Rattle.markdown_blocks.specs.declared.block.Leaf.{Leaf}
 use Rattle.markdown_blocks.specs.declared.block.Leaf.TheVariants.{Blank, ThematicBreak, Heading, Underlined, Paragraph, IndentedCode, FencedCode, Html}
 use Rattle.markdown_blocks.specs.declared.block.Row.{Row}
@@ -97,8 +98,9 @@ abbrev pub IsOpen : List ℕ → Point → Option Leaf → Type 0
 IsOpen bytes p None = Unit {0}
 IsOpen bytes p (Some l) = IsOpenLeaf bytes p l
 
+-- the rows of the closed blocks
 abbrev pub HasPlacedRows : List ℕ → Reader → Type 0
-HasPlacedRows bytes r = All (IsPlacedRow bytes) r.rows.items
+HasPlacedRows bytes r = All (IsPlacedRow bytes) r.rows.items × AreNested 0 r.rows.items
 
 -- before the line that begins at a place
 abbrev pub HasPlacedTexts : List ℕ → Point → Reader → Type 0

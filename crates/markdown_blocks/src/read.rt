@@ -33,7 +33,7 @@ fn put_leaf(reader: &mut Reader, leaf: Leaf) -> Result<(), AllocError>
     ensures path { reader.new.path ≡ reader.old.path }
     ensures open { reader.new.open ≡ reader.old.open }
     ensures standing { IfOk result (λ _. (bytes : List ℕ) → IsStanding bytes reader.old → IsStanding bytes reader.new) }
-    ensures texts { IfOk result (λ _. (bytes : List ℕ) → HasPlacedRows bytes reader.old → HasPlacedText bytes leaf → HasPlacedRows bytes reader.new) }
+    ensures texts { IfOk result (λ _. (bytes : List ℕ) → IsStanding bytes reader.old → HasPlacedRows bytes reader.old → HasPlacedText bytes leaf → HasPlacedRows bytes reader.new) }
 {
     let depth = reader.path.len();
     reader.rows.push(Row::LeafAt(depth, leaf))?;
@@ -43,7 +43,7 @@ fn put_leaf(reader: &mut Reader, leaf: Leaf) -> Result<(), AllocError>
 // Opens a container that holds nothing yet.
 fn put_container(reader: &mut Reader, container: Container) -> Result<(), AllocError>
     ensures deeper { IfOk result (λ _. (bytes : List ℕ) → IsStanding bytes reader.old → IsDeeper bytes (container_of container) reader.old reader.new) }
-    ensures texts { IfOk result (λ _. (bytes : List ℕ) → HasPlacedRows bytes reader.old → HasPlacedRows bytes reader.new) }
+    ensures texts { IfOk result (λ _. (bytes : List ℕ) → IsStanding bytes reader.old → HasPlacedRows bytes reader.old → HasPlacedRows bytes reader.new) }
 {
     let depth = reader.path.len();
     reader.rows.push(Row::ContainerAt(depth, container))?;
@@ -352,7 +352,7 @@ pub fn put_open(reader: &mut Reader) -> Result<(), AllocError>
     ensures tree { IfOk result (λ _. (bytes : List ℕ) → closed_tree bytes reader.new ≡ whole_tree bytes reader.old) }
     ensures path { reader.new.path ≡ reader.old.path }
     ensures standing { IfOk result (λ _. (bytes : List ℕ) → IsBetween bytes reader.old → IsStanding bytes reader.new) }
-    ensures texts { IfOk result (λ _. (bytes : List ℕ) (p : Point) → HasPlacedTexts bytes p reader.old → HasPlacedRows bytes reader.new) }
+    ensures texts { IfOk result (λ _. (bytes : List ℕ) (p : Point) → IsBetween bytes reader.old → HasPlacedTexts bytes p reader.old → HasPlacedRows bytes reader.new) }
 {
     match reader.open.take() {
         None => Ok(()),
@@ -369,7 +369,7 @@ fn close(reader: &mut Reader, outside: usize) -> Result<(), AllocError>
     ensures tree { IfOk result (λ _. (bytes : List ℕ) → closed_tree bytes reader.new ≡ whole_tree bytes reader.old) }
     ensures depth { IfOk result (λ _. depth reader.new ≡ outside) }
     ensures standing { IfOk result (λ _. (bytes : List ℕ) → IsBetween bytes reader.old → IsStanding bytes reader.new) }
-    ensures texts { IfOk result (λ _. (bytes : List ℕ) (p : Point) → HasPlacedTexts bytes p reader.old → HasPlacedRows bytes reader.new) }
+    ensures texts { IfOk result (λ _. (bytes : List ℕ) (p : Point) → IsBetween bytes reader.old → HasPlacedTexts bytes p reader.old → HasPlacedRows bytes reader.new) }
 {
     put_open(reader)?;
     reader.path.truncate(outside);

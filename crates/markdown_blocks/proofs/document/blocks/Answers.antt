@@ -15,7 +15,7 @@ loop-point-init g c =
       is_point = point_start bytes;
       between = start-between bytes r c.new.ensures.items c.new-2.ensures;
       characters = λ u. IsCharBoundary-start bytes u;
-      texts = (rw c.new.ensures.items (All-nil (IsPlacedRow bytes)), tt);
+      texts = (rw c.new.ensures.items (All-nil (IsPlacedRow bytes), tt), tt);
       same = read-none g.T.HasText.has_text bytes r (start-tree bytes r c.new.ensures.items refl);
     }
 
@@ -26,4 +26,7 @@ returns-clause-tree g c =
     c.in_ok-put_open.ensures.tree bytes ∙ sym (read-all g.T.HasText.has_text bytes l.reader l.point l.invariant.is_point c.loop-point-test.false) ∙ l.invariant.same
 
 pub returns-clause-texts : goal.returns-clause-texts
-returns-clause-texts g c = c.in_ok-put_open.ensures.texts c.args.bytes.now c.loop-point.point c.loop-point.invariant.texts
+returns-clause-texts g c = (c.in_ok-put_open.ensures.texts c.args.bytes.now c.loop-point.point c.loop-point.invariant.between c.loop-point.invariant.texts).0
+
+pub returns-clause-nested : goal.returns-clause-nested
+returns-clause-nested g c = (c.in_ok-put_open.ensures.texts c.args.bytes.now c.loop-point.point c.loop-point.invariant.between c.loop-point.invariant.texts).1

@@ -20,7 +20,7 @@ returns-in_ok-put_container-in-Container-clause-outer c =
 pub returns-in_ok-put_container-in-Container-clause-texts : goal.returns-in_ok-put_container-in-Container-clause-texts
 returns-in_ok-put_container-in-Container-clause-texts c =
     let bytes = c.args.rest.now.bytes in
-    (c.in_ok-put_container-in-Container.ensures.texts bytes c.requires.texts, rw (c.in_ok-put_container-in-Container.ensures.deeper bytes c.requires.standing).standing.open_none tt)
+    (c.in_ok-put_container-in-Container.ensures.texts bytes c.requires.standing c.requires.texts, rw (c.in_ok-put_container-in-Container.ensures.deeper bytes c.requires.standing).standing.open_none tt)
 
 pub returns-in-Heading-clause-texts : goal.returns-in-Heading-clause-texts
 returns-in-Heading-clause-texts c =

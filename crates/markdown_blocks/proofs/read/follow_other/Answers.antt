@@ -19,4 +19,4 @@ pub stand-requires-clause-texts : goal.stand-requires-clause-texts
 stand-requires-clause-texts c =
     let bytes = c.args.rest.now.bytes in
     let g = rw c.in-Without.is at c.in_ok-leaf.ensures in
-    c.in_ok-put_leaf-in-Without.ensures.texts bytes c.requires.texts (subst (λ l. HasPlacedText bytes l) (sym g.1) c.requires.text)
+    c.in_ok-put_leaf-in-Without.ensures.texts bytes c.requires.standing c.requires.texts (subst (λ l. HasPlacedText bytes l) (sym g.1) c.requires.text)

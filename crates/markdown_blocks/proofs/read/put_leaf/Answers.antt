@@ -11,4 +11,4 @@ pub returns-clause-standing : goal.returns-clause-standing
 returns-clause-standing c = λ bytes h. standing-leaf bytes c.args.reader.now _ c.args.leaf (put-leaf bytes _ _ _ (depth c.args.reader.now) c.args.leaf c.in_ok-push.ensures.items (search rules)) refl refl h
 
 pub returns-clause-texts : goal.returns-clause-texts
-returns-clause-texts c = λ bytes h t. rows-leaf bytes _ _ _ c.args.leaf c.in_ok-push.ensures.items h t
+returns-clause-texts c = λ bytes s h t. rows-leaf bytes c.args.reader.now _ _ c.args.leaf c.in_ok-push.ensures.items (search rules) s h t

@@ -39,7 +39,7 @@ pub join-requires-clause-texts : goal.join-requires-clause-texts
 join-requires-clause-texts g c = rw (c.go_on-depth.ensures.bytes, c.go_on-depth.ensures.start) c.requires.texts
 
 pub stand-requires-clause-texts : goal.stand-requires-clause-texts
-stand-requires-clause-texts g c = rw c.go_on-depth.ensures.bytes (c.in_ok-close.ensures.texts c.args.line.now.bytes c.args.line.now.start c.requires.texts)
+stand-requires-clause-texts g c = rw c.go_on-depth.ensures.bytes (c.in_ok-close.ensures.texts c.args.line.now.bytes c.args.line.now.start c.requires.between c.requires.texts)
 
 pub returns-then-is_lazy-clause-texts : goal.returns-then-is_lazy-clause-texts
 returns-then-is_lazy-clause-texts g c = rw (c.go_on-depth.ensures.bytes, c.go_on-depth.ensures.start) at c.in_ok-join.ensures.texts
