@@ -1,10 +1,10 @@
 -- Pieces of a line.
-use Rattle.std.proofs.Common.{◌≡◌, ℕ, zero, suc, ◌+◌, ◌<◌, ◌≤◌, ◌*◌, ◌^◌, refl, ap, subst, ◌∙◌, sym, List, [], ◌∷◌, ◌++◌, length, take, drop, true, ◌&&◌, arith, length-append, length-drop, drop-drop, append_assoc}
+use Rattle.std.proofs.Common.{◌≡◌, ℕ, zero, suc, ◌+◌, ◌<◌, ◌≤◌, ◌*◌, ◌^◌, refl, ap, subst, ◌∙◌, sym, List, [], ◌∷◌, ◌++◌, length, take, drop, Bool, true, false, ◌&&◌, if◌then◌else◌, arith, length-append, length-drop, drop-drop, append_assoc}
 use Rattle.std.specs.List.{list_all}
 use Rattle.std.proofs.lemmas.List.Folds.{list_all-append}
 use Rattle.std.proofs.lemmas.List.{take-append-drop, take-append-le, drop-append-le, drop_all}
 use Rattle.markdown_event.specs.declared.event.Point.{Point}
-use Rattle.markdown_content.specs.Codes.{Code, codes_of, place_of, stop_of}
+use Rattle.markdown_content.specs.Codes.{Code, codes_of, place_of, stop_of, is_line_ending}
 use Rattle.markdown_content.specs.Content.{document_limit, piece_codes}
 use Rattle.markdown_content.specs.DocumentWalk.{IsPoint, codes_after}
 use Rattle.markdown_content.proofs.AdjacentCodes.{IsChain, before_in, before_in-split}
@@ -12,7 +12,7 @@ use Rattle.markdown_content.proofs.DocumentCodes.{codes_at}
 use Rattle.markdown_content.proofs.DocumentWalkLemmas.{chain-at, few-at}
 use Rattle.markdown_content.proofs.DocumentPlaces.{along, codes-point, stands-point}
 use Rattle.markdown_content.proofs.ContentCodes.{piece-codes-is}
-use Rattle.markdown_model.specs.CodeTests.{values_of}
+use Rattle.markdown_model.specs.CodeTests.{values_of, is_empty}
 use Rattle.markdown_block_model.specs.LineRests.{lines_of}
 use Rattle.markdown_block_model.specs.TextStarts.{lines_begin, is_line}
 use Rattle.markdown_block_model.proofs.TextsAreContents.{AreTextLines, are-lines, drop-line}
@@ -74,6 +74,29 @@ take-none : (n : ℕ) → ◌≡◌ {A = List Code} (take n []) []
 take-none zero = refl
 take-none (suc n) = refl
 
+-- the front of a line is one
+take-line : (n : ℕ) (cs : List Code) → is_line cs ≡ true → is_line (take n cs) ≡ true
+take-line zero cs h = refl
+take-line (suc n) [] h = refl
+take-line (suc n) (c ∷ cs) h = by_ending (is_line_ending c) (take-line n cs) h
+  where
+    none : (xs : List Code) → is_empty xs ≡ true → is_empty (take n xs) ≡ true
+    none [] k = ap is_empty (take-none n)
+    none (x ∷ xs) k = absurd (cc)
+
+    by_ending : (b : Bool) → (is_line cs ≡ true → is_line (take n cs) ≡ true) → (if b then is_empty cs else is_line cs) ≡ true → (if b then is_empty (take n cs) else is_line (take n cs)) ≡ true
+    by_ending true more k = none cs k
+    by_ending false more k = more k
+
+first-is-line : (ls : List (List Code)) → AreTextLines ls → is_line (first_line ls) ≡ true
+first-is-line [] h = refl
+first-is-line (l ∷ ls) h = h.0
+
+-- the rest of a line is one
+pub rest-is-line : (bytes : List ℕ) (start : Point) (at : ℕ) → is_line (drop at (line_from bytes start)) ≡ true
+rest-is-line bytes start at =
+    drop-line at (line_from bytes start) (first-is-line (lines_of (codes_after bytes (place_of start))) (are-lines (codes_after bytes (place_of start))))
+
 take-both : (a b : ℕ) (xs : List Code) → take (a + b) xs ≡ take a xs ++ take b (drop a xs)
 take-both zero b xs = let e : zero + b ≡ b = omega arith in ap (λ n. take n xs) e
 take-both (suc a) b [] = take-none (suc a + b) ∙ sym (take-none b)
@@ -118,6 +141,7 @@ piece-placed bytes start p q values breaks at from len h l g e k f o b w =
     let same : drop len (drop (at + from) line) ≡ drop (from + len) (drop at line) = drop-drop len (at + from) line ∙ ap (λ n. drop n line) sum ∙ sym (drop-drop (from + len) at line) in
     placed bytes start p q _ _ _ h.begins.rest (piece-split bytes start p q values breaks at from len h l g e k f o) (ap begins_ascii same ∙ b)
     (ap (lines_begin true) (piece-is bytes start p q values breaks at from len h l g e f) ∙ w)
+    (ap is_line (piece-is bytes start p q values breaks at from len h l g e f) ∙ take-line len (drop from (drop at line)) (drop-line from (drop at line) (rest-is-line bytes start at)))
 
 pub piece-line : (bytes : List ℕ) (start p q : Point) (values : List ℕ) (breaks : BreakLens) (at from len : ℕ) → IsRest bytes start values breaks at → at + from + len ≤ length values
     → IsPoint bytes p → p ≡ stop_of start (take (at + from) (codes_after bytes (place_of start))) → IsPoint bytes q → q ≡ stop_of p (take len (codes_after bytes (place_of p)))
@@ -134,6 +158,7 @@ piece-line bytes start p q values breaks at from len h l g e k f o m some w =
     (omega (arith, ap length all, left, some))
     (piece-is bytes start p q values breaks at from len h l g e f ∙ ap (take len) (drop-drop from at line))
     (ap (lines_begin true) (all ∙ sym (drop-drop from at line)) ∙ w)
+    (take-line len (drop (at + from) line) (rest-is-line bytes start (at + from)))
   where
     take-whole : (j : ℕ) (xs : List Code) → length xs ≤ j → take j xs ≡ xs
     take-whole zero [] w = refl
@@ -165,12 +190,3 @@ pub rest-breaks : (bytes : List ℕ) (start : Point) (values : List ℕ) (breaks
 rest-breaks bytes start values breaks at ns h e =
     let x : drop at values ≡ ns = ap (drop at) (sym h.same) ∙ sym (values-drop at (line_from bytes start)) ∙ e in
     subst (λ (xs : List ℕ). IsBreakLens breaks xs) x (breaks-behind breaks values at h.breaks_are)
-
-first-is-line : (ls : List (List Code)) → AreTextLines ls → is_line (first_line ls) ≡ true
-first-is-line [] h = refl
-first-is-line (l ∷ ls) h = h.0
-
--- the rest of a line is one
-pub rest-is-line : (bytes : List ℕ) (start : Point) (at : ℕ) → is_line (drop at (line_from bytes start)) ≡ true
-rest-is-line bytes start at =
-    drop-line at (line_from bytes start) (first-is-line (lines_of (codes_after bytes (place_of start))) (are-lines (codes_after bytes (place_of start))))

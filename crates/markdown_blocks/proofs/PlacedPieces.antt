@@ -21,10 +21,10 @@ use Rattle.markdown_content.proofs.DocumentPlaces.{along, stands-point, codes-po
 use Rattle.markdown_content.proofs.WalkTargets.{place-point}
 use Rattle.std.proofs.lemmas.Grind.{flat_map-append}
 use Rattle.markdown_block_model.specs.LineRests.{onto_line, lines_of}
-use Rattle.markdown_block_model.specs.TextStarts.{lines_begin}
+use Rattle.markdown_block_model.specs.TextStarts.{lines_begin, is_line}
 use Rattle.markdown_block_model.proofs.TextsAreContents.{joined-starts}
 use Rattle.markdown_block_line.specs.DocumentLines.{first_line, line_from, IsLine}
-use Rattle.markdown_blocks.specs.TextRows.{ArePlaced, StandsBetween, is_outer, begins_ascii, line_stop, IsLineEnd, EndAt}
+use Rattle.markdown_blocks.specs.TextRows.{IsLinePiece, ArePlaced, StandsBetween, is_outer, begins_ascii, line_stop, IsLineEnd, EndAt}
 
 -- Tests.
 
@@ -270,16 +270,18 @@ module _ (bytes : List ℕ) (start p q : Point) (front inside back more : List C
       by_back (c ∷ cs) e j = between-before bytes q (c ∷ (cs ++ more)) (stands-point bytes q h.last) (at_last ∙ ap (λ xs. xs ++ more) e) j
 
   pub placed : begins_ascii back ≡ true → lines_begin true (piece_codes (codes_of bytes) (record { start = place_of p; end = place_of q })) ≡ true
-      → ArePlaced bytes (record { start = place_of p; end = place_of q } ∷ [])
-  placed k w = record {
+      → IsLinePiece bytes (record { start = place_of p; end = place_of q }) → ArePlaced bytes (record { start = place_of p; end = place_of q } ∷ [])
+  placed k w m = record {
+    one_line_each = All-cons (IsLinePiece bytes) here [] m (All-nil (IsLinePiece bytes));
     in_order = and-true (is_piece bytes here && true) true (and-true (is_piece bytes here) true is-piece refl) refl;
     lines = ap (lines_begin true) (append-nil (piece_codes (codes_of bytes) here)) ∙ w;
     between_characters = λ u. All-cons (IsBetweenCharacters bytes) here [] (first-between u, last-between k u) (All-nil (IsBetweenCharacters bytes));
   }
 
   pub line-end : back ≡ [] → 0 < length inside → piece_codes (codes_of bytes) (record { start = place_of p; end = place_of q }) ≡ inside
-      → lines_begin true inside ≡ true → IsLineEnd bytes start (record { start = place_of p; end = place_of q })
-  line-end e n codes w = record {
+      → lines_begin true inside ≡ true → is_line inside ≡ true → IsLineEnd bytes start (record { start = place_of p; end = place_of q })
+  line-end e n codes w m = record {
+    is_line = ap is_line codes ∙ m;
     lines = ap (lines_begin true) codes ∙ w;
     begins = start-within front inside n at_start;
     is = is-piece;
@@ -317,6 +319,7 @@ links bytes a b = ends_line (piece_codes (codes_of bytes) a) && (is_at_or_after 
 
 pub next-placed : (bytes : List ℕ) (p : Point) (ps : List Piece) (piece : Piece) → ArePlaced bytes ps → EndAt bytes p ps → IsLineEnd bytes p piece → ArePlaced bytes (ps ++ piece ∷ [])
 next-placed bytes p ps piece h e l = record {
+  one_line_each = All-push (IsLinePiece bytes) ps piece h.one_line_each l.is_line;
   in_order = next ps h.in_order e;
   lines = ap (lines_begin true) (flat_map-append (piece_codes (codes_of bytes)) ps (piece ∷ []) ∙ ap (λ xs. content_of bytes ps ++ xs) (append-nil (piece_codes (codes_of bytes) piece)))
       ∙ joined-starts true (content_of bytes ps) (piece_codes (codes_of bytes) piece) h.lines l.lines;
@@ -346,6 +349,7 @@ ends-at bytes p (a ∷ b ∷ rest) piece l lt = ends-at bytes p (b ∷ rest) pie
 
 pub one-placed : (bytes : List ℕ) (p : Point) (piece : Piece) → IsLineEnd bytes p piece → ArePlaced bytes (piece ∷ [])
 one-placed bytes p piece l = record {
+  one_line_each = All-cons (IsLinePiece bytes) piece [] l.is_line (All-nil (IsLinePiece bytes));
   lines = ap (lines_begin true) (append-nil (piece_codes (codes_of bytes) piece)) ∙ l.lines;
   in_order = and-true (is_piece bytes piece && true) true (and-true (is_piece bytes piece) true l.is refl) refl;
   between_characters = λ u. All-cons (IsBetweenCharacters bytes) piece [] (l.between_characters u) (All-nil (IsBetweenCharacters bytes));

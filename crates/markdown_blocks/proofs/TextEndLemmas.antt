@@ -10,7 +10,7 @@ use Rattle.std.proofs.lemmas.Str.{IsCharBoundary-before_ascii}
 use Rattle.std.proofs.lemmas.Bool.Decides.{nat_tests}
 use Rattle.markdown_event.specs.declared.event.Point.{Point}
 use Rattle.markdown_content.specs.declared.parser.Piece.{Piece}
-use Rattle.markdown_content.specs.Codes.{Code, codes_of, place_of, point_at, is_code_before, is_at_or_after, is_line_ending_byte, tab_value, line_feed, space_value}
+use Rattle.markdown_content.specs.Codes.{Code, codes_of, place_of, point_at, is_code_before, is_at_or_after, is_line_ending, is_line_ending_byte, tab_value, line_feed, space_value}
 use Rattle.markdown_content.specs.Content.{is_place, is_piece, are_pieces, is_one_line, ends_line, piece_codes, content_of, IsBetweenCharacters, document_limit, IsTextContent}
 use Rattle.markdown_content.specs.DocumentWalk.{codes_after}
 use Rattle.markdown_content.proofs.PlaceOrder.{is_before, before-self, before-reach, at_or_after-is}
@@ -22,12 +22,12 @@ use Rattle.markdown_content.proofs.DocumentCodes.{codes_at, value_at, stop_at, c
 use Rattle.markdown_content.proofs.DocumentWalkLemmas.{chain-at, first-of, IsFirstCode}
 use Rattle.markdown_content.proofs.DocumentPlaces.{stands-point, stands-there, codes-point, there, IsThere, next, IsNextPlace}
 use Rattle.markdown_content.proofs.WalkTargets.{place-point}
-use Rattle.markdown_model.specs.CodeTests.{is_whitespace_code}
-use Rattle.markdown_block_model.specs.TextStarts.{lines_begin}
+use Rattle.markdown_model.specs.CodeTests.{is_whitespace_code, is_empty}
+use Rattle.markdown_block_model.specs.TextStarts.{lines_begin, is_line}
 use Rattle.markdown_block_model.proofs.TextsAreContents.{front-starts, behind-line, end-starts, end-twice, is-text}
 use Rattle.markdown_block_model.specs.LineRests.{onto_end, trimmed_end}
 use Rattle.markdown_blocks.specs.TextTrims.{is_space_byte, IsTrimmedPiece, IsPassed, IsTrimming}
-use Rattle.markdown_blocks.specs.TextRows.{ArePlaced, IsTrimmedText}
+use Rattle.markdown_blocks.specs.TextRows.{IsLinePiece, ArePlaced, IsTrimmedText}
 
 and-true : (a b : Bool) → a ≡ true → b ≡ true → (a && b) ≡ true
 and-true a b h k = ap (λ v. v && b) h ∙ k
@@ -413,6 +413,27 @@ all-last P (x ∷ xs) p h = all-last P xs p (λ k d l. h (suc k) d (omega (arith
 content-push : (bytes : List ℕ) (ps : List Piece) (p : Piece) → content_of bytes (ps ++ p ∷ []) ≡ content_of bytes ps ++ piece_codes (codes_of bytes) p
 content-push bytes ps p = flat_map-append (piece_codes (codes_of bytes)) ps (p ∷ []) ∙ ap (λ (xs : List Code). content_of bytes ps ++ xs) (append-nil (piece_codes (codes_of bytes) p))
 
+-- a line without the whitespace at its end is one
+end-line : (cs : List Code) → is_line cs ≡ true → is_line (trimmed_end cs) ≡ true
+end-line [] h = refl
+end-line (c ∷ cs) h = onto (trimmed_end cs) (by_ending (is_line_ending c) (end-line cs) h)
+  where
+    none : (xs : List Code) → is_empty xs ≡ true → is_empty (trimmed_end xs) ≡ true
+    none [] k = refl
+    none (x ∷ xs) k = absurd (cc)
+
+    by_ending : (b : Bool) → (is_line cs ≡ true → is_line (trimmed_end cs) ≡ true) → (if b then is_empty cs else is_line cs) ≡ true → (if b then is_empty (trimmed_end cs) else is_line (trimmed_end cs)) ≡ true
+    by_ending true more k = none cs k
+    by_ending false more k = more k
+
+    by_test : (b : Bool) → is_line (c ∷ []) ≡ true → is_line (if b then [] else c ∷ []) ≡ true
+    by_test true k = refl
+    by_test false k = k
+
+    onto : (r : List Code) → (if is_line_ending c then is_empty r else is_line r) ≡ true → is_line (onto_end is_whitespace_code c r) ≡ true
+    onto [] k = by_test (is_whitespace_code c) k
+    onto (d ∷ ds) k = k
+
 pub trimming-start : (bytes : List ℕ) (text : List Piece) → are_pieces bytes text ≡ true → IsTrimming bytes text text
 trimming-start bytes text h = record { in_order = h; codes = refl; placed = λ k. k }
 
@@ -426,6 +447,7 @@ trimming-less bytes text left front p h e n = record {
       record {
         in_order = front-pieces bytes front p l.in_order;
         between_characters = λ u. all-front (IsBetweenCharacters bytes) front p (l.between_characters u);
+        one_line_each = all-front (IsLinePiece bytes) front p l.one_line_each;
         lines = front-starts true (content_of bytes front) (piece_codes (codes_of bytes) p) (ap (lines_begin true) (sym (content-push bytes front p)) ∙ l.lines);
       };
 }
@@ -448,10 +470,25 @@ trimming-text bytes text left front after p q h e t a k =
         in_order = other-last bytes front p q t.start t.is l.in_order;
         between_characters = λ u. All-push (IsBetweenCharacters bytes) front q (all-front (IsBetweenCharacters bytes) front p (l.between_characters u))
             (t.between_characters u (all-last (IsBetweenCharacters bytes) front p (l.between_characters u)));
+        one_line_each = All-push (IsLinePiece bytes) front q (all-front (IsLinePiece bytes) front p l.one_line_each)
+            (ap is_line t.codes ∙ end-line (piece_codes (codes_of bytes) p) (all-last (IsLinePiece bytes) front p l.one_line_each));
         lines = ap (lines_begin true) codes ∙ end-starts is_whitespace_code true (content_of bytes text) k.lines;
       };
       ends = ap trimmed_end codes ∙ end-twice is_whitespace_code (content_of bytes text) ∙ sym codes;
     })
+
+-- so codes are left
+pub trimming-some : (bytes : List ℕ) (front after : List Piece) (p q : Piece) → IsTrimmedPiece bytes p q → after ≡ front ++ q ∷ [] → content_of bytes after ≡ [] → after ≡ []
+trimming-some bytes front after p q t a e =
+    absurd (t.some (last-none (content_of bytes front) (piece_codes (codes_of bytes) q) (sym (content-push bytes front q) ∙ ap (content_of bytes) (sym a) ∙ e)))
+  where
+    last-none : (xs ys : List Code) → xs ++ ys ≡ [] → ys ≡ []
+    last-none [] ys k = k
+    last-none (x ∷ xs) ys k = absurd (cc)
+
+pub no-pieces : (ps : List Piece) → length ps ≡ 0 → ps ≡ []
+no-pieces [] e = refl
+no-pieces (p ∷ ps) e = absurd (omega (arith, e))
 
 -- the last piece is one of the document
 pub trimming-last : (bytes : List ℕ) (text left front : List Piece) (p : Piece) → IsTrimming bytes text left → left ≡ front ++ p ∷ [] → is_piece bytes p ≡ true
@@ -474,6 +511,7 @@ pub placed-behind : (bytes : List ℕ) (k : ℕ) (ps : List Piece) → ArePlaced
 placed-behind bytes k ps h = record {
   in_order = are-drop bytes k ps h.in_order;
   between_characters = λ u. All-drop (IsBetweenCharacters bytes) k ps (h.between_characters u);
+  one_line_each = All-drop (IsLinePiece bytes) k ps h.one_line_each;
   lines = lines-behind bytes k ps h.in_order h.lines;
 }
 
@@ -491,5 +529,5 @@ text-content bytes ps h u l = record {
 
 -- nothing is left
 pub none-content : (bytes : List ℕ) (ps : List Piece) → length ps ≡ 0 → IsUtf8 bytes → length bytes ≤ document_limit → IsTextContent bytes ps
-none-content bytes [] e u l = text-content bytes [] (record { placed = record { in_order = refl; between_characters = λ v. All-nil (IsBetweenCharacters bytes); lines = refl }; ends = refl }) u l
+none-content bytes [] e u l = text-content bytes [] (record { placed = record { in_order = refl; between_characters = λ v. All-nil (IsBetweenCharacters bytes); one_line_each = All-nil (IsLinePiece bytes); lines = refl }; ends = refl }) u l
 none-content bytes (p ∷ ps) e u l = absurd (omega (arith, e))

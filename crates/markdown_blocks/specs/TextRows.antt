@@ -6,7 +6,7 @@ use Rattle.markdown_content.specs.declared.parser.Piece.{Piece}
 use Rattle.markdown_content.specs.Codes.{Code, codes_of, is_at_or_after, is_line_ending, place_of, stop_of}
 use Rattle.markdown_content.specs.Content.{is_piece, are_pieces, is_one_line, ends_line, piece_codes, content_of, IsBetweenCharacters}
 use Rattle.markdown_block_model.specs.LineRests.{trimmed_end}
-use Rattle.markdown_block_model.specs.TextStarts.{lines_begin}
+use Rattle.markdown_block_model.specs.TextStarts.{lines_begin, is_line}
 use Rattle.markdown_block_line.specs.DocumentLines.{line_from}
 use Rattle.markdown_blocks.specs.NestedRows.{AreNested}
 use Rattle.markdown_blocks.specs.declared.block.Leaf.{Leaf}
@@ -15,10 +15,15 @@ use Rattle.markdown_blocks.specs.declared.block.Row.{Row}
 use Rattle.markdown_blocks.specs.declared.block.Row.TheVariants.{LeafAt, ContainerAt}
 use Rattle.markdown_blocks.specs.declared.reader.Reader.{Reader}
 
--- pieces of a document are in order, stand between characters if it is UTF-8, and each line of theirs begins with no whitespace
+-- no code of a piece stands behind a line ending
+abbrev pub IsLinePiece : List ℕ → Piece → Type 0
+IsLinePiece bytes p = is_line (piece_codes (codes_of bytes) p) ≡ true
+
+-- Pieces of a document are in order, stand between characters if it is UTF-8, and each is of one line. Each line of theirs begins with no whitespace.
 pub record ArePlaced (bytes : List ℕ) (pieces : List Piece) : Type 0 where
   pub in_order : are_pieces bytes pieces ≡ true
   pub between_characters : IsUtf8 bytes → All (IsBetweenCharacters bytes) pieces
+  pub one_line_each : All (IsLinePiece bytes) pieces
   pub lines : lines_begin true (content_of bytes pieces) ≡ true
 
 -- and the text ends with no whitespace
@@ -68,6 +73,7 @@ pub record IsLineEnd (bytes : List ℕ) (start : Point) (piece : Piece) : Type 0
   pub after : is_at_or_after (place_of start) piece.start ≡ true
   pub one_line : is_one_line bytes (place_of start) piece.start ≡ true
   pub end : piece.end ≡ place_of (line_stop bytes start)
+  pub is_line : IsLinePiece bytes piece
   pub ends : (line_stop bytes start).index < length bytes → ends_line (piece_codes (codes_of bytes) piece) ≡ true
   pub lines : lines_begin true (piece_codes (codes_of bytes) piece) ≡ true
 

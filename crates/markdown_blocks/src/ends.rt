@@ -35,12 +35,13 @@ pub fn trimmed(document: &[u8], piece: Piece) -> Option<Piece>
     None
 }
 
-/// Cuts the whitespace at the end of a text. Then it is a text content, as the inline layer takes it.
+/// Cuts the whitespace at the end of a text. Then it is a text content, as the inline layer takes it. If nothing else was in it, no piece is left.
 ///
 /// The only error is that memory was refused.
 pub fn trim_end(document: &[u8], text: &mut Vec<Piece>) -> Result<(), AllocError>
     requires { are_pieces document.now text.old.items ≡ true }
     ensures codes { IfOk result (λ _. content_of document.now text.new.items ≡ trimmed_end (content_of document.now text.old.items)) }
+    ensures empty { IfOk result (λ _. content_of document.now text.new.items ≡ [] → text.new.items ≡ []) }
     ensures text { IfOk result (λ _. ArePlaced document.now text.old.items → IsTrimmedText document.now text.new.items) }
     ensures content { IfOk result (λ _. ArePlaced document.now text.old.items → IsUtf8 document.now → length document.now ≤ document_limit → IsTextContent document.now text.new.items) }
 {

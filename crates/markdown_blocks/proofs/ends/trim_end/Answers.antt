@@ -1,5 +1,5 @@
 use Rattle.std.proofs.Common.{◌≡◌, length, arith}
-use Rattle.markdown_blocks.proofs.TextEndLemmas.{trimming-start, trimming-last, trimming-less, trimming-end, trimming-text, text-content, none-content}
+use Rattle.markdown_blocks.proofs.TextEndLemmas.{trimming-start, trimming-last, trimming-less, trimming-end, trimming-text, trimming-some, no-pieces, text-content, none-content}
 use Rattle.markdown_blocks.proofs.ends.trim_end.Goals as goal
 
 pub loop-last-init : goal.loop-last-init
@@ -33,3 +33,11 @@ pub returns-clause-content : goal.returns-clause-content
 returns-clause-content c = λ k u l.
     let e : length c.pop.new.self.items ≡ 0 = omega (arith, (rw c.in_default.is at c.pop.ensures.cases).1) in
     none-content c.args.document.now c.pop.new.self.items e u l
+
+pub returns-in-Some-trimmed-clause-empty : goal.returns-in-Some-trimmed-clause-empty
+returns-in-Some-trimmed-clause-empty c = λ e. trimming-some c.args.document.now c.pop.new.self.items _ c.in-Some.last c.in-Some-trimmed.piece c.in-Some-trimmed.ensures c.in_ok-push.ensures.items e
+
+pub returns-clause-empty : goal.returns-clause-empty
+returns-clause-empty c =
+    let e : length c.pop.new.self.items ≡ 0 = omega (arith, (rw c.in_default.is at c.pop.ensures.cases).1) in
+    λ _. no-pieces c.pop.new.self.items e
