@@ -222,10 +222,16 @@ left-is cs vs k h e = by_bool (nat_lt k (length vs))
 
 -- A text that does not begin with `[` has no definitions.
 
-has-all : (c : Code) (cs : List Code) → definition (c ∷ cs) ≡ None → has_text (c ∷ cs) ≡ true
-has-all c cs e = ap (λ (o : Option (Definition × List Code)). not (is_empty (taken_by (taken (length cs)) (c ∷ cs) o).1)) e
+-- it is all text
+abbrev pub IsAllText : List Code → Type 0
+IsAllText cs = (definitions_of cs ≡ ([], cs)) × (has_text cs ≡ true)
 
-begins-other : (cs : List Code) (v : ℕ) → next_is (is_value v) cs ≡ true → (v ≡ 91 → ⊥) → has_text cs ≡ true
+has-all : (c : Code) (cs : List Code) → definition (c ∷ cs) ≡ None → IsAllText (c ∷ cs)
+has-all c cs e =
+    let whole : definitions_of (c ∷ cs) ≡ ([], c ∷ cs) = ap (λ (o : Option (Definition × List Code)). taken_by (taken (length cs)) (c ∷ cs) o) e in
+    (whole, ap (λ (r : List Definition × List Code). not (is_empty r.1)) whole)
+
+begins-other : (cs : List Code) (v : ℕ) → next_is (is_value v) cs ≡ true → (v ≡ 91 → ⊥) → IsAllText cs
 begins-other [] v e f = absurd (grind (arith, e))
 begins-other (c ∷ cs) v e f = has-all c cs (defined-none (c ∷ cs) (label-none (c ∷ cs) (other c.value v e f)))
   where
@@ -236,6 +242,6 @@ next-append : (p : Code → Bool) (cs ds : List Code) → next_is p cs ≡ true 
 next-append p [] ds e = absurd (grind (arith, e))
 next-append p (c ∷ cs) ds e = e
 
-pub text-other : (bytes : List ℕ) (ps : List Piece) (d : Piece) (v : ℕ) → (length ps ≡ 0 → ⊥) → next_is (is_value v) (piece_codes (codes_of bytes) (get_or ps 0 d)) ≡ true → (v ≡ 91 → ⊥) → has_text (content_of bytes ps) ≡ true
+pub text-other : (bytes : List ℕ) (ps : List Piece) (d : Piece) (v : ℕ) → (length ps ≡ 0 → ⊥) → next_is (is_value v) (piece_codes (codes_of bytes) (get_or ps 0 d)) ≡ true → (v ≡ 91 → ⊥) → IsAllText (content_of bytes ps)
 text-other bytes [] d v l e f = absurd (l refl)
 text-other bytes (p ∷ ps) d v l e f = begins-other (piece_codes (codes_of bytes) p ++ content_of bytes ps) v (next-append (is_value v) (piece_codes (codes_of bytes) p) (content_of bytes ps) e) f

@@ -5,11 +5,13 @@ use Rattle.std.proofs.lemmas.List.{map-append}
 use Rattle.markdown_content.specs.Codes.{Code}
 use Rattle.markdown_model.specs.CodeTests.{values_of, is_value, next_is}
 use Rattle.markdown_block_model.specs.LinkDefinitions as link_definitions
-use Rattle.markdown_block_model.specs.LinkDefinitions.{between, destination_text, definition}
+use Rattle.markdown_block_model.specs.LinkDefinitions.{between, destination_text, definition, definitions_of}
+use Rattle.markdown_block_model.specs.LineRests.{lines_of}
 use Rattle.markdown_block_line.proofs.RestValues.{values-drop, values-take, values-length}
 use Rattle.markdown_block_definitions.specs.DefinitionTexts.{Texts, texts_of, texts_in, IsFrontOf}
 use Rattle.markdown_block_definitions.specs.declared.front.Definition.{Definition}
 use Rattle.markdown_block_definitions.specs.declared.front.Front.{Front}
+use Rattle.markdown_block_definitions.proofs.LinesTaken.{lines-left}
 use Rattle.markdown_block_definitions.proofs.DefinitionReads.{IsDefinedTo, front-start, start-none, front-more, front-end, front-all}
 
 pub inside-few : (cs : List Code) (vs : List ℕ) → values_of cs ≡ vs → length vs < 2 → values_of (between cs) ≡ []
@@ -60,5 +62,19 @@ collected-more cs len k d xs ys x h e z l i g =
     let more : (f : IsDefinedTo cs (len + k)) × (f.done ≡ h.front.done ++ d ∷ []) = front-more cs len k d h.front e z l in
     record { front = more.0; same = copies-more xs ys x h.front.done more.0.done d i more.1 h.same g }
 
-pub collected-end : (cs : List Code) (len : ℕ) (f : Front) → IsCollected cs f.len f.definitions.items → definition (drop f.len cs) ≡ None → IsFrontOf cs f
-collected-end cs len f h e = record { definitions_are = h.same ∙ ap (map texts_in) (sym (front-all cs f.len h.front e)); rest = front-end cs f.len h.front e }
+pub collected-end : (cs : List Code) (len : ℕ) (f : Front) → IsCollected cs len f.definitions.items → definition (drop len cs) ≡ None → len ≤ length cs → length (lines_of (take len cs)) ≡ f.lines → IsFrontOf cs f
+collected-end cs len f h e l n =
+    let left = lines-left cs len (front-end cs len h.front e) l in
+    record {
+      definitions_are = h.same ∙ ap (map texts_in) (sym (front-all cs len h.front e));
+      rest = left.0 ∙ ap (λ k. drop k (lines_of cs)) n;
+      within = omega (arith, left.1, n);
+    }
+
+-- a text without definitions
+pub front-none : (cs : List Code) (f : Front) → definitions_of cs ≡ ([], cs) → f.definitions.items ≡ [] → f.lines ≡ 0 → IsFrontOf cs f
+front-none cs f e d n = record {
+  definitions_are = ap (map texts_of) d ∙ sym (ap (λ (r : List link_definitions.Definition × List Code). map texts_in r.0) e);
+  rest = ap (λ (r : List link_definitions.Definition × List Code). lines_of r.1) e ∙ sym (ap (λ k. drop k (lines_of cs)) n);
+  within = omega (arith, n);
+}

@@ -4,9 +4,10 @@ pub mod DefinitionReads
 pub mod FrontTexts
 pub mod GapRests
 pub mod LineCounts
-pub mod PieceCuts
+pub mod LinesTaken
 pub mod RawWalks
 pub mod ReadingRests
+pub mod ResolvedRowLemmas
 pub mod SpotReads
 pub mod TextPushes
 pub mod TextTrees

@@ -1,8 +1,9 @@
 -- Definitions as bytes.
-use Rattle.std.specs.Prelude.{◌≡◌, ℕ, List, map, drop, Option, Some, None, option_map}
+use Rattle.std.specs.Prelude.{◌≡◌, ℕ, ◌≤◌, List, length, map, drop, Option, Some, None, option_map}
 use Rattle.std.specs.Global.{Vec}
 use Rattle.markdown_content.specs.Codes.{Code}
 use Rattle.markdown_model.specs.CodeTests.{values_of}
+use Rattle.markdown_block_model.specs.LineRests.{lines_of}
 use Rattle.markdown_block_model.specs.LinkDefinitions as link_definitions
 use Rattle.markdown_block_model.specs.LinkDefinitions.{definitions_of}
 use Rattle.markdown_block_definitions.specs.declared.front.Definition.{Definition}
@@ -24,7 +25,8 @@ texts_of d = record { label = d.label.items; destination = d.destination.items; 
 abbrev pub texts_in : link_definitions.Definition → Texts
 texts_in d = record { label = values_of d.label; destination = values_of d.destination; title = option_map values_of d.title }
 
--- the definitions at the front of a text, and where the text goes on behind them
+-- the definitions at the front of a text, and the lines of the text behind theirs
 pub record IsFrontOf (cs : List Code) (f : Front) : Type 0 where
   pub definitions_are : map texts_of f.definitions.items ≡ map texts_in (definitions_of cs).0
-  pub rest : (definitions_of cs).1 ≡ drop f.len cs
+  pub rest : lines_of (definitions_of cs).1 ≡ drop f.lines (lines_of cs)
+  pub within : f.lines ≤ length (lines_of cs)

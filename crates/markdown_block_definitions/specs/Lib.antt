@@ -1,6 +1,6 @@
 -- The definitions of this crate.
 pub mod DefinitionParts
 pub mod DefinitionTexts
+pub mod ResolvedRows
 pub mod TextCopies
-pub mod TextCuts
 pub mod TextReadings

@@ -1,31 +1,31 @@
 //! The blocks of a document, with the definitions of its paragraphs read.
 
-ghost use Rattle.std.specs.Prelude.{◌≡◌, ◌≤◌, length, true, IfOk, All};
+ghost use Rattle.std.specs.Prelude.{◌≡◌, ◌≤◌, length, map, IsUtf8, IfOk, All};
 ghost use Rattle.markdown_content.specs.Content.{document_limit, content_of};
 ghost use Rattle.markdown_block_model.specs.DocumentBlocks.{blocks_of};
-ghost use Rattle.markdown_block_model.specs.LinkDefinitions.{has_text};
+ghost use Rattle.markdown_block_model.specs.LinkDefinitions.{has_text, definitions, document_tree};
+ghost use Rattle.markdown_block_definitions.specs.DefinitionTexts.{texts_of, texts_in};
+ghost use Rattle.markdown_block_definitions.specs.ResolvedRows.{IsTextRow};
 ghost use Rattle.markdown_blocks.specs.BlockRows.{tree_of};
 ghost use Rattle.markdown_blocks.specs.NestedRows.{AreNested};
 ghost use Rattle.markdown_blocks.specs.TextRows.{IsPlacedRow};
 
-use crate::copy::{first_value, push_text};
+use crate::copy::push_text;
 use crate::definition::definitions_len;
+use crate::front::{Definition, begins_otherwise};
+use crate::resolved::resolve_rows;
 use markdown_blocks::block::Blocks;
 use markdown_blocks::text::HasText;
 use markdown_content::parser::Piece;
 use std::alloc::{AllocError, Global};
 
-// Whether a text begins with another code than `[`, so that it has no definitions.
-fn begins_otherwise(document: &[u8], text: &[Piece]) -> bool
-    ensures { result ≡ true → has_text (content_of document.now text.now) ≡ true }
-{
-    if text.len() == 0 {
-        return false;
-    }
-    match first_value(document, text[0]) {
-        Some(value) => value != b'[',
-        None => false,
-    }
+/// A document: its blocks without its link reference definitions, and these.
+#[derive(Drop)]
+pub struct Document {
+    /// The blocks. The text of a paragraph or a heading is a text content, as the inline layer takes it.
+    pub blocks: Blocks,
+    /// The definitions, in the document's order.
+    pub definitions: Vec<Definition>,
 }
 
 /// Tells by the link reference definitions at its front whether a paragraph has text.
@@ -62,4 +62,23 @@ pub fn blocks(alloc: Global, bytes: &[u8]) -> Result<Blocks, AllocError>
 {
     let found = markdown_blocks::document::blocks(alloc, &Definitions, bytes)?;
     Ok(found)
+}
+
+/// Reads a document of at most `usize::MAX / 8` bytes: its blocks without its link reference definitions, and these (CommonMark 4.7).
+///
+/// A paragraph of definitions alone stays, without pieces. The only error is that memory was refused.
+pub fn read(alloc: Global, bytes: &[u8]) -> Result<Document, AllocError>
+    requires { length bytes.now ≤ document_limit }
+    ensures tree { IfOk result (λ d. tree_of bytes.now d.blocks ≡ document_tree bytes.now) }
+    ensures definitions { IfOk result (λ d. map texts_of d.definitions.items ≡ map texts_in (definitions bytes.now)) }
+    ensures texts { IfOk result (λ d. IsUtf8 bytes.now → All (IsTextRow bytes.now) d.blocks.rows.items) }
+    ensures nested { IfOk result (λ d. AreNested 0 d.blocks.rows.items) }
+{
+    let found = blocks(alloc, bytes)?;
+    let mut definitions = Vec::new(alloc);
+    let rows = resolve_rows(alloc, bytes, found.rows, &mut definitions)?;
+    Ok(Document {
+        blocks: Blocks { rows },
+        definitions,
+    })
 }

@@ -1,15 +1,16 @@
 //! The link reference definitions at the front of a text (CommonMark 4.7), as copied bytes.
 
-ghost use Rattle.std.specs.Prelude.{◌≡◌, List, length, option_map, IfOk};
+ghost use Rattle.std.specs.Prelude.{◌≡◌, ◌<◌, ◌≤◌, ◌+◌, List, [], length, drop, true, option_map, IfOk};
 ghost use Rattle.markdown_content.specs.Codes.{Code};
 ghost use Rattle.markdown_content.specs.Content.{content_of};
 ghost use Rattle.markdown_model.specs.CodeTests.{values_of};
-ghost use Rattle.markdown_block_model.specs.LinkDefinitions.{between, destination_text};
+ghost use Rattle.markdown_block_model.specs.LineRests.{lines_of};
+ghost use Rattle.markdown_block_model.specs.LinkDefinitions.{between, destination_text, definitions_of, has_text};
 ghost use Rattle.markdown_block_definitions.specs.TextReadings.{begins_of};
 ghost use Rattle.markdown_block_definitions.specs.DefinitionParts.{definition_of, title_of, IsEndingWithin, IsWithin};
 ghost use Rattle.markdown_block_definitions.specs.DefinitionTexts.{items_of, texts_of, texts_in, IsFrontOf};
 
-use crate::copy::push_text;
+use crate::copy::{first_value, push_text};
 use crate::definition::{Ending, Found, definition_at};
 use crate::spacing::begins_with;
 use markdown_content::parser::Piece;
@@ -31,8 +32,8 @@ pub struct Definition {
 pub struct Front {
     /// The definitions, in their order.
     pub definitions: Vec<Definition>,
-    /// How many codes of the text they have.
-    pub len: usize,
+    /// How many lines of the text they have.
+    pub lines: usize,
 }
 
 // A copy of some bytes.
@@ -92,6 +93,48 @@ fn copy_definition(alloc: Global, values: &[u8], found: Found) -> Result<Definit
     })
 }
 
+// How many lines end with the code at an index: one, or none.
+fn lines_ended(values: &[u8], index: usize) -> usize
+    requires { index < length values.now }
+    ensures count { (cs : List Code) → values_of cs ≡ values.now → length (lines_of (drop index cs)) ≡ result + length (lines_of (drop (index + 1) cs)) }
+    ensures within { result ≤ 1 }
+{
+    if index + 1 == values.len() {
+        return 1;
+    }
+    if values[index] == b'\n' {
+        return 1;
+    }
+    0
+}
+
+// How many lines some codes have.
+fn count_lines(values: &[u8]) -> usize
+    ensures { (cs : List Code) → values_of cs ≡ values.now → length (lines_of cs) ≡ result }
+{
+    let mut lines = 0;
+    let mut index = values.len();
+    while index > 0 {
+        index -= 1;
+        lines += lines_ended(values, index);
+    }
+    lines
+}
+
+// Whether a text begins with another code than `[`, so that it has no definitions.
+pub(crate) fn begins_otherwise(document: &[u8], text: &[Piece]) -> bool
+    ensures none { result ≡ true → definitions_of (content_of document.now text.now) ≡ ([], content_of document.now text.now) }
+    ensures text { result ≡ true → has_text (content_of document.now text.now) ≡ true }
+{
+    if text.len() == 0 {
+        return false;
+    }
+    match first_value(document, text[0]) {
+        Some(value) => value != b'[',
+        None => false,
+    }
+}
+
 // The definitions at the front of a text. `begins` says which of the codes begin a character.
 fn read_front(alloc: Global, values: &[u8], begins: &[bool]) -> Result<Front, AllocError>
     requires { length begins.now ≡ length values.now }
@@ -104,10 +147,13 @@ fn read_front(alloc: Global, values: &[u8], begins: &[bool]) -> Result<Front, Al
         definitions.push(definition)?;
         len += found.destination.start + found.destination.len + found.ending.len;
     }
-    Ok(Front { definitions, len })
+    Ok(Front {
+        definitions,
+        lines: count_lines(&values[..len]),
+    })
 }
 
-/// Returns the link reference definitions at the front of the text that has these pieces of a document (CommonMark 4.7), and how many codes they have.
+/// Returns the link reference definitions at the front of the text that has these pieces of a document (CommonMark 4.7), and how many lines they have.
 ///
 /// The only error is that memory was refused. The work is linear in the lines of the text.
 pub fn definitions_at_front(
@@ -117,6 +163,12 @@ pub fn definitions_at_front(
 ) -> Result<Front, AllocError>
     ensures { IfOk result (IsFrontOf (content_of document.now text.now)) }
 {
+    if begins_otherwise(document, text) {
+        return Ok(Front {
+            definitions: Vec::new(alloc),
+            lines: 0,
+        });
+    }
     let mut values = Vec::new(alloc);
     let mut begins = Vec::new(alloc);
     push_text(document, text, &mut values, &mut begins)?;

@@ -2,10 +2,10 @@
 #![tactic(auto)]
 
 mod copy;
-pub mod cut;
 mod definition;
 mod destinations;
 pub mod document;
 pub mod front;
+mod resolved;
 mod spacing;
 mod texts;

@@ -372,7 +372,7 @@ onto-line c (l ∷ ls) = by_test (is_line_ending c)
     by_test true = refl
     by_test false = refl
 
-lines-cover : (cs : List Code) → flat_map (λ x. x) (lines_of cs) ≡ cs
+pub lines-cover : (cs : List Code) → flat_map (λ x. x) (lines_of cs) ≡ cs
 lines-cover [] = refl
 lines-cover (c ∷ cs) = onto-line c (lines_of cs) ∙ ap (λ x. c ∷ x) (lines-cover cs)
 

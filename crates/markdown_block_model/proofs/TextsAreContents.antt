@@ -370,7 +370,7 @@ module _ (Within Begin : List Code → Type 0)
       bind-ends (label true reference_names) (λ name. one (is_value (byte ":")) >> behind-colon name) (covered leaf_codes (label true reference_names) (covers_label true reference_names))
       (λ name. next-ends (one (is_value (byte ":"))) (behind-colon name) (covered itself (one (is_value (byte ":"))) (takes_one (is_value (byte ":")))) (behind-colon-ends name))
 
-  left-begins : (n : ℕ) (cs : List Code) → Begin cs → Begin (taken n cs).1
+  pub left-begins : (n : ℕ) (cs : List Code) → Begin cs → Begin (taken n cs).1
   left-begins zero cs h = h
   left-begins (suc n) cs h = by_case (definition cs) (definition-ends cs (weaker cs h)) (left-begins n)
     where

@@ -8,13 +8,13 @@ use Rattle.markdown_blocks.specs.NestedRows.{AreNested}
 use Rattle.markdown_blocks.specs.declared.block.Row.{Row}
 use Rattle.markdown_blocks.specs.declared.block.Row.TheVariants.{LeafAt, ContainerAt}
 
-spine-leaf : (n : ℕ) (l : Leaf) (t : Tree) → n ≤ length (spine t) → length (spine (at_depth n (λ s. and_leaf s l) t)) ≡ n
+pub spine-leaf : (n : ℕ) (l : Leaf) (t : Tree) → n ≤ length (spine t) → length (spine (at_depth n (λ s. and_leaf s l) t)) ≡ n
 spine-leaf zero l t h = refl
 spine-leaf (suc n) l nothing h = absurd (omega arith)
 spine-leaf (suc n) l (and_leaf b m) h = absurd (omega arith)
 spine-leaf (suc n) l (and_container b c i) h = ap suc (spine-leaf n l i (omega arith))
 
-spine-container : (n : ℕ) (c : Container) (t : Tree) → n ≤ length (spine t) → length (spine (at_depth n (λ s. and_container s c nothing) t)) ≡ suc n
+pub spine-container : (n : ℕ) (c : Container) (t : Tree) → n ≤ length (spine t) → length (spine (at_depth n (λ s. and_container s c nothing) t)) ≡ suc n
 spine-container zero c t h = refl
 spine-container (suc n) c nothing h = absurd (omega arith)
 spine-container (suc n) c (and_leaf b m) h = absurd (omega arith)

@@ -2,12 +2,11 @@
 //!
 //! In a document `|` stands for a line feed, and `~` for a tab. In a line of answer a paragraph is `p`, a heading that an underline made `h`, and a
 //! thematic break `b`. Behind the first two stand the link reference definitions at the front, each as `[label]<destination>(title)`, and how many pieces
-//! of the text are left behind them.
+//! the text has in the document without its definitions.
 //!
 //! Where memory is refused, the answers end there, and the status is 3.
 #![tactic(auto)]
 
-use markdown_block_definitions::cut::pieces_behind;
 use markdown_block_definitions::document;
 use markdown_block_definitions::front::{Definition, definitions_at_front};
 use markdown_blocks::block::{Leaf, Row};
@@ -39,18 +38,18 @@ fn push_definition(out: &mut Vec<u8>, definition: &Definition) -> Result<(), All
     Ok(())
 }
 
-// Appends what a text has at its front, and how many pieces are left.
+// Appends what a text has at its front, and how many pieces it has without.
 fn push_front(
     alloc: Global,
     out: &mut Vec<u8>,
     document: &[u8],
     text: &[Piece],
+    left: &[Piece],
 ) -> Result<(), AllocError> {
     let front = definitions_at_front(alloc, document, text)?;
     for definition in &front.definitions {
         push_definition(out, definition)?;
     }
-    let left = pieces_behind(alloc, document, text, front.len)?;
     out.push(b'0' + (left.len() % 10) as u8)?;
     Ok(())
 }
@@ -60,17 +59,18 @@ fn push_leaf(
     out: &mut Vec<u8>,
     document: &[u8],
     leaf: &Leaf,
+    resolved: &Leaf,
 ) -> Result<(), AllocError> {
-    match leaf {
-        Leaf::Paragraph(text) => {
+    match (leaf, resolved) {
+        (Leaf::Paragraph(text), Leaf::Paragraph(left)) => {
             out.push(b'p')?;
-            push_front(alloc, out, document, text.as_slice())?;
+            push_front(alloc, out, document, text.as_slice(), left.as_slice())?;
         }
-        Leaf::Underlined(_, text) => {
+        (Leaf::Underlined(_, text), Leaf::Underlined(_, left)) => {
             out.push(b'h')?;
-            push_front(alloc, out, document, text.as_slice())?;
+            push_front(alloc, out, document, text.as_slice(), left.as_slice())?;
         }
-        Leaf::ThematicBreak => out.push(b'b')?,
+        (Leaf::ThematicBreak, _) => out.push(b'b')?,
         _ => {}
     }
     Ok(())
@@ -80,9 +80,10 @@ fn push_leaf(
 fn push_answer(alloc: Global, out: &mut Vec<u8>, document: &[u8]) -> Result<(), AllocError> {
     if document.len() <= usize::MAX / 8 {
         let blocks = document::blocks(alloc, document)?;
-        for row in &blocks.rows {
-            if let Row::LeafAt(_, leaf) = row {
-                push_leaf(alloc, out, document, leaf)?;
+        let resolved = document::read(alloc, document)?.blocks;
+        for (row, left) in blocks.rows.iter().zip(resolved.rows.iter()) {
+            if let (Row::LeafAt(_, leaf), Row::LeafAt(_, left)) = (row, left) {
+                push_leaf(alloc, out, document, leaf, left)?;
             }
         }
     }

@@ -1,8 +1,8 @@
-use Rattle.std.proofs.Common.{◌≤◌, ◌+◌, length, drop, arith, ap}
+use Rattle.std.proofs.Common.{◌≤◌, ◌+◌, length, take, drop, arith, ap}
 use Rattle.markdown_block_line.proofs.RestValues.{rest-values, values-length}
 use Rattle.markdown_block_definitions.specs.DefinitionParts.{len_of, definition_of}
 use Rattle.markdown_block_definitions.proofs.CodesAt.{rest-begins}
-use Rattle.markdown_block_definitions.proofs.FrontTexts.{collected-start, collected-more, collected-end}
+use Rattle.markdown_block_definitions.proofs.FrontTexts.{part-of, collected-start, collected-more, collected-end}
 use Rattle.markdown_block_definitions.proofs.front.read_front.Goals as goal
 
 pub loop-found-init : goal.loop-found-init
@@ -22,4 +22,8 @@ loop-found-preserved c =
     }
 
 pub returns : goal.returns
-returns c = λ cs h b. collected-end cs c.loop-found.len _ (c.loop-found.invariant.collected cs h b) (c.in_default.ensures.read (drop c.loop-found.len cs) (rest-values c.loop-found.len cs c.args.values.now h) (rest-begins c.loop-found.len cs c.args.begins.now b))
+returns c = λ cs h b.
+    let len = c.loop-found.len in
+    let l : len ≤ length cs = omega (arith, c.loop-found.invariant.within, values-length cs, ap length h) in
+    collected-end cs len _ (c.loop-found.invariant.collected cs h b) (c.in_default.ensures.read (drop len cs) (rest-values len cs c.args.values.now h) (rest-begins len cs c.args.begins.now b)) l
+    (c.count_lines.ensures (take len cs) (part-of cs c.args.values.now 0 len _ h (omega arith)))

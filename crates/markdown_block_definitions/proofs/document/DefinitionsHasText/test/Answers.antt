@@ -16,4 +16,4 @@ returns c =
     ∙ left-is cs c.deref.result.now c.definitions_len-len.result h (c.definitions_len-len.ensures.same cs h (begins-alone _ _ _ _ cs c.in_ok-push_text.ensures c.new-begins.ensures.items ∙ sym c.deref-2.ensures.value))
 
 pub returns-then-begins_otherwise : goal.returns-then-begins_otherwise
-returns-then-begins_otherwise c = sym (c.begins_otherwise.ensures c.if-begins_otherwise.true)
+returns-then-begins_otherwise c = sym (c.begins_otherwise.ensures.text c.if-begins_otherwise.true)

@@ -1,0 +1,23 @@
+use Rattle.std.proofs.Common.{◌∙◌, ◌++◌, List, ap, map}
+use Rattle.std.specs.Prelude.{flat_map}
+use Rattle.markdown_block_definitions.specs.DefinitionTexts.{texts_of, texts_in}
+use Rattle.markdown_block_definitions.specs.ResolvedRows.{definitions_of_row}
+use Rattle.markdown_block_definitions.specs.declared.front.Definition.{Definition}
+use Rattle.markdown_block_definitions.proofs.ResolvedRowLemmas.{document-definitions, document-tree, document-nested, document-texts}
+use Rattle.markdown_block_definitions.proofs.document.read.Goals as goal
+
+pub returns-clause-tree : goal.returns-clause-tree
+returns-clause-tree c = document-tree c.args.bytes.now c.in_ok-found.found c.in_ok-found.ensures.tree c.in_ok-found.ensures.nested _ c.in_ok-rows.ensures.rows
+
+pub returns-clause-definitions : goal.returns-clause-definitions
+returns-clause-definitions c =
+    let bytes = c.args.bytes.now in
+    let found = c.in_ok-found.found in
+    c.in_ok-rows.ensures.found ∙ ap (λ (ds : List Definition). map texts_of ds ++ map texts_in (flat_map (definitions_of_row bytes) found.rows.items)) c.new-definitions.ensures.items
+    ∙ ap (map texts_in) (document-definitions bytes found c.in_ok-found.ensures.tree c.in_ok-found.ensures.nested)
+
+pub returns-clause-texts : goal.returns-clause-texts
+returns-clause-texts c = λ u. document-texts c.args.bytes.now c.in_ok-found.found c.in_ok-found.ensures.tree c.in_ok-found.ensures.nested _ c.in_ok-rows.ensures.rows u
+
+pub returns-clause-nested : goal.returns-clause-nested
+returns-clause-nested c = document-nested c.args.bytes.now c.in_ok-found.found c.in_ok-found.ensures.tree c.in_ok-found.ensures.nested _ c.in_ok-rows.ensures.rows
