@@ -1,5 +1,5 @@
 -- The texts of definitions as bytes.
-use Rattle.std.proofs.Common.{◌≡◌, ℕ, suc, ◌+◌, ◌-◌, ◌≤◌, ◌<◌, refl, ap, ◌∙◌, sym, List, [], ◌∷◌, ◌++◌, length, take, drop, map, true, false, Some, None, Option, arith}
+use Rattle.std.proofs.Common.{◌≡◌, ℕ, zero, suc, ◌+◌, ◌-◌, ◌≤◌, ◌<◌, refl, ap, ◌∙◌, sym, Bool, List, [], ◌∷◌, ◌++◌, length, take, drop, map, true, false, Some, None, Option, arith, drop-drop, length-drop}
 use Rattle.std.specs.Prelude.{if◌then◌else◌}
 use Rattle.std.proofs.lemmas.List.{map-append}
 use Rattle.markdown_content.specs.Codes.{Code}
@@ -7,36 +7,63 @@ use Rattle.markdown_model.specs.CodeTests.{values_of, is_value, next_is}
 use Rattle.markdown_block_model.specs.LinkDefinitions as link_definitions
 use Rattle.markdown_block_model.specs.LinkDefinitions.{between, destination_text, definition, definitions_of}
 use Rattle.markdown_block_model.specs.LineRests.{lines_of}
-use Rattle.markdown_block_line.proofs.RestValues.{values-drop, values-take, values-length}
+use Rattle.markdown_block_line.proofs.RestValues.{values-drop, values-take}
 use Rattle.markdown_block_definitions.specs.DefinitionTexts.{Texts, texts_of, texts_in, IsFrontOf}
+use Rattle.markdown_block_definitions.specs.TextReadings.{firsts_of}
 use Rattle.markdown_block_definitions.specs.declared.front.Definition.{Definition}
 use Rattle.markdown_block_definitions.specs.declared.front.Front.{Front}
+use Rattle.markdown_block_definitions.proofs.CodesAt.{firsts-drop}
+use Rattle.markdown_block_definitions.proofs.TextTrees.{firsts-take}
 use Rattle.markdown_block_definitions.proofs.LinesTaken.{lines-left}
 use Rattle.markdown_block_definitions.proofs.DefinitionReads.{IsDefinedTo, front-start, start-none, front-more, front-end, front-all}
 
-pub inside-few : (cs : List Code) (vs : List ℕ) → values_of cs ≡ vs → length vs < 2 → values_of (between cs) ≡ []
-inside-few [] vs h l = refl
-inside-few (c ∷ []) vs h l = refl
-inside-few (c ∷ d ∷ cs) vs h l = absurd (omega (arith, l, ap length h))
+-- What stands between two markers.
 
-pub inside-is : (cs : List Code) (vs : List ℕ) (n : ℕ) → values_of cs ≡ vs → 2 ≤ length vs → n ≡ length vs - 1 - 1 → values_of (between cs) ≡ take n (drop 1 vs)
-inside-is cs vs n h l e =
-    let k : length cs - 1 ≡ suc n = omega (arith, e, l, ap length h, values-length cs) in
-    values-drop 1 (take (length cs - 1) cs) ∙ ap (drop 1) (values-take (length cs - 1) cs ∙ ap (take (length cs - 1)) h)
-    ∙ ap (λ m. drop 1 (take m vs)) k ∙ here n vs (omega (arith, e, l))
-  where
-    here : (n : ℕ) (vs : List ℕ) → 1 ≤ length vs → drop 1 (take (suc n) vs) ≡ take n (drop 1 vs)
-    here n [] l = absurd (omega (arith, l))
-    here n (v ∷ vs) l = refl
+taken-few : (n : ℕ) (xs : List Code) → length (take n xs) ≤ n
+taken-few zero xs = omega arith
+taken-few (suc n) [] = omega arith
+taken-few (suc n) (x ∷ xs) = omega (arith, taken-few n xs)
 
-pub destination-inside : (cs : List Code) (vs : List ℕ) → next_is (is_value 60) cs ≡ true → values_of (between cs) ≡ vs → values_of (destination_text cs) ≡ vs
-destination-inside cs vs e h = ap (λ b. values_of (if b then between cs else cs)) e ∙ h
+taken-all : (n : ℕ) (xs : List Code) → n ≤ length xs → length (take n xs) ≡ n
+taken-all zero xs l = refl
+taken-all (suc n) [] l = absurd (omega (arith, l))
+taken-all (suc n) (x ∷ xs) l = ap suc (taken-all n xs (omega (arith, l)))
 
-pub destination-bare : (cs : List Code) (vs : List ℕ) → next_is (is_value 60) cs ≡ false → values_of cs ≡ vs → values_of (destination_text cs) ≡ vs
-destination-bare cs vs e h = ap (λ b. values_of (if b then between cs else cs)) e ∙ h
+take-less : (m : ℕ) (xs : List Code) → take m (take (suc m) xs) ≡ take m xs
+take-less zero xs = refl
+take-less (suc m) [] = refl
+take-less (suc m) (x ∷ xs) = ap (λ r. x ∷ r) (take-less m xs)
+
+between-few : (xs : List Code) → length xs < 2 → between xs ≡ []
+between-few [] l = refl
+between-few (x ∷ []) l = refl
+between-few (x ∷ y ∷ xs) l = absurd (omega (arith, l))
+
+between-more : (m : ℕ) (xs : List Code) → suc (suc m) ≤ length xs → between (take (suc (suc m)) xs) ≡ take m (drop 1 xs)
+between-more m [] l = absurd (omega (arith, l))
+between-more m (x ∷ xs) l =
+    let k : length (take (suc (suc m)) (x ∷ xs)) - 1 ≡ suc m = omega (arith, taken-all (suc (suc m)) (x ∷ xs) l) in
+    ap (λ n. drop 1 (take n (take (suc (suc m)) (x ∷ xs)))) k ∙ take-less m xs
+
+pub inside-few : (cs : List Code) (a n : ℕ) → n < 2 → [] ≡ between (take n (drop a cs))
+inside-few cs a n l = sym (between-few (take n (drop a cs)) (omega (arith, l, taken-few n (drop a cs))))
+
+pub inside-more : (cs : List Code) (a n m : ℕ) → a + n ≤ length cs → n ≡ m + 2 → take m (drop (a + 1) cs) ≡ between (take n (drop a cs))
+inside-more cs a n m l e =
+    let two : m + 2 ≡ suc (suc m) = omega arith in
+    sym (ap (λ k. between (take k (drop a cs))) (e ∙ two) ∙ between-more m (drop a cs) (omega (arith, l, e, length-drop a cs)) ∙ ap (take m) (drop-drop 1 a cs))
+
+pub destination-inside : (xs : List Code) → next_is (is_value 60) xs ≡ true → destination_text xs ≡ between xs
+destination-inside xs e = ap (λ b. if b then between xs else xs) e
+
+pub destination-bare : (xs : List Code) → next_is (is_value 60) xs ≡ false → destination_text xs ≡ xs
+destination-bare xs e = ap (λ b. if b then between xs else xs) e
 
 pub part-of : (cs : List Code) (vs : List ℕ) (s n m : ℕ) → values_of cs ≡ vs → m ≡ n → values_of (take n (drop s cs)) ≡ take m (drop s vs)
 part-of cs vs s n m h e = values-take n (drop s cs) ∙ ap (take n) (values-drop s cs ∙ ap (drop s) h) ∙ ap (λ k. take k (drop s vs)) (sym e)
+
+pub part-firsts : (cs : List Code) (bs : List Bool) (s n m : ℕ) → firsts_of cs ≡ bs → m ≡ n → firsts_of (take n (drop s cs)) ≡ take m (drop s bs)
+part-firsts cs bs s n m h e = firsts-take n (drop s cs) ∙ ap (take n) (firsts-drop s cs ∙ ap (drop s) h) ∙ ap (λ k. take k (drop s bs)) (sym e)
 
 pub texts-same : (a x b y : List ℕ) (t u : Option (List ℕ)) → a ≡ x → b ≡ y → t ≡ u → ◌≡◌ {A = Texts} (record { label = a; destination = b; title = t }) (record { label = x; destination = y; title = u })
 texts-same a x b y t u e f g =

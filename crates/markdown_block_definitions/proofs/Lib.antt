@@ -8,6 +8,7 @@ pub mod LinesTaken
 pub mod RawWalks
 pub mod ReadingRests
 pub mod ResolvedRowLemmas
+pub mod SaidTexts
 pub mod SpotReads
 pub mod TextPushes
 pub mod TextTrees

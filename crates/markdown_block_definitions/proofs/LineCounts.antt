@@ -5,11 +5,11 @@ use Rattle.std.proofs.lemmas.Bool.Decides.{nat_tests}
 use Rattle.std.proofs.Math.ListN.{drop_of_length-le}
 use Rattle.markdown_content.specs.Codes.{Code, is_blank, is_line_ending}
 use Rattle.markdown_content.specs.Content.{has_no_blank_line}
-use Rattle.markdown_model.specs.CodeTests.{values_of}
+use Rattle.markdown_model.specs.CodeTests.{values_of, is_between}
 use Rattle.markdown_model.specs.Resource.{counted, begins_character}
 use Rattle.markdown_block_line.specs.LineValues.{is_blank_value}
 use Rattle.markdown_block_line.proofs.RestValues.{values-length}
-use Rattle.markdown_block_definitions.specs.TextReadings.{begins_of}
+use Rattle.markdown_block_definitions.specs.TextReadings.{is_first, firsts_of}
 use Rattle.markdown_block_definitions.proofs.CodesAt.{by-code, by-both}
 
 ending : (c : Code) (v : ℕ) → c.value ≡ v → v ≡ 10 → is_line_ending c ≡ true
@@ -77,8 +77,11 @@ module _ (indented : Bool) (v : ℕ) (c : Code) (cs : List Code) (i : c.value �
   pub counts-none : (b : Bool) → (indented && is_blank_value v) ≡ false → begins_character c ≡ b → b ≡ false → counted true indented (c ∷ cs) ≡ 0 + counted true false cs
   counts-none b f g t = counts-other f false (g ∙ t)
 
-pub count-more : (cs : List Code) (vs : List ℕ) (bs : List Bool) (k d n m : ℕ) (e i j : Bool) → values_of cs ≡ vs → begins_of cs ≡ bs → k < length vs
-    → ((c : Code) (ds : List Code) → c.value ≡ get_or vs k d → begins_character c ≡ get_or bs k e → counted true i (c ∷ ds) ≡ m + counted true j ds)
+pub character-is : (c : Code) (v : ℕ) (b : Bool) → c.value ≡ v → is_first c ≡ b → begins_character c ≡ (not (is_between 128 191 v) && b)
+character-is c v b i e = ap (λ n. not (is_between 128 191 n) && is_first c) i ∙ ap (λ x. not (is_between 128 191 v) && x) e
+
+pub count-more : (cs : List Code) (vs : List ℕ) (bs : List Bool) (k d n m : ℕ) (e i j : Bool) → values_of cs ≡ vs → firsts_of cs ≡ bs → k < length vs
+    → ((c : Code) (ds : List Code) → c.value ≡ get_or vs k d → is_first c ≡ get_or bs k e → counted true i (c ∷ ds) ≡ m + counted true j ds)
     → counted true false cs ≡ n + counted true i (drop k cs) → counted true false cs ≡ n + m + counted true j (drop (k + 1) cs)
 count-more cs vs bs k d n m e i j h b l f g = by-both cs vs bs k d e h b l (λ c x v w.
     let y : counted true i (drop k cs) ≡ m + counted true j (drop (k + 1) cs) = ap (counted true i) x ∙ f c (drop (k + 1) cs) v w in

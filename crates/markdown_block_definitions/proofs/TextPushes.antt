@@ -10,10 +10,9 @@ use Rattle.markdown_content.specs.declared.parser.Piece.{Piece}
 use Rattle.markdown_content.proofs.PlaceOrder.{is_before, not_before-trans}
 use Rattle.markdown_content.proofs.DocumentWalkLemmas.{past-end}
 use Rattle.markdown_content.proofs.DocumentPlaces.{stands-point, codes-point}
-use Rattle.markdown_model.specs.CodeTests.{values_of, is_between, is_value, next_is}
-use Rattle.markdown_model.specs.Resource.{begins_character}
+use Rattle.markdown_model.specs.CodeTests.{values_of, is_value, next_is}
 use Rattle.markdown_block_line.proofs.RestValues.{by_bool}
-use Rattle.markdown_block_definitions.specs.TextReadings.{begins_of}
+use Rattle.markdown_block_definitions.specs.TextReadings.{is_first, firsts_of}
 use Rattle.markdown_block_definitions.specs.TextCopies.{IsSpot, IsRead, IsLonger, IsPut, point_of, spot_place, line_spot, is_spot_before}
 use Rattle.markdown_block_definitions.specs.declared.copy.Spot.{Spot}
 
@@ -81,17 +80,17 @@ values-more : (cs : List Code) (c : Code) → values_of (cs ++ c ∷ []) ≡ val
 values-more [] c = refl
 values-more (d ∷ cs) c = ap (λ (xs : List ℕ). d.value ∷ xs) (values-more cs c)
 
-begins-more : (cs : List Code) (c : Code) → begins_of (cs ++ c ∷ []) ≡ begins_of cs ++ begins_character c ∷ []
-begins-more [] c = refl
-begins-more (d ∷ cs) c = ap (λ (xs : List Bool). begins_character d ∷ xs) (begins-more cs c)
+firsts-more : (cs : List Code) (c : Code) → firsts_of (cs ++ c ∷ []) ≡ firsts_of cs ++ is_first c ∷ []
+firsts-more [] c = refl
+firsts-more (d ∷ cs) c = ap (λ (xs : List Bool). is_first d ∷ xs) (firsts-more cs c)
 
-values-append : (cs ds : List Code) → values_of (cs ++ ds) ≡ values_of cs ++ values_of ds
+pub values-append : (cs ds : List Code) → values_of (cs ++ ds) ≡ values_of cs ++ values_of ds
 values-append [] ds = refl
 values-append (c ∷ cs) ds = ap (λ (xs : List ℕ). c.value ∷ xs) (values-append cs ds)
 
-begins-append : (cs ds : List Code) → begins_of (cs ++ ds) ≡ begins_of cs ++ begins_of ds
-begins-append [] ds = refl
-begins-append (c ∷ cs) ds = ap (λ (xs : List Bool). begins_character c ∷ xs) (begins-append cs ds)
+firsts-append : (cs ds : List Code) → firsts_of (cs ++ ds) ≡ firsts_of cs ++ firsts_of ds
+firsts-append [] ds = refl
+firsts-append (c ∷ cs) ds = ap (λ (xs : List Bool). is_first c ∷ xs) (firsts-append cs ds)
 
 pub record IsPushed (bytes : List ℕ) (piece : Piece) (v0 : List ℕ) (b0 : List Bool) (v : List ℕ) (b : List Bool) (s : Spot) : Type 0 where
   pub done : List Code
@@ -103,7 +102,7 @@ pub pushed-start : (bytes : List ℕ) (piece : Piece) (v : List ℕ) (b : List B
 pushed-start bytes piece v b n l h = record {
   done = [];
   split = from-line piece n (codes_of bytes) l;
-  longer = record { values_more = sym (append-nil v); begins_more = sym (append-nil b) };
+  longer = record { values_more = sym (append-nil v); firsts_more = sym (append-nil b) };
   stands = h;
 }
 
@@ -130,13 +129,13 @@ module _ (bytes : List ℕ) (piece : Piece) (v0 : List ℕ) (b0 : List Bool) (v 
           ∙ ap (λ (xs : List Code). h.done ++ xs) (leave (is_in_piece piece) r.code (codes_after bytes (spot_place t)) (not-started piece r.code (at-place piece.start ∙ e)));
       longer = record {
         values_more = put.values_more ∙ ap (λ x. if x then v else v ++ value ∷ []) e ∙ h.longer.values_more;
-        begins_more = put.begins_more ∙ ap (λ x. if x then b else b ++ (not (is_between 128 191 value) && s.vs == 0) ∷ []) e ∙ h.longer.begins_more;
+        firsts_more = put.firsts_more ∙ ap (λ x. if x then b else b ++ (s.vs == 0) ∷ []) e ∙ h.longer.firsts_more;
       };
       stands = r.stands;
     }
 
-    code-begins : (not (is_between 128 191 value) && s.vs == 0) ≡ begins_character r.code
-    code-begins = ap (λ n. not (is_between 128 191 n) && s.vs == 0) (sym r.values) ∙ ap (λ (x : ℕ × ℕ). not (is_between 128 191 r.code.value) && x.1 == 0) (sym r.starts)
+    code-first : (s.vs == 0) ≡ is_first r.code
+    code-first = ap (λ (x : ℕ × ℕ). x.1 == 0) (sym r.starts)
 
     taken : is_spot_before s piece.start ≡ false → IsPushed bytes piece v0 b0 v1 b1 t
     taken e = record {
@@ -147,9 +146,9 @@ module _ (bytes : List ℕ) (piece : Piece) (v0 : List ℕ) (b0 : List Bool) (v 
       longer = record {
         values_more = put.values_more ∙ ap (λ x. if x then v else v ++ value ∷ []) e ∙ ap (λ (x : List ℕ). x ++ value ∷ []) h.longer.values_more ∙ append_assoc v0 (values_of h.done) (value ∷ [])
             ∙ ap (λ n. v0 ++ (values_of h.done ++ n ∷ [])) (sym r.values) ∙ ap (λ (x : List ℕ). v0 ++ x) (sym (values-more h.done r.code));
-        begins_more = put.begins_more ∙ ap (λ x. if x then b else b ++ (not (is_between 128 191 value) && s.vs == 0) ∷ []) e ∙ ap (λ (x : List Bool). x ++ (not (is_between 128 191 value) && s.vs == 0) ∷ []) h.longer.begins_more
-            ∙ append_assoc b0 (begins_of h.done) ((not (is_between 128 191 value) && s.vs == 0) ∷ [])
-            ∙ ap (λ n. b0 ++ (begins_of h.done ++ n ∷ [])) code-begins ∙ ap (λ (x : List Bool). b0 ++ x) (sym (begins-more h.done r.code));
+        firsts_more = put.firsts_more ∙ ap (λ x. if x then b else b ++ (s.vs == 0) ∷ []) e ∙ ap (λ (x : List Bool). x ++ (s.vs == 0) ∷ []) h.longer.firsts_more
+            ∙ append_assoc b0 (firsts_of h.done) ((s.vs == 0) ∷ [])
+            ∙ ap (λ n. b0 ++ (firsts_of h.done ++ n ∷ [])) code-first ∙ ap (λ (x : List Bool). b0 ++ x) (sym (firsts-more h.done r.code));
       };
       stands = r.stands;
     }
@@ -180,7 +179,7 @@ first-start bytes piece n l = from-line piece n (codes_of bytes) l
 -- A text.
 
 pub longer-none : (v : List ℕ) (b : List Bool) → IsLonger v b v b []
-longer-none v b = record { values_more = sym (append-nil v); begins_more = sym (append-nil b) }
+longer-none v b = record { values_more = sym (append-nil v); firsts_more = sym (append-nil b) }
 
 pub longer-more : (v0 v1 v2 : List ℕ) (b0 b1 b2 : List Bool) (bytes : List ℕ) (ps qs : List Piece) (piece : Piece) → IsLonger v0 b0 v1 b1 (content_of bytes ps) → IsLonger v1 b1 v2 b2 (piece_codes (codes_of bytes) piece) → qs ≡ ps ++ piece ∷ [] → IsLonger v0 b0 v2 b2 (content_of bytes qs)
 longer-more v0 v1 v2 b0 b1 b2 bytes ps qs piece h k e =
@@ -189,7 +188,7 @@ longer-more v0 v1 v2 b0 b1 b2 bytes ps qs piece h k e =
     let whole : content_of bytes qs ≡ cs ++ ds = ap (content_of bytes) e ∙ flat_map-append (piece_codes (codes_of bytes)) ps (piece ∷ []) ∙ ap (λ (xs : List Code). cs ++ xs) (append-nil ds) in
     record {
       values_more = k.values_more ∙ ap (λ (x : List ℕ). x ++ values_of ds) h.values_more ∙ append_assoc v0 (values_of cs) (values_of ds) ∙ ap (λ (x : List ℕ). v0 ++ x) (sym (values-append cs ds) ∙ ap values_of (sym whole));
-      begins_more = k.begins_more ∙ ap (λ (x : List Bool). x ++ begins_of ds) h.begins_more ∙ append_assoc b0 (begins_of cs) (begins_of ds) ∙ ap (λ (x : List Bool). b0 ++ x) (sym (begins-append cs ds) ∙ ap begins_of (sym whole));
+      firsts_more = k.firsts_more ∙ ap (λ (x : List Bool). x ++ firsts_of ds) h.firsts_more ∙ append_assoc b0 (firsts_of cs) (firsts_of ds) ∙ ap (λ (x : List Bool). b0 ++ x) (sym (firsts-append cs ds) ∙ ap firsts_of (sym whole));
     }
 
 -- the codes of a text alone
@@ -197,12 +196,12 @@ module _ (v0 v : List ℕ) (b0 b : List Bool) (cs : List Code) (h : IsLonger v0 
   pub values-alone : v0 ≡ [] → values_of cs ≡ v
   values-alone e = sym (h.values_more ∙ ap (λ (x : List ℕ). x ++ values_of cs) e)
 
-  pub begins-alone : b0 ≡ [] → begins_of cs ≡ b
-  begins-alone e = sym (h.begins_more ∙ ap (λ (x : List Bool). x ++ begins_of cs) e)
+  pub firsts-alone : b0 ≡ [] → firsts_of cs ≡ b
+  firsts-alone e = sym (h.firsts_more ∙ ap (λ (x : List Bool). x ++ firsts_of cs) e)
 
   pub as-many : v0 ≡ [] → b0 ≡ [] → length b ≡ length v
-  as-many e f = ap length (sym (begins-alone f)) ∙ lengths cs ∙ ap length (values-alone e)
+  as-many e f = ap length (sym (firsts-alone f)) ∙ lengths cs ∙ ap length (values-alone e)
     where
-      lengths : (cs : List Code) → length (begins_of cs) ≡ length (values_of cs)
+      lengths : (cs : List Code) → length (firsts_of cs) ≡ length (values_of cs)
       lengths [] = refl
       lengths (c ∷ cs) = ap suc (lengths cs)

@@ -12,9 +12,9 @@ use Rattle.markdown_model.specs.Grammar.{Reading, ◌>>=◌, ◌>>◌, gives, pr
 use Rattle.markdown_model.specs.Resource.{label, counted, reference_names, between_markers, title_between, title, title_names, escaped_between, is_bare_opener, literal_destination, raw_from, raw_destination, destination, resource_names}
 use Rattle.markdown_model.proofs.ReadingsCover.{itself, takes_one, takes_up_to, takes_raw}
 use Rattle.markdown_block_line.proofs.RestValues.{values-drop, values-take}
-use Rattle.markdown_block_definitions.specs.TextReadings.{left_by, text_of, begins_of}
+use Rattle.markdown_block_definitions.specs.TextReadings.{left_by, text_of, firsts_of}
 use Rattle.markdown_block_definitions.specs.declared.texts.Text.TheVariants.{Label, Title, Literal}
-use Rattle.markdown_block_definitions.proofs.CodesAt.{begins-drop}
+use Rattle.markdown_block_definitions.proofs.CodesAt.{firsts-drop}
 use Rattle.markdown_block_definitions.proofs.ReadingRests.{left-any, left-bind, left-bind-none, left-gives, left-first, left-second, left-one, left-one-none, left-provided, left-refused, next-first, next-second}
 
 -- Parts of a slice.
@@ -22,16 +22,16 @@ use Rattle.markdown_block_definitions.proofs.ReadingRests.{left-any, left-bind, 
 pub part-values : (cs : List Code) (vs : List ℕ) (n m : ℕ) → values_of cs ≡ vs → m ≡ n → values_of (take n (drop 1 cs)) ≡ take m (drop 1 vs)
 part-values cs vs n m h e = values-take n (drop 1 cs) ∙ ap (take n) (values-drop 1 cs ∙ ap (drop 1) h) ∙ ap (λ k. take k (drop 1 vs)) (sym e)
 
-begins-take : (k : ℕ) (cs : List Code) → begins_of (take k cs) ≡ take k (begins_of cs)
-begins-take zero cs = refl
-begins-take (suc k) [] = refl
-begins-take (suc k) (c ∷ cs) = ap (λ bs. begins_first c bs) (begins-take k cs)
+pub firsts-take : (k : ℕ) (cs : List Code) → firsts_of (take k cs) ≡ take k (firsts_of cs)
+firsts-take zero cs = refl
+firsts-take (suc k) [] = refl
+firsts-take (suc k) (c ∷ cs) = ap (λ bs. onto_firsts c bs) (firsts-take k cs)
   where
-    begins_first : Code → List Bool → List Bool
-    begins_first c bs = (begins_of (c ∷ [])) ++ bs
+    onto_firsts : Code → List Bool → List Bool
+    onto_firsts c bs = (firsts_of (c ∷ [])) ++ bs
 
-pub part-begins : (cs : List Code) (bs : List Bool) (n m : ℕ) → begins_of cs ≡ bs → m ≡ n → begins_of (take n (drop 1 cs)) ≡ take m (drop 1 bs)
-part-begins cs bs n m h e = begins-take n (drop 1 cs) ∙ ap (take n) (begins-drop 1 cs ∙ ap (drop 1) h) ∙ ap (λ k. take k (drop 1 bs)) (sym e)
+pub later-firsts : (cs : List Code) (bs : List Bool) (n m : ℕ) → firsts_of cs ≡ bs → m ≡ n → firsts_of (take n (drop 1 cs)) ≡ take m (drop 1 bs)
+later-firsts cs bs n m h e = firsts-take n (drop 1 cs) ∙ ap (take n) (firsts-drop 1 cs ∙ ap (drop 1) h) ∙ ap (λ k. take k (drop 1 bs)) (sym e)
 
 any-all : (p : Code → Bool) (cs : List Code) (b : Bool) → list_all p cs ≡ b → list_any (λ c. not (p c)) cs ≡ not b
 any-all p cs b e = here cs ∙ ap not e

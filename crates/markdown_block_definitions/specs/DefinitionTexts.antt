@@ -6,10 +6,11 @@ use Rattle.markdown_model.specs.CodeTests.{values_of}
 use Rattle.markdown_block_model.specs.LineRests.{lines_of}
 use Rattle.markdown_block_model.specs.LinkDefinitions as link_definitions
 use Rattle.markdown_block_model.specs.LinkDefinitions.{definitions_of}
+use Rattle.markdown_page_model.specs.PageTexts.{text_of}
 use Rattle.markdown_block_definitions.specs.declared.front.Definition.{Definition}
 use Rattle.markdown_block_definitions.specs.declared.front.Front.{Front}
 
--- the values of a definition's texts
+-- a definition's texts: the values of its label; of the others a tab is a tab, and not its columns
 pub record Texts : Type 0 where
   pub label : List ℕ
   pub destination : List ℕ
@@ -23,7 +24,7 @@ abbrev pub texts_of : Definition → Texts
 texts_of d = record { label = d.label.items; destination = d.destination.items; title = items_of d.title }
 
 abbrev pub texts_in : link_definitions.Definition → Texts
-texts_in d = record { label = values_of d.label; destination = values_of d.destination; title = option_map values_of d.title }
+texts_in d = record { label = values_of d.label; destination = text_of d.destination; title = option_map text_of d.title }
 
 -- the definitions at the front of a text, and the lines of the text behind theirs
 pub record IsFrontOf (cs : List Code) (f : Front) : Type 0 where

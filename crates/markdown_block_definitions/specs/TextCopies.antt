@@ -1,10 +1,10 @@
 -- The codes of a text, from place to place.
-use Rattle.std.specs.Prelude.{◌≡◌, ℕ, ◌+◌, ◌-◌, ◌*◌, ◌%◌, ◌≤◌, Bool, true, ◌&&◌, ◌||◌, not, nat_lt, ◌==◌, List, [], ◌∷◌, ◌++◌, drop, slice_index, if◌then◌else◌}
+use Rattle.std.specs.Prelude.{◌≡◌, ℕ, ◌+◌, ◌-◌, ◌*◌, ◌%◌, ◌≤◌, Bool, true, ◌&&◌, ◌||◌, nat_lt, ◌==◌, List, [], ◌∷◌, ◌++◌, drop, slice_index, if◌then◌else◌}
 use Rattle.markdown_event.specs.declared.event.Point.{Point}
 use Rattle.markdown_content.specs.Codes.{Code, place_of, is_line_ending_byte, line_ending_len}
 use Rattle.markdown_content.specs.DocumentWalk.{IsPoint, codes_after}
-use Rattle.markdown_model.specs.CodeTests.{values_of, is_between}
-use Rattle.markdown_block_definitions.specs.TextReadings.{begins_of}
+use Rattle.markdown_model.specs.CodeTests.{values_of}
+use Rattle.markdown_block_definitions.specs.TextReadings.{firsts_of}
 use Rattle.markdown_block_definitions.specs.declared.copy.Spot.{Spot}
 
 -- where the spot stands, on this line and in this column
@@ -47,11 +47,11 @@ abbrev pub is_spot_before : Spot → ℕ × ℕ → Bool
 is_spot_before s at = nat_lt s.index at.0 || (s.index == at.0 && nat_lt s.vs at.1)
 
 -- values and marks, longer by those of some codes
-pub record IsLonger (values : List ℕ) (begins : List Bool) (more_values : List ℕ) (more_begins : List Bool) (cs : List Code) : Type 0 where
+pub record IsLonger (values : List ℕ) (firsts : List Bool) (more_values : List ℕ) (more_firsts : List Bool) (cs : List Code) : Type 0 where
   pub values_more : more_values ≡ values ++ values_of cs
-  pub begins_more : more_begins ≡ begins ++ begins_of cs
+  pub firsts_more : more_firsts ≡ firsts ++ firsts_of cs
 
 -- the same by the code at a place, which counts if it is not before another
-pub record IsPut (start : ℕ × ℕ) (s : Spot) (value : ℕ) (values : List ℕ) (begins : List Bool) (more_values : List ℕ) (more_begins : List Bool) : Type 0 where
+pub record IsPut (start : ℕ × ℕ) (s : Spot) (value : ℕ) (values : List ℕ) (firsts : List Bool) (more_values : List ℕ) (more_firsts : List Bool) : Type 0 where
   pub values_more : more_values ≡ (if is_spot_before s start then values else values ++ value ∷ [])
-  pub begins_more : more_begins ≡ (if is_spot_before s start then begins else begins ++ (not (is_between 128 191 value) && s.vs == 0) ∷ [])
+  pub firsts_more : more_firsts ≡ (if is_spot_before s start then firsts else firsts ++ (s.vs == 0) ∷ [])

@@ -1,11 +1,12 @@
 -- What readings leave, and the texts of a definition that stand between two markers.
-use Rattle.std.specs.Prelude.{◌≡◌, ℕ, Bool, true, false, ◌||◌, ◌==◌, List, [], ◌∷◌, drop, Option, Some, None, codes}
+use Rattle.std.specs.Prelude.{◌≡◌, ℕ, Bool, true, false, ◌||◌, ◌==◌, List, [], ◌∷◌, drop, filter, not, Option, Some, None, codes}
 use Rattle.std.specs.Str.{byte}
 use Rattle.markdown_content.specs.Codes.{Code, is_line_ending}
 use Rattle.markdown_model.specs.CodeTests.{is_value, is_among}
 use Rattle.markdown_model.specs.Grammar.{Reading, escaped_from, with_first}
-use Rattle.markdown_model.specs.Resource.{escaped_between, is_bare_opener, raw_from, begins_character}
+use Rattle.markdown_model.specs.Resource.{escaped_between, is_bare_opener, raw_from}
 use Rattle.markdown_block_line.specs.LineTags.{code_of}
+use Rattle.markdown_page_model.specs.PageTexts.{is_later_column}
 use Rattle.markdown_block_definitions.specs.declared.texts.Text.{Text}
 use Rattle.markdown_block_definitions.specs.declared.texts.Text.TheVariants.{Label, Title, Literal}
 use Rattle.markdown_block_definitions.specs.declared.texts.Step.{Step}
@@ -65,7 +66,14 @@ DoesToRaw slash depth v Breaks = (c : Code) (cs : List Code) → c.value ≡ v �
 
 -- What is counted.
 
--- which codes begin a character
-abbrev pub begins_of : List Code → List Bool
-begins_of [] = []
-begins_of (c ∷ cs) = begins_character c ∷ begins_of cs
+-- a code is no later column of a tab
+abbrev pub is_first : Code → Bool
+is_first c = c.start.vs == 0
+
+abbrev pub firsts_of : List Code → List Bool
+firsts_of [] = []
+firsts_of (c ∷ cs) = is_first c ∷ firsts_of cs
+
+-- the codes that are none
+abbrev pub first_columns : List Code → List Code
+first_columns cs = filter (λ c. not (is_later_column c)) cs

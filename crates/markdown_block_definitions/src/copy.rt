@@ -1,9 +1,9 @@
-//! The codes of a text, copied: their values, and which of them begin a character.
+//! The codes of a text, copied: their values, and which of them are no later columns of a tab.
 
-ghost use Rattle.std.specs.Prelude.{◌≡◌, ◌<◌, ◌≤◌, ◌+◌, length, drop, not, ◌&&◌, ◌==◌, true, [], IfOk, MatchOption, slice_index};
+ghost use Rattle.std.specs.Prelude.{◌≡◌, ◌<◌, ◌≤◌, ◌+◌, length, drop, true, [], IfOk, MatchOption, slice_index};
 ghost use Rattle.markdown_content.specs.Codes.{codes_of, is_line_ending_byte, line_ending_len};
 ghost use Rattle.markdown_content.specs.Content.{content_of, piece_codes};
-ghost use Rattle.markdown_model.specs.CodeTests.{is_between, is_value, next_is};
+ghost use Rattle.markdown_model.specs.CodeTests.{is_value, next_is};
 ghost use Rattle.markdown_block_definitions.specs.TextCopies.{IsSpot, IsRead, EndsLine, IsLonger, IsPut, is_spot_before, line_spot, past_tab};
 
 use markdown_content::parser::Piece;
@@ -119,28 +119,21 @@ pub(crate) fn is_before(spot: Spot, place: (usize, usize)) -> bool
     spot.index < place.0 || (spot.index == place.0 && spot.vs < place.1)
 }
 
-// Whether the code at a place begins a character.
-fn begins_character(spot: Spot, value: u8) -> bool
-    ensures { result ≡ (not (is_between 128 191 value) && spot.vs == 0) }
-{
-    (value < 128 || value > 191) && spot.vs == 0
-}
-
 // Appends a code, if it is not before the place.
 fn put(
     from: (usize, usize),
     spot: Spot,
     value: u8,
     values: &mut Vec<u8>,
-    begins: &mut Vec<bool>,
+    firsts: &mut Vec<bool>,
 ) -> Result<(), AllocError>
-    ensures { IfOk result (λ _. IsPut from spot value values.old.items begins.old.items values.new.items begins.new.items) }
+    ensures { IfOk result (λ _. IsPut from spot value values.old.items firsts.old.items values.new.items firsts.new.items) }
 {
     if is_before(spot, from) {
         return Ok(());
     }
     values.push(value)?;
-    begins.push(begins_character(spot, value))?;
+    firsts.push(spot.vs == 0)?;
     Ok(())
 }
 
@@ -149,9 +142,9 @@ fn push_piece(
     bytes: &[u8],
     piece: Piece,
     values: &mut Vec<u8>,
-    begins: &mut Vec<bool>,
+    firsts: &mut Vec<bool>,
 ) -> Result<(), AllocError>
-    ensures { IfOk result (λ _. IsLonger values.old.items begins.old.items values.new.items begins.new.items (piece_codes (codes_of bytes.now) piece)) }
+    ensures { IfOk result (λ _. IsLonger values.old.items firsts.old.items values.new.items firsts.new.items (piece_codes (codes_of bytes.now) piece)) }
 {
     let mut spot = Spot {
         index: line_start(bytes, piece.start.0),
@@ -163,7 +156,7 @@ fn push_piece(
             return Ok(());
         }
         let (value, behind) = read(bytes, spot);
-        put(piece.start, spot, value, values, begins)?;
+        put(piece.start, spot, value, values, firsts)?;
         spot = behind;
     }
     Ok(())
@@ -191,17 +184,17 @@ pub(crate) fn first_value(bytes: &[u8], piece: Piece) -> Option<u8>
     None
 }
 
-// Appends the codes of a text: their values, and which of them begin a character. The only error is that memory was refused.
+// Appends the codes of a text: their values, and which of them are no later columns of a tab. The only error is that memory was refused.
 pub(crate) fn push_text(
     bytes: &[u8],
     text: &[Piece],
     values: &mut Vec<u8>,
-    begins: &mut Vec<bool>,
+    firsts: &mut Vec<bool>,
 ) -> Result<(), AllocError>
-    ensures { IfOk result (λ _. IsLonger values.old.items begins.old.items values.new.items begins.new.items (content_of bytes.now text.now)) }
+    ensures { IfOk result (λ _. IsLonger values.old.items firsts.old.items values.new.items firsts.new.items (content_of bytes.now text.now)) }
 {
     for piece in text {
-        push_piece(bytes, *piece, values, begins)?;
+        push_piece(bytes, *piece, values, firsts)?;
     }
     Ok(())
 }

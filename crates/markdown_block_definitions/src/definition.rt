@@ -6,7 +6,7 @@ ghost use Rattle.markdown_model.specs.CodeTests.{values_of};
 ghost use Rattle.markdown_model.specs.Grammar.{optional_tree};
 ghost use Rattle.markdown_model.specs.Whitespace.{space_or_tab_eol};
 ghost use Rattle.markdown_block_model.specs.LinkDefinitions.{definition, title_of_definition, definitions_of};
-ghost use Rattle.markdown_block_definitions.specs.TextReadings.{left_by, begins_of};
+ghost use Rattle.markdown_block_definitions.specs.TextReadings.{left_by, firsts_of};
 ghost use Rattle.markdown_block_definitions.specs.DefinitionParts.{ending, title_of, definition_of, len_of, IsEndingWithin, IsWithin};
 
 use crate::destinations::destination_len;
@@ -88,13 +88,13 @@ fn optional_gap_len(values: &[u8]) -> usize
     }
 }
 
-// The definition that stands first. `begins` says which of the codes begin a character.
-pub(crate) fn definition_at(values: &[u8], begins: &[bool]) -> Option<Found>
-    requires { length begins.now ≡ length values.now }
-    ensures read { (cs : List Code) → values_of cs ≡ values.now → begins_of cs ≡ begins.now → MatchOption result (definition cs ≡ None) (λ f. definition cs ≡ Some (definition_of f cs, drop (len_of f) cs)) }
+// The definition that stands first. `firsts` says which of the codes are no later columns of a tab.
+pub(crate) fn definition_at(values: &[u8], firsts: &[bool]) -> Option<Found>
+    requires { length firsts.now ≡ length values.now }
+    ensures read { (cs : List Code) → values_of cs ≡ values.now → firsts_of cs ≡ firsts.now → MatchOption result (definition cs ≡ None) (λ f. definition cs ≡ Some (definition_of f cs, drop (len_of f) cs)) }
     ensures within { IfSome result (IsWithin (length values.now)) }
 {
-    let Some(label) = label_len(values, begins) else {
+    let Some(label) = label_len(values, firsts) else {
         return None;
     };
     if !begins_with(&values[label..], b':') {
@@ -114,16 +114,16 @@ pub(crate) fn definition_at(values: &[u8], begins: &[bool]) -> Option<Found>
     })
 }
 
-// How many codes the definitions at the front of a text have. `begins` says which of the codes begin a character.
+// How many codes the definitions at the front of a text have. `firsts` says which of the codes are no later columns of a tab.
 ///
 // The work is linear. Only a title that does not end its line is read in vain, and at most one is, because a definition never begins where a title does.
-pub(crate) fn definitions_len(values: &[u8], begins: &[bool]) -> usize
-    requires { length begins.now ≡ length values.now }
-    ensures same { (cs : List Code) → values_of cs ≡ values.now → begins_of cs ≡ begins.now → (definitions_of cs).1 ≡ drop result cs }
+pub(crate) fn definitions_len(values: &[u8], firsts: &[bool]) -> usize
+    requires { length firsts.now ≡ length values.now }
+    ensures same { (cs : List Code) → values_of cs ≡ values.now → firsts_of cs ≡ firsts.now → (definitions_of cs).1 ≡ drop result cs }
     ensures within { result ≤ length values.now }
 {
     let mut len = 0;
-    while let Some(found) = definition_at(&values[len..], &begins[len..]) {
+    while let Some(found) = definition_at(&values[len..], &firsts[len..]) {
         len += found.destination.start + found.destination.len + found.ending.len;
     }
     len

@@ -43,9 +43,9 @@ impl HasText for Definitions {
             return Ok(true);
         }
         let mut values = Vec::new(alloc);
-        let mut begins = Vec::new(alloc);
-        push_text(document, text, &mut values, &mut begins)?;
-        let len = definitions_len(&values, &begins);
+        let mut firsts = Vec::new(alloc);
+        push_text(document, text, &mut values, &mut firsts)?;
+        let len = definitions_len(&values, &firsts);
         Ok(len < values.len())
     }
 }

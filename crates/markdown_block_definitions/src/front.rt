@@ -1,17 +1,18 @@
 //! The link reference definitions at the front of a text (CommonMark 4.7), as copied bytes.
 
-ghost use Rattle.std.specs.Prelude.{◌≡◌, ◌<◌, ◌≤◌, ◌+◌, List, [], length, drop, true, option_map, IfOk};
+ghost use Rattle.std.specs.Prelude.{◌≡◌, ◌<◌, ◌≤◌, ◌+◌, ◌++◌, ◌∷◌, List, [], length, take, drop, true, option_map, if◌then◌else◌, IfOk};
 ghost use Rattle.markdown_content.specs.Codes.{Code};
 ghost use Rattle.markdown_content.specs.Content.{content_of};
 ghost use Rattle.markdown_model.specs.CodeTests.{values_of};
 ghost use Rattle.markdown_block_model.specs.LineRests.{lines_of};
 ghost use Rattle.markdown_block_model.specs.LinkDefinitions.{between, destination_text, definitions_of, has_text};
-ghost use Rattle.markdown_block_definitions.specs.TextReadings.{begins_of};
-ghost use Rattle.markdown_block_definitions.specs.DefinitionParts.{definition_of, title_of, IsEndingWithin, IsWithin};
+ghost use Rattle.markdown_page_model.specs.PageTexts.{text_of};
+ghost use Rattle.markdown_block_definitions.specs.TextReadings.{firsts_of, first_columns};
+ghost use Rattle.markdown_block_definitions.specs.DefinitionParts.{stretch_of, definition_of, title_of, IsEndingWithin, IsWithin};
 ghost use Rattle.markdown_block_definitions.specs.DefinitionTexts.{items_of, texts_of, texts_in, IsFrontOf};
 
 use crate::copy::{first_value, push_text};
-use crate::definition::{Ending, Found, definition_at};
+use crate::definition::{Ending, Found, Stretch, definition_at};
 use crate::spacing::begins_with;
 use markdown_content::parser::Piece;
 use std::alloc::{AllocError, Global};
@@ -21,9 +22,9 @@ use std::alloc::{AllocError, Global};
 pub struct Definition {
     /// What stands between the brackets of its label.
     pub label: Vec<u8>,
-    /// Its destination, without `<` and `>`.
+    /// Its destination, without `<` and `>`. Escapes and character references stand in it as they are written.
     pub destination: Vec<u8>,
-    /// What stands between the markers of its title.
+    /// What stands between the markers of its title, in the same way.
     pub title: Option<Vec<u8>>,
 }
 
@@ -46,50 +47,133 @@ fn copy(alloc: Global, values: &[u8]) -> Result<Vec<u8>, AllocError>
 }
 
 // What stands between two markers, each of which is one code.
-fn inside<'a>(values: &'a [u8]) -> &'a [u8]
-    ensures { (cs : List Code) → values_of cs ≡ values.now → values_of (between cs) ≡ result.now }
+fn inside(stretch: Stretch) -> Stretch
+    requires { stretch.start + stretch.len ≤ usize.MAX }
+    ensures is { (cs : List Code) → stretch.start + stretch.len ≤ length cs → stretch_of result cs ≡ between (stretch_of stretch cs) }
+    ensures within { result.start + result.len ≤ stretch.start + stretch.len }
 {
-    if values.len() < 2 {
-        return &values[..0];
+    if stretch.len < 2 {
+        return Stretch {
+            start: stretch.start,
+            len: 0,
+        };
     }
-    &values[1..values.len() - 1]
+    Stretch {
+        start: stretch.start + 1,
+        len: stretch.len - 2,
+    }
 }
 
 // What a destination says.
-fn destination_inside<'a>(values: &'a [u8]) -> &'a [u8]
-    ensures { (cs : List Code) → values_of cs ≡ values.now → values_of (destination_text cs) ≡ result.now }
+fn destination_inside(values: &[u8], destination: Stretch) -> Stretch
+    requires { destination.start + destination.len ≤ length values.now }
+    ensures is { (cs : List Code) → values_of cs ≡ values.now → stretch_of result cs ≡ destination_text (stretch_of destination cs) }
+    ensures within { result.start + result.len ≤ length values.now }
 {
-    if begins_with(values, b'<') {
-        return inside(values);
+    let end = destination.start + destination.len;
+    if begins_with(&values[destination.start..end], b'<') {
+        return inside(destination);
     }
-    values
+    destination
 }
 
-// A copy of the title of a definition.
-fn copy_title(alloc: Global, values: &[u8], ending: Ending) -> Result<Option<Vec<u8>>, AllocError>
-    requires { IsEndingWithin (length values.now) ending }
-    ensures { IfOk result (λ t. (cs : List Code) → values_of cs ≡ values.now → items_of t ≡ option_map values_of (title_of ending cs)) }
+// How many later columns of a tab stand first.
+fn later_len(firsts: &[bool]) -> usize
+    ensures text { (cs : List Code) → firsts_of cs ≡ firsts.now → text_of cs ≡ values_of (take result cs) ++ values_of (first_columns (drop result cs)) }
+    ensures within { result ≤ length firsts.now }
+{
+    let mut len = 0;
+    while len < firsts.len() {
+        if firsts[len] {
+            return len;
+        }
+        len += 1;
+    }
+    len
+}
+
+// Appends a value, if its code is no later column of a tab.
+fn push_first(value: u8, first: bool, text: &mut Vec<u8>) -> Result<(), AllocError>
+    ensures { IfOk result (λ _. text.new.items ≡ (if first then text.old.items ++ value ∷ [] else text.old.items)) }
+{
+    if first {
+        text.push(value)?;
+    }
+    Ok(())
+}
+
+// Appends the values of the codes that are no later columns of a tab.
+fn push_firsts(values: &[u8], firsts: &[bool], text: &mut Vec<u8>) -> Result<(), AllocError>
+    requires { length firsts.now ≡ length values.now }
+    ensures { IfOk result (λ _. (cs : List Code) → values_of cs ≡ values.now → firsts_of cs ≡ firsts.now → text.new.items ≡ text.old.items ++ values_of (first_columns cs)) }
+{
+    let mut index = 0;
+    while index < values.len() {
+        push_first(values[index], firsts[index], text)?;
+        index += 1;
+    }
+    Ok(())
+}
+
+// What some codes say. A tab is a tab, and not its columns, but for the columns that stand first.
+fn said(alloc: Global, values: &[u8], firsts: &[bool]) -> Result<Vec<u8>, AllocError>
+    requires { length firsts.now ≡ length values.now }
+    ensures { IfOk result (λ v. (cs : List Code) → values_of cs ≡ values.now → firsts_of cs ≡ firsts.now → v.items ≡ text_of cs) }
+{
+    let later = later_len(firsts);
+    let mut text = copy(alloc, &values[..later])?;
+    push_firsts(&values[later..], &firsts[later..], &mut text)?;
+    Ok(text)
+}
+
+// What the title of a definition says.
+fn copy_title(
+    alloc: Global,
+    values: &[u8],
+    firsts: &[bool],
+    ending: Ending,
+) -> Result<Option<Vec<u8>>, AllocError>
+    requires same { length firsts.now ≡ length values.now }
+    requires within { IsEndingWithin (length values.now) ending }
+    ensures { IfOk result (λ t. (cs : List Code) → values_of cs ≡ values.now → firsts_of cs ≡ firsts.now → items_of t ≡ option_map text_of (title_of ending cs)) }
 {
     match ending.title {
         None => Ok(None),
         Some(title) => {
-            let text = copy(alloc, inside(&values[title.start..title.start + title.len]))?;
+            let title = inside(title);
+            let end = title.start + title.len;
+            let text = said(alloc, &values[title.start..end], &firsts[title.start..end])?;
             Ok(Some(text))
         }
     }
 }
 
 // A copy of a definition.
-fn copy_definition(alloc: Global, values: &[u8], found: Found) -> Result<Definition, AllocError>
-    requires { IsWithin (length values.now) found }
-    ensures { IfOk result (λ d. (cs : List Code) → values_of cs ≡ values.now → texts_of d ≡ texts_in (definition_of found cs)) }
+fn copy_definition(
+    alloc: Global,
+    values: &[u8],
+    firsts: &[bool],
+    found: Found,
+) -> Result<Definition, AllocError>
+    requires same { length firsts.now ≡ length values.now }
+    requires within { IsWithin (length values.now) found }
+    ensures { IfOk result (λ d. (cs : List Code) → values_of cs ≡ values.now → firsts_of cs ≡ firsts.now → texts_of d ≡ texts_in (definition_of found cs)) }
 {
-    let start = found.destination.start;
-    let end = start + found.destination.len;
+    let label = inside(Stretch {
+        start: 0,
+        len: found.label,
+    });
+    let target = destination_inside(values, found.destination);
+    let target_end = target.start + target.len;
+    let end = found.destination.start + found.destination.len;
     Ok(Definition {
-        label: copy(alloc, inside(&values[..found.label]))?,
-        destination: copy(alloc, destination_inside(&values[start..end]))?,
-        title: copy_title(alloc, &values[end..], found.ending)?,
+        label: copy(alloc, &values[label.start..label.start + label.len])?,
+        destination: said(
+            alloc,
+            &values[target.start..target_end],
+            &firsts[target.start..target_end],
+        )?,
+        title: copy_title(alloc, &values[end..], &firsts[end..], found.ending)?,
     })
 }
 
@@ -135,15 +219,15 @@ pub(crate) fn begins_otherwise(document: &[u8], text: &[Piece]) -> bool
     }
 }
 
-// The definitions at the front of a text. `begins` says which of the codes begin a character.
-fn read_front(alloc: Global, values: &[u8], begins: &[bool]) -> Result<Front, AllocError>
-    requires { length begins.now ≡ length values.now }
-    ensures { IfOk result (λ f. (cs : List Code) → values_of cs ≡ values.now → begins_of cs ≡ begins.now → IsFrontOf cs f) }
+// The definitions at the front of a text. `firsts` says which of the codes are no later columns of a tab.
+fn read_front(alloc: Global, values: &[u8], firsts: &[bool]) -> Result<Front, AllocError>
+    requires { length firsts.now ≡ length values.now }
+    ensures { IfOk result (λ f. (cs : List Code) → values_of cs ≡ values.now → firsts_of cs ≡ firsts.now → IsFrontOf cs f) }
 {
     let mut definitions = Vec::new(alloc);
     let mut len = 0;
-    while let Some(found) = definition_at(&values[len..], &begins[len..]) {
-        let definition = copy_definition(alloc, &values[len..], found)?;
+    while let Some(found) = definition_at(&values[len..], &firsts[len..]) {
+        let definition = copy_definition(alloc, &values[len..], &firsts[len..], found)?;
         definitions.push(definition)?;
         len += found.destination.start + found.destination.len + found.ending.len;
     }
@@ -170,8 +254,8 @@ pub fn definitions_at_front(
         });
     }
     let mut values = Vec::new(alloc);
-    let mut begins = Vec::new(alloc);
-    push_text(document, text, &mut values, &mut begins)?;
-    let front = read_front(alloc, &values, &begins)?;
+    let mut firsts = Vec::new(alloc);
+    push_text(document, text, &mut values, &mut firsts)?;
+    let front = read_front(alloc, &values, &firsts)?;
     Ok(front)
 }

@@ -1,12 +1,12 @@
 //! Texts between two markers (CommonMark 6.3). Each function takes time linear in what it reads, and allocates nothing.
 
-ghost use Rattle.std.specs.Prelude.{◌≡◌, ◌<◌, ◌≤◌, ◌+◌, ◌∷◌, ◌&&◌, length, drop, List, true, false, IfSome, MatchOption};
+ghost use Rattle.std.specs.Prelude.{◌≡◌, ◌<◌, ◌≤◌, ◌+◌, ◌∷◌, ◌&&◌, not, length, drop, List, true, false, IfSome, MatchOption};
 ghost use Rattle.markdown_content.specs.Codes.{Code};
 ghost use Rattle.markdown_content.specs.Content.{has_no_blank_line};
-ghost use Rattle.markdown_model.specs.Resource.{begins_character, counted, label, reference_names, title_between, title, title_names, literal_destination, resource_names};
-ghost use Rattle.markdown_model.specs.CodeTests.{values_of, is_value, next_is};
+ghost use Rattle.markdown_model.specs.Resource.{counted, label, reference_names, title_between, title, title_names, literal_destination, resource_names};
+ghost use Rattle.markdown_model.specs.CodeTests.{values_of, is_value, is_between, next_is};
 ghost use Rattle.markdown_block_line.specs.LineValues.{is_blank_value};
-ghost use Rattle.markdown_block_definitions.specs.TextReadings.{left_by, behind, closer, is_escapable, is_refused, text_of, begins_of, DoesToText};
+ghost use Rattle.markdown_block_definitions.specs.TextReadings.{left_by, behind, closer, is_escapable, is_refused, text_of, is_first, firsts_of, DoesToText};
 
 use crate::spacing::{begins_with, is_blank};
 use markdown_block_line::line::is_blank_line;
@@ -150,9 +150,16 @@ fn is_indent(indented: bool, value: u8) -> bool
     indented && is_blank(value)
 }
 
+// Whether a code begins a character. `first` says that it is no later column of a tab.
+fn begins_character(value: u8, first: bool) -> bool
+    ensures { result ≡ (not (is_between 128 191 value) && first) }
+{
+    (value < 128 || value > 191) && first
+}
+
 // How many characters a code counts, and whether only blanks may stand before the next code on its line.
-fn count_code(indented: bool, value: u8, begins: bool) -> (usize, bool)
-    ensures count { (c : Code) (cs : List Code) → c.value ≡ value → begins_character c ≡ begins → counted true indented (c ∷ cs) ≡ result.0 + counted true result.1 cs }
+fn count_code(indented: bool, value: u8, first: bool) -> (usize, bool)
+    ensures count { (c : Code) (cs : List Code) → c.value ≡ value → is_first c ≡ first → counted true indented (c ∷ cs) ≡ result.0 + counted true result.1 cs }
     ensures within { result.0 ≤ 1 }
 {
     if value == b'\n' {
@@ -161,22 +168,22 @@ fn count_code(indented: bool, value: u8, begins: bool) -> (usize, bool)
     if is_indent(indented, value) {
         return (0, true);
     }
-    if begins {
+    if begins_character(value, first) {
         return (1, false);
     }
     (0, false)
 }
 
 // How many characters a label counts.
-fn count_characters(values: &[u8], begins: &[bool]) -> usize
-    requires { length begins.now ≡ length values.now }
-    ensures { (cs : List Code) → values_of cs ≡ values.now → begins_of cs ≡ begins.now → counted true false cs ≡ result }
+fn count_characters(values: &[u8], firsts: &[bool]) -> usize
+    requires { length firsts.now ≡ length values.now }
+    ensures { (cs : List Code) → values_of cs ≡ values.now → firsts_of cs ≡ firsts.now → counted true false cs ≡ result }
 {
     let mut count = 0;
     let mut indented = false;
     let mut len = 0;
     while len < values.len() {
-        let (more, now) = count_code(indented, values[len], begins[len]);
+        let (more, now) = count_code(indented, values[len], firsts[len]);
         count += more;
         indented = now;
         len += 1;
@@ -184,10 +191,10 @@ fn count_characters(values: &[u8], begins: &[bool]) -> usize
     count
 }
 
-// How many codes a label has that stands first. `begins` says which of the codes begin a character.
-pub(crate) fn label_len(values: &[u8], begins: &[bool]) -> Option<usize>
-    requires { length begins.now ≡ length values.now }
-    ensures read { (cs : List Code) → values_of cs ≡ values.now → begins_of cs ≡ begins.now → left_by (label true reference_names cs) ≡ behind result cs }
+// How many codes a label has that stands first. `firsts` says which of the codes are no later columns of a tab.
+pub(crate) fn label_len(values: &[u8], firsts: &[bool]) -> Option<usize>
+    requires { length firsts.now ≡ length values.now }
+    ensures read { (cs : List Code) → values_of cs ≡ values.now → firsts_of cs ≡ firsts.now → left_by (label true reference_names cs) ≡ behind result cs }
     ensures within { IfSome result (λ k. (0 < k) × (k ≤ length values.now)) }
 {
     if !begins_with(values, b'[') {
@@ -200,7 +207,7 @@ pub(crate) fn label_len(values: &[u8], begins: &[bool]) -> Option<usize>
     if is_blank_line(&values[1..end]) {
         return None;
     }
-    let count = count_characters(&values[1..end], &begins[1..end]);
+    let count = count_characters(&values[1..end], &firsts[1..end]);
     if count > 999 {
         return None;
     }

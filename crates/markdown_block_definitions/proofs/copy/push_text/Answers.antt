@@ -17,5 +17,5 @@ loop-piece-preserved c = record {
 
 pub returns : goal.returns
 returns c =
-    subst (λ (ps : List Piece). IsLonger c.args.values.now.items c.args.begins.now.items c.loop-piece.values.items c.loop-piece.begins.items (content_of c.args.bytes.now ps)) (take_all c.loop-piece.piece-index c.args.text.now c.loop-piece-test.false)
+    subst (λ (ps : List Piece). IsLonger c.args.values.now.items c.args.firsts.now.items c.loop-piece.values.items c.loop-piece.firsts.items (content_of c.args.bytes.now ps)) (take_all c.loop-piece.piece-index c.args.text.now c.loop-piece-test.false)
     c.loop-piece.invariant.longer

@@ -1,7 +1,7 @@
 use Rattle.std.proofs.Common.{◌≤◌, ◌+◌, length, drop, arith, ap}
 use Rattle.markdown_block_line.proofs.RestValues.{rest-values, values-length}
 use Rattle.markdown_block_definitions.specs.DefinitionParts.{len_of, definition_of}
-use Rattle.markdown_block_definitions.proofs.CodesAt.{rest-begins}
+use Rattle.markdown_block_definitions.proofs.CodesAt.{rest-firsts}
 use Rattle.markdown_block_definitions.proofs.DefinitionReads.{front-start, front-more, front-end}
 use Rattle.markdown_block_definitions.proofs.definition.definitions_len.Goals as goal
 
@@ -17,8 +17,8 @@ loop-found-preserved c =
       within = omega (arith, more.whole, c.loop-found.invariant.within);
       front = λ cs h b.
           let l : len + len_of found ≤ length cs = omega (arith, more.whole, c.loop-found.invariant.within, values-length cs, ap length h) in
-          (front-more cs len (len_of found) (definition_of found (drop len cs)) (c.loop-found.invariant.front cs h b) (c.in-Some.ensures.read (drop len cs) (rest-values len cs c.args.values.now h) (rest-begins len cs c.args.begins.now b)) (omega (arith, more.some, more.label)) l).0;
+          (front-more cs len (len_of found) (definition_of found (drop len cs)) (c.loop-found.invariant.front cs h b) (c.in-Some.ensures.read (drop len cs) (rest-values len cs c.args.values.now h) (rest-firsts len cs c.args.firsts.now b)) (omega (arith, more.some, more.label)) l).0;
     }
 
 pub returns-clause-same : goal.returns-clause-same
-returns-clause-same c = λ cs h b. front-end cs c.loop-found.len (c.loop-found.invariant.front cs h b) (c.in_default.ensures.read (drop c.loop-found.len cs) (rest-values c.loop-found.len cs c.args.values.now h) (rest-begins c.loop-found.len cs c.args.begins.now b))
+returns-clause-same c = λ cs h b. front-end cs c.loop-found.len (c.loop-found.invariant.front cs h b) (c.in_default.ensures.read (drop c.loop-found.len cs) (rest-values c.loop-found.len cs c.args.values.now h) (rest-firsts c.loop-found.len cs c.args.firsts.now b))

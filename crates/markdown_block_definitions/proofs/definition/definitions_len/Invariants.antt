@@ -1,12 +1,12 @@
 use Rattle.std.proofs.Common.{◌≡◌, ◌≤◌, ◌-◌, length, List}
 use Rattle.markdown_content.specs.Codes.{Code}
 use Rattle.markdown_model.specs.CodeTests.{values_of}
-use Rattle.markdown_block_definitions.specs.TextReadings.{begins_of}
+use Rattle.markdown_block_definitions.specs.TextReadings.{firsts_of}
 use Rattle.markdown_block_definitions.proofs.DefinitionReads.{IsDefinedTo}
 use Rattle.markdown_block_definitions.proofs.definition.definitions_len.Given as goal
 
 abbrev pub invariant-loop-found : goal.invariant-loop-found
-invariant-loop-found l = record { within : l.len ≤ length l.values; front : (cs : List Code) → values_of cs ≡ l.values → begins_of cs ≡ l.begins → IsDefinedTo cs l.len }
+invariant-loop-found l = record { within : l.len ≤ length l.values; front : (cs : List Code) → values_of cs ≡ l.values → firsts_of cs ≡ l.firsts → IsDefinedTo cs l.len }
 
 abbrev pub decreases-loop-found : goal.decreases-loop-found
 decreases-loop-found l = length l.values - l.len

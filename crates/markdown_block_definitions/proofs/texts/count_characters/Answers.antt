@@ -8,7 +8,7 @@ loop-len-init c = record { few = omega arith; read = λ cs h b. omega arith }
 pub loop-len-preserved : goal.loop-len-preserved
 loop-len-preserved c = record {
   few = omega (arith, c.loop-len.invariant.few, c.count_code-more.ensures.within);
-  read = λ cs h b. count-more cs c.args.values.now c.args.begins.now c.loop-len.len _ c.loop-len.count c.count_code-more.result.0 _ c.loop-len.indented c.count_code-more.result.1 h b c.loop-len-test.true c.count_code-more.ensures.count (c.loop-len.invariant.read cs h b);
+  read = λ cs h b. count-more cs c.args.values.now c.args.firsts.now c.loop-len.len _ c.loop-len.count c.count_code-more.result.0 _ c.loop-len.indented c.count_code-more.result.1 h b c.loop-len-test.true c.count_code-more.ensures.count (c.loop-len.invariant.read cs h b);
 }
 
 pub returns : goal.returns
