@@ -112,23 +112,23 @@ lines-all cs k n e h = ap (λ x. length (lines_of (drop x cs))) (sym e) ∙ h
 
 -- What definitions leave begins with a line.
 
-record IsBehind (whole cs : List Code) : Type 0 where
+record HasFront (whole cs : List Code) : Type 0 where
   front : List Code
   split : whole ≡ front ++ cs
 
-record BeginsLine (whole cs : List Code) : Type 0 where
-  behind : IsBehind whole cs
+record BeginsAnew (whole cs : List Code) : Type 0 where
+  behind : HasFront whole cs
   lines : lines_of whole ≡ lines_of behind.front ++ lines_of cs
 
-left-lines : (text : List Code) → BeginsLine text (definitions_of text).1
+left-lines : (text : List Code) → BeginsAnew text (definitions_of text).1
 left-lines text =
-    left-begins (IsBehind text) (BeginsLine text) later next (record { behind = record { front = text; split = sym (append-nil text) }; lines = sym (append-nil (lines_of text)) }) (λ cs b. b.behind) (length text) text
+    left-begins (HasFront text) (BeginsAnew text) later next (record { behind = record { front = text; split = sym (append-nil text) }; lines = sym (append-nil (lines_of text)) }) (λ cs b. b.behind) (length text) text
     (record { behind = record { front = []; split = refl }; lines = refl })
   where
-    later : (xs ys : List Code) → IsBehind text (xs ++ ys) → IsBehind text ys
+    later : (xs ys : List Code) → HasFront text (xs ++ ys) → HasFront text ys
     later xs ys h = record { front = h.front ++ xs; split = h.split ∙ sym (append_assoc h.front xs ys) }
 
-    next : (c : Code) (cs : List Code) → is_line_ending c ≡ true → IsBehind text (c ∷ cs) → BeginsLine text cs
+    next : (c : Code) (cs : List Code) → is_line_ending c ≡ true → HasFront text (c ∷ cs) → BeginsAnew text cs
     next c cs e h = record {
       behind = record { front = h.front ++ c ∷ []; split = h.split ∙ sym (append_assoc h.front (c ∷ []) cs) };
       lines = ap lines_of h.split ∙ (lines-split h.front c cs e).0;

@@ -10,7 +10,7 @@ use Rattle.markdown_blocks.specs.declared.block.Row.{Row}
 use Rattle.markdown_blocks.specs.declared.block.Row.TheVariants.{LeafAt, ContainerAt}
 
 -- a text content, as the inline layer takes it; without codes it has no pieces
-pub record IsText (bytes : List ℕ) (pieces : List Piece) : Type 0 where
+pub record IsTextWithPieces (bytes : List ℕ) (pieces : List Piece) : Type 0 where
   pub content : IsTextContent bytes pieces
   pub none : content_of bytes pieces ≡ [] → pieces ≡ []
 
@@ -19,8 +19,8 @@ abbrev pub IsTextLeaf : List ℕ → Leaf → Type 0
 IsTextLeaf bytes Blank = Unit {0}
 IsTextLeaf bytes ThematicBreak = Unit {0}
 IsTextLeaf bytes (Heading n piece) = IsTextContent bytes (piece ∷ [])
-IsTextLeaf bytes (Underlined n text) = IsText bytes text.items
-IsTextLeaf bytes (Paragraph text) = IsText bytes text.items
+IsTextLeaf bytes (Underlined n text) = IsTextWithPieces bytes text.items
+IsTextLeaf bytes (Paragraph text) = IsTextWithPieces bytes text.items
 IsTextLeaf bytes (IndentedCode ls) = Unit {0}
 IsTextLeaf bytes (FencedCode f info ls ended) = Unit {0}
 IsTextLeaf bytes (Html k text ended) = Unit {0}

@@ -1,0 +1,4 @@
+//! The HTML of a document.
+#![tactic(auto)]
+
+pub mod definitions;
