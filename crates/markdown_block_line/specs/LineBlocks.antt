@@ -1,4 +1,6 @@
--- What the markers, containers and fences of the code are in the tree of blocks.
+-- What the markers, containers and fences of the code are in the tree of blocks, and what its results say.
+use Rattle.std.specs.Prelude.{◌≡◌, ℕ, true, false, List, [], ◌∷◌, ◌++◌, drop, Option, Some, None, MatchOption}
+use Rattle.markdown_content.specs.Codes.{Code}
 use Rattle.markdown_block_model.specs.BlockTree as model
 use Rattle.markdown_block_line.specs.declared.containers.Marker.{Marker}
 use Rattle.markdown_block_line.specs.declared.containers.Marker.TheVariants.{Bullet, Ordered}
@@ -16,3 +18,12 @@ container_of (Item m columns) = model.item (marker_of m) columns
 
 abbrev pub fence_of : Fence → model.Fence
 fence_of f = record { value = f.value; count = f.count; columns = f.columns }
+
+-- a result says what is found, or that nothing is
+abbrev pub Says : {A B : Type 0} → Option B → (B → A) → Option A → Type 0
+Says result means found = MatchOption result (found ≡ None) (λ b. found ≡ Some (means b))
+
+-- fenced code with a further line, of which so many codes are no code, or which ends it
+abbrev pub fenced_with : Option ℕ → model.Fence → List Code → List (List Code) → List Code → model.Leaf
+fenced_with None f info ls cs = model.fenced_code f info ls true
+fenced_with (Some k) f info ls cs = model.fenced_code f info (ls ++ drop k cs ∷ []) false

@@ -1,11 +1,12 @@
 //! What the rest of a line begins (CommonMark 3.1, 4 and 5), by the order in which blocks take precedence. Each takes time linear in the rest at most,
 //! and allocates nothing.
 
-ghost use Rattle.std.specs.Prelude.{◌≡◌, ◌||◌, not, length, List, true, false, is_some, Some, None, MatchOption, IfSome};
+ghost use Rattle.std.specs.Prelude.{◌≡◌, ◌||◌, not, length, List, true, false, is_some, IfSome};
 ghost use Rattle.markdown_content.specs.Codes.{Code};
 ghost use Rattle.markdown_model.specs.CodeTests.{values_of};
 ghost use Rattle.markdown_block_model.specs.LineRests.{is_blank_line};
 ghost use Rattle.markdown_block_model.specs.BlockStarts.{begun};
+ghost use Rattle.markdown_block_line.specs.LineBlocks.{Says};
 ghost use Rattle.markdown_block_line.specs.LineBreaks.{IsBreakLens};
 ghost use Rattle.markdown_block_line.specs.LineStarts.{begun_of, StandsWhere, IsWithin};
 
@@ -43,7 +44,7 @@ pub fn begun_at(
     line: &[u8],
 ) -> Option<Begun>
     requires { IsBreakLens breaks line.now }
-    ensures found { (cs : List Code) → values_of cs ≡ line.now → MatchOption result (begun in_paragraph after_text cs ≡ None) (λ b. begun in_paragraph after_text cs ≡ Some (begun_of cs b)) }
+    ensures found { (cs : List Code) → values_of cs ≡ line.now → Says result (begun_of cs) (begun in_paragraph after_text cs) }
     ensures start { (cs : List Code) → values_of cs ≡ line.now → IfSome result (StandsWhere cs) }
     ensures within { IfSome result (IsWithin (length line.now)) }
 {

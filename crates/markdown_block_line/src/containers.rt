@@ -1,13 +1,13 @@
 //! Containers that a line begins or continues (CommonMark 5.1 and 5.2). Each takes time linear in the rest at most, and allocates nothing.
 
-ghost use Rattle.std.specs.Prelude.{◌≡◌, ◌<◌, ◌≤◌, ◌+◌, nat_le, length, drop, List, Some, None, MatchOption, IfSome};
+ghost use Rattle.std.specs.Prelude.{◌≡◌, ◌<◌, ◌≤◌, ◌+◌, nat_le, length, drop, List, IfSome};
 ghost use Rattle.markdown_content.specs.Codes.{Code};
 ghost use Rattle.markdown_model.specs.CodeTests.{values_of};
 ghost use Rattle.markdown_block_model.specs.LineRests.{indent};
 ghost use Rattle.markdown_block_model.specs.BlockTree.{item, Tree};
 ghost use Rattle.markdown_block_model.specs.ContainerStarts.{marker_at, item_at, may_begin, may_interrupt, padding};
 ghost use Rattle.markdown_block_model.specs.DocumentBlocks.{is_nothing, rest_in_item, rest_inside};
-ghost use Rattle.markdown_block_line.specs.LineBlocks.{marker_of, container_of};
+ghost use Rattle.markdown_block_line.specs.LineBlocks.{marker_of, container_of, Says};
 
 use crate::line::{indent_to, is_blank_line, is_gap};
 use crate::starts::{behind_quote, bullet_at, ordered_at};
@@ -52,7 +52,7 @@ pub struct ItemStart {
 
 /// Returns the marker of an item that stands first, or `None` (CommonMark 5.2). The rest begins behind the indent.
 pub fn marker_at(line: &[u8]) -> Option<MarkerStart>
-    ensures found { (cs : List Code) → values_of cs ≡ line.now → MatchOption result (marker_at cs ≡ None) (λ m. marker_at cs ≡ Some (marker_of m.marker, m.len)) }
+    ensures found { (cs : List Code) → values_of cs ≡ line.now → Says result (λ m. (marker_of m.marker, m.len)) (marker_at cs) }
     ensures within { IfSome result (λ m. (0 < m.len) × (m.len ≤ length line.now)) }
 {
     if let Some(bullet) = bullet_at(line) {
@@ -109,7 +109,8 @@ fn padding(after: &[u8]) -> usize
 /// says that the item would interrupt a paragraph.
 pub fn item_at(in_paragraph: bool, columns: usize, line: &[u8]) -> Option<ItemStart>
     requires { columns < 4 }
-    ensures found { (cs : List Code) → values_of cs ≡ line.now → MatchOption result (item_at in_paragraph columns cs ≡ None) (λ i. item_at in_paragraph columns cs ≡ Some (item (marker_of i.marker) i.columns, drop i.outside cs)) }
+    ensures found { (cs : List Code) → values_of cs ≡ line.now
+        → Says result (λ i. (item (marker_of i.marker) i.columns, drop i.outside cs)) (item_at in_paragraph columns cs) }
     ensures within { IfSome result (λ i. (0 < i.outside) × (i.outside ≤ length line.now)) }
 {
     let Some(found) = marker_at(line) else {
@@ -130,7 +131,8 @@ pub fn item_at(in_paragraph: bool, columns: usize, line: &[u8]) -> Option<ItemSt
 /// Returns how many codes of a line stand outside a container that the line continues, or `None` where it does not (CommonMark 5.1 and 5.2).
 /// `is_empty` says that the container holds nothing.
 pub fn rest_inside(container: Container, is_empty: bool, line: &[u8]) -> Option<usize>
-    ensures found { (cs : List Code) (inside : Tree) → values_of cs ≡ line.now → is_nothing inside ≡ is_empty → MatchOption result (rest_inside (container_of container) inside cs ≡ None) (λ k. rest_inside (container_of container) inside cs ≡ Some (drop k cs)) }
+    ensures found { (cs : List Code) (inside : Tree) → values_of cs ≡ line.now → is_nothing inside ≡ is_empty
+        → Says result (λ k. drop k cs) (rest_inside (container_of container) inside cs) }
     ensures within { IfSome result (λ k. k ≤ length line.now) }
 {
     match container {
@@ -141,7 +143,8 @@ pub fn rest_inside(container: Container, is_empty: bool, line: &[u8]) -> Option<
 
 // How many codes of a line stand outside an item that the line continues.
 fn rest_in_item(columns: usize, is_empty: bool, line: &[u8]) -> Option<usize>
-    ensures found { (cs : List Code) (inside : Tree) → values_of cs ≡ line.now → is_nothing inside ≡ is_empty → MatchOption result (rest_in_item (nat_le columns (indent cs)) columns inside cs ≡ None) (λ k. rest_in_item (nat_le columns (indent cs)) columns inside cs ≡ Some (drop k cs)) }
+    ensures found { (cs : List Code) (inside : Tree) → values_of cs ≡ line.now → is_nothing inside ≡ is_empty
+        → Says result (λ k. drop k cs) (rest_in_item (nat_le columns (indent cs)) columns inside cs) }
     ensures within { IfSome result (λ k. k ≤ length line.now) }
 {
     let count = indent_to(line, columns);

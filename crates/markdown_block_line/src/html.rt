@@ -1,6 +1,6 @@
 //! HTML blocks (CommonMark 4.6): what begins each kind, and what ends it. Each takes time linear in the rest at most, and allocates nothing.
 
-ghost use Rattle.std.specs.Prelude.{◌≡◌, ◌<◌, ◌≤◌, ◌&&◌, ◌||◌, ◌==◌, not, length, map, List, true, false, Some, None, MatchOption, IfSome, is_some};
+ghost use Rattle.std.specs.Prelude.{◌≡◌, ◌<◌, ◌≤◌, ◌&&◌, ◌||◌, ◌==◌, not, length, map, List, true, false, IfSome, is_some};
 ghost use Rattle.std.specs.List.{list_any, starts_with};
 ghost use Rattle.markdown_content.specs.Codes.{Code};
 ghost use Rattle.markdown_model.specs.CodeTests.{values_of, is_letter};
@@ -8,6 +8,7 @@ ghost use Rattle.markdown_model.specs.Grammar.{either, one, word, ◌then_◌};
 ghost use Rattle.markdown_model.specs.HtmlText.{tag_name, open_tag, closing_tag};
 ghost use Rattle.markdown_block_model.specs.BlockTree.{html};
 ghost use Rattle.markdown_block_model.specs.HtmlStarts.{raw_tags, raw_ends, block_tags, is_named, ends_raw_tag, ends_block_tag, is_tag_among, begins_raw, begins_block_tag, kind_behind, is_other_tag, html_kind, ends_html, html_at};
+ghost use Rattle.markdown_block_line.specs.LineBlocks.{Says};
 ghost use Rattle.markdown_block_line.specs.LineTags.{Reads};
 ghost use Rattle.markdown_block_line.specs.LineWords.{stands_for, begins_in_any_case, is_word, holds_value};
 
@@ -327,7 +328,7 @@ fn may_begin(after_text: bool, kind: usize) -> bool
 
 /// Returns the HTML that a whole line begins, or `None` (CommonMark 4.6). `after_text` says that a paragraph is open before the line.
 pub fn html_at(after_text: bool, line: &[u8]) -> Option<Html>
-    ensures { (cs : List Code) → values_of cs ≡ line.now → MatchOption result (html_at after_text cs ≡ None) (λ h. html_at after_text cs ≡ Some (html h.kind cs h.ended)) }
+    ensures { (cs : List Code) → values_of cs ≡ line.now → Says result (λ h. html h.kind cs h.ended) (html_at after_text cs) }
 {
     let kind = html_kind(trimmed(line));
     if !may_begin(after_text, kind) {

@@ -1,12 +1,12 @@
 //! Leaves that a further line continues (CommonMark 4.4, 4.5 and 4.6). Each takes time linear in the line at most, and allocates nothing.
 
-ghost use Rattle.std.specs.Prelude.{◌≡◌, ◌≤◌, ◌&&◌, nat_le, ◌++◌, ◌∷◌, [], length, drop, List, true, false, Some, None, MatchOption, IfSome};
+ghost use Rattle.std.specs.Prelude.{◌≡◌, ◌≤◌, ◌&&◌, nat_le, ◌++◌, ◌∷◌, [], length, drop, List, false, Some, IfSome};
 ghost use Rattle.markdown_content.specs.Codes.{Code};
 ghost use Rattle.markdown_model.specs.CodeTests.{values_of};
 ghost use Rattle.markdown_block_model.specs.LineRests.{is_blank_line};
 ghost use Rattle.markdown_block_model.specs.BlockTree.{indented_code, fenced_code, html};
 ghost use Rattle.markdown_block_model.specs.DocumentBlocks.{with_next};
-ghost use Rattle.markdown_block_line.specs.LineBlocks.{fence_of};
+ghost use Rattle.markdown_block_line.specs.LineBlocks.{fence_of, Says, fenced_with};
 
 use crate::html::ends_html;
 use crate::line::{indent_to, is_blank_line};
@@ -14,7 +14,8 @@ use crate::starts::{Fence, is_closing};
 
 /// Returns how many codes of a line are no code, or `None` where the line ends the code of this fence (CommonMark 4.5). The code was not ended before.
 pub fn fenced_line(fence: Fence, line: &[u8]) -> Option<usize>
-    ensures next { (cs info : List Code) (ls : List (List Code)) → values_of cs ≡ line.now → MatchOption result (with_next (fenced_code (fence_of fence) info ls false) cs ≡ Some (fenced_code (fence_of fence) info ls true)) (λ k. with_next (fenced_code (fence_of fence) info ls false) cs ≡ Some (fenced_code (fence_of fence) info (ls ++ drop k cs ∷ []) false)) }
+    ensures next { (cs info : List Code) (ls : List (List Code)) → values_of cs ≡ line.now
+        → with_next (fenced_code (fence_of fence) info ls false) cs ≡ Some (fenced_with result (fence_of fence) info ls cs) }
     ensures within { IfSome result (λ k. k ≤ length line.now) }
 {
     if is_closing(fence, line) {
@@ -25,7 +26,8 @@ pub fn fenced_line(fence: Fence, line: &[u8]) -> Option<usize>
 
 /// Returns how many codes of a line are no code, or `None` where the line does not continue indented code (CommonMark 4.4).
 pub fn indented_line(line: &[u8]) -> Option<usize>
-    ensures next { (cs : List Code) (ls : List (List Code)) → values_of cs ≡ line.now → MatchOption result (with_next (indented_code ls) cs ≡ None) (λ k. with_next (indented_code ls) cs ≡ Some (indented_code (ls ++ drop k cs ∷ []))) }
+    ensures next { (cs : List Code) (ls : List (List Code)) → values_of cs ≡ line.now
+        → Says result (λ k. indented_code (ls ++ drop k cs ∷ [])) (with_next (indented_code ls) cs) }
     ensures within { IfSome result (λ k. k ≤ length line.now) }
 {
     let count = indent_to(line, 4);
@@ -44,7 +46,7 @@ fn ends_before(kind: usize, line: &[u8]) -> bool
 
 /// Returns whether a line ends HTML of this kind, or `None` where the HTML ends before the line (CommonMark 4.6). It was not ended before.
 pub fn html_line(kind: usize, line: &[u8]) -> Option<bool>
-    ensures { (cs text : List Code) → values_of cs ≡ line.now → MatchOption result (with_next (html kind text false) cs ≡ None) (λ ended. with_next (html kind text false) cs ≡ Some (html kind (text ++ cs) ended)) }
+    ensures { (cs text : List Code) → values_of cs ≡ line.now → Says result (html kind (text ++ cs)) (with_next (html kind text false) cs) }
 {
     if ends_before(kind, line) {
         return None;

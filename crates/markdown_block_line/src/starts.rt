@@ -1,13 +1,13 @@
 //! What begins with the rest of a line (CommonMark 4.1 to 4.3, 4.5, 5.1 and 5.2). Each takes time linear in the rest at most, and allocates nothing.
 
-ghost use Rattle.std.specs.Prelude.{◌≡◌, ◌<◌, ◌≤◌, ◌+◌, min, length, take, drop, List, [], false, Some, None, MatchOption, IfSome, ◌||◌, ◌==◌};
+ghost use Rattle.std.specs.Prelude.{◌≡◌, ◌<◌, ◌≤◌, ◌+◌, min, length, take, drop, List, [], false, IfSome, ◌||◌, ◌==◌};
 ghost use Rattle.markdown_content.specs.Codes.{Code};
 ghost use Rattle.markdown_model.specs.CodeTests.{values_of, is_value};
 ghost use Rattle.markdown_block_model.specs.LineRests.{trimmed_end, without_end};
 ghost use Rattle.markdown_block_model.specs.BlockTree.{heading, fenced_code, bullet, ordered};
 ghost use Rattle.markdown_block_model.specs.LeafStarts.{is_break, ends_blank, heading_text, heading_at, is_row_of, underline, may_be_info, fence_at, is_closing};
 ghost use Rattle.markdown_block_model.specs.ContainerStarts.{behind_quote, bullet_at, ordered_at};
-ghost use Rattle.markdown_block_line.specs.LineBlocks.{fence_of};
+ghost use Rattle.markdown_block_line.specs.LineBlocks.{fence_of, Says};
 ghost use Rattle.markdown_block_line.specs.LineStarts.{heading_start};
 ghost use Rattle.markdown_block_line.specs.LineValues.{front, is_break_values, is_digit_value, number_values};
 
@@ -125,7 +125,7 @@ fn is_row_of(line: &[u8], marker: u8) -> bool
 /// Returns how many codes of a line stand outside a quote that it begins or continues: the indent, the marker, and a blank behind it. `None` where
 /// no quote is marked (CommonMark 5.1).
 pub fn behind_quote(line: &[u8]) -> Option<usize>
-    ensures found { (cs : List Code) → values_of cs ≡ line.now → MatchOption result (behind_quote cs ≡ None) (λ k. behind_quote cs ≡ Some (drop k cs)) }
+    ensures found { (cs : List Code) → values_of cs ≡ line.now → Says result (λ k. drop k cs) (behind_quote cs) }
     ensures within { IfSome result (λ k. (0 < k) × (k ≤ length line.now)) }
 {
     let at = indent_to(line, 4);
@@ -143,7 +143,7 @@ pub fn behind_quote(line: &[u8]) -> Option<usize>
 
 /// Returns the bullet that stands first, or `None` (CommonMark 5.2). Its marker is one code long, and the rest begins behind the indent.
 pub fn bullet_at(line: &[u8]) -> Option<u8>
-    ensures found { (cs : List Code) → values_of cs ≡ line.now → MatchOption result (bullet_at cs ≡ None) (λ n. bullet_at cs ≡ Some (bullet n, 1)) }
+    ensures found { (cs : List Code) → values_of cs ≡ line.now → Says result (λ n. (bullet n, 1)) (bullet_at cs) }
     ensures within { IfSome result (λ n. 0 < length line.now) }
 {
     if line.len() == 0 {
@@ -158,7 +158,7 @@ pub fn bullet_at(line: &[u8]) -> Option<u8>
 
 /// Returns the marker of an ordered item that stands first, or `None` (CommonMark 5.2). The rest begins behind the indent.
 pub fn ordered_at(line: &[u8]) -> Option<OrderedMarker>
-    ensures found { (cs : List Code) → values_of cs ≡ line.now → MatchOption result (ordered_at cs ≡ None) (λ m. ordered_at cs ≡ Some (ordered m.delimiter m.number, m.len)) }
+    ensures found { (cs : List Code) → values_of cs ≡ line.now → Says result (λ m. (ordered m.delimiter m.number, m.len)) (ordered_at cs) }
     ensures within { IfSome result (λ m. (0 < m.len) × (m.len ≤ length line.now)) }
 {
     let digits = digits_at(line);
@@ -214,7 +214,7 @@ fn digits_at(line: &[u8]) -> Digits
 
 /// Returns the heading of number signs that the rest is, or `None` (CommonMark 4.2). The rest begins behind the indent.
 pub fn heading_at(line: &[u8]) -> Option<Heading>
-    ensures found { (cs : List Code) → values_of cs ≡ line.now → MatchOption result (heading_at cs ≡ None) (λ h. heading_at cs ≡ Some (heading h.level (take h.len (drop h.start cs)))) }
+    ensures found { (cs : List Code) → values_of cs ≡ line.now → Says result (λ h. heading h.level (take h.len (drop h.start cs))) (heading_at cs) }
     ensures start { (cs : List Code) → values_of cs ≡ line.now → IfSome result (λ h. h.start ≡ heading_start cs) }
     ensures within { IfSome result (λ h. h.start + h.len ≤ length line.now) }
 {
@@ -274,7 +274,8 @@ fn open_len(text: &[u8]) -> usize
 
 /// Returns the fence that begins code behind an indent of so many columns, or `None` (CommonMark 4.5). The rest begins behind the indent.
 pub fn fence_at(columns: usize, line: &[u8]) -> Option<OpenFence>
-    ensures found { (cs : List Code) → values_of cs ≡ line.now → MatchOption result (fence_at columns cs ≡ None) (λ f. fence_at columns cs ≡ Some (fenced_code (fence_of f.fence) (take f.len (drop f.start cs)) [] false)) }
+    ensures found { (cs : List Code) → values_of cs ≡ line.now
+        → Says result (λ f. fenced_code (fence_of f.fence) (take f.len (drop f.start cs)) [] false) (fence_at columns cs) }
     ensures within { IfSome result (λ f. f.start + f.len ≤ length line.now) }
 {
     if line.len() == 0 {
