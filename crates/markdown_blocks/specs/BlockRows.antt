@@ -1,5 +1,5 @@
 -- What rows of blocks, and the open ones, mean.
-use Rattle.std.specs.Prelude.{ℕ, zero, suc, ◌≡◌, ◌<◌, List, [], ◌∷◌, ◌++◌, length, map, take, Option, Some, None, Bool, true, false}
+use Rattle.std.specs.Prelude.{ℕ, zero, suc, ◌≡◌, ◌<◌, ◌≤◌, List, [], ◌∷◌, ◌++◌, length, map, take, drop, MatchOption, Option, Some, None, Bool, true, false}
 use Rattle.markdown_content.specs.Codes.{Code, codes_of}
 use Rattle.markdown_content.specs.Content.{piece_codes, content_of}
 use Rattle.markdown_block_model.specs.LineRests.{is_blank_line, trimmed, trimmed_end}
@@ -109,6 +109,11 @@ pub record HasContainer (bytes : List ℕ) (begun : block_starts.Begun) (rest : 
   pub is : begun ≡ block_starts.container_begins container rest
   pub deeper : IsDeeper bytes container before after
 
+-- what has begun: a leaf, or a container outside of which so many codes stand
+abbrev pub HasBegun : List ℕ → block_starts.Begun → List Code → Option ℕ → Reader → Reader → Type 0
+HasBegun bytes begun line outside before after = MatchOption outside (HasLeaf bytes begun before after)
+    (λ k. (0 < k) × (k ≤ length line) × HasContainer bytes begun (drop k line) before after)
+
 -- what is left to begin behind one block: nothing, or what the rest of the line inside a container begins
 pub record IsFinished (bytes : List ℕ) (line : List Code) (before after : Reader) : Type 0 where
   pub tree : (n : ℕ) → whole_tree bytes after ≡ at_depth (depth before) (block_starts.with_rest (suc n) line) (closed_tree bytes before)
@@ -119,6 +124,15 @@ pub record IsEntered (bytes : List ℕ) (line rest : List Code) (before after : 
   pub standing : IsStanding bytes after
   pub empty : inside_at (depth after) (closed_tree bytes after) ≡ nothing
   pub tree : (n : ℕ) → at_depth (depth after) (block_starts.with_rest n rest) (closed_tree bytes after) ≡ at_depth (depth before) (block_starts.with_rest (suc n) line) (closed_tree bytes before)
+
+-- a block has begun: nothing is left, or the codes behind so many
+abbrev pub HasPassed : List ℕ → List Code → Option ℕ → Reader → Reader → Type 0
+HasPassed bytes line outside before after = MatchOption outside (IsFinished bytes line before after)
+    (λ k. (k ≤ length line) × IsEntered bytes line (drop k line) before after)
+
+-- the siblings that the reader stands behind are changed in this way
+abbrev pub Changes : List ℕ → (Tree → Tree) → Reader → Reader → Type 0
+Changes bytes f before after = whole_tree bytes after ≡ at_depth (depth before) f (closed_tree bytes before)
 
 -- what the rest of a line begins makes this tree; there are steps for it
 pub record Begins (bytes : List ℕ) (line : List Code) (r : Reader) (target : Tree) : Type 0 where

@@ -43,7 +43,8 @@ pub fn trim_end(document: &[u8], text: &mut Vec<Piece>) -> Result<(), AllocError
     ensures codes { IfOk result (λ _. content_of document.now text.new.items ≡ trimmed_end (content_of document.now text.old.items)) }
     ensures empty { IfOk result (λ _. content_of document.now text.new.items ≡ [] → text.new.items ≡ []) }
     ensures text { IfOk result (λ _. ArePlaced document.now text.old.items → IsTrimmedText document.now text.new.items) }
-    ensures content { IfOk result (λ _. ArePlaced document.now text.old.items → IsUtf8 document.now → length document.now ≤ document_limit → IsTextContent document.now text.new.items) }
+    ensures content { IfOk result (λ _. ArePlaced document.now text.old.items → IsUtf8 document.now → length document.now ≤ document_limit
+        → IsTextContent document.now text.new.items) }
 {
     while let Some(last) = text.pop() {
         if let Some(piece) = trimmed(document, last) {

@@ -1,6 +1,6 @@
 //! A line on the blocks of the lines before it.
 
-ghost use Rattle.std.specs.Prelude.{◌≡◌, ◌≤◌, ◌<◌, ◌∷◌, [], Bool, ℕ, List, suc, length, take, drop, true, false, Some, None, IfOk, IfSome, MatchOption};
+ghost use Rattle.std.specs.Prelude.{◌≡◌, ◌≤◌, ◌<◌, ◌∷◌, [], Bool, ℕ, List, suc, length, take, true, false, Some, None, IfOk, IfSome};
 ghost use Rattle.std.specs.List.{list_all};
 ghost use Rattle.markdown_event.specs.declared.event.Point.{Point};
 ghost use Rattle.markdown_content.specs.Codes.{Code};
@@ -12,7 +12,7 @@ ghost use Rattle.markdown_block_model.specs.DocumentBlocks.{read_line, rest_insi
 ghost use Rattle.markdown_block_line.specs.LineBlocks.{container_of};
 ghost use Rattle.markdown_block_line.specs.LineStarts.{begun_of, IsWithin};
 ghost use Rattle.markdown_blocks.specs.TreeDepth.{at_depth, inside_at};
-ghost use Rattle.markdown_blocks.specs.BlockRows.{leaf_of, closed_tree, whole_tree, depth, container_at, is_text, lazy_leaf, IsBetween, IsStanding, IsDeeper, HasLeaf, HasContainer, IsFinished, IsEntered};
+ghost use Rattle.markdown_blocks.specs.BlockRows.{leaf_of, closed_tree, whole_tree, depth, container_at, is_text, lazy_leaf, IsBetween, IsStanding, IsDeeper, HasBegun, HasPassed, Changes};
 ghost use Rattle.markdown_blocks.specs.LineRest.{IsBegun, TextsBefore, TextsBehind};
 ghost use Rattle.markdown_blocks.specs.TextRows.{is_outer, line_stop, HasPlacedText, IsOpenLeaf, HasPlacedRows, HasPlacedTexts};
 ghost use Rattle.markdown_blocks.specs.declared.block.Leaf.TheVariants.{Paragraph};
@@ -29,11 +29,13 @@ use std::alloc::{AllocError, Global};
 
 // Closes a leaf.
 fn put_leaf(reader: &mut Reader, leaf: Leaf) -> Result<(), AllocError>
-    ensures tree { IfOk result (λ _. (bytes : List ℕ) → closed_tree bytes reader.new ≡ at_depth (depth reader.old) (λ s. and_leaf s (leaf_of bytes leaf)) (closed_tree bytes reader.old)) }
+    ensures tree { IfOk result (λ _. (bytes : List ℕ)
+        → closed_tree bytes reader.new ≡ at_depth (depth reader.old) (λ s. and_leaf s (leaf_of bytes leaf)) (closed_tree bytes reader.old)) }
     ensures path { reader.new.path ≡ reader.old.path }
     ensures open { reader.new.open ≡ reader.old.open }
     ensures standing { IfOk result (λ _. (bytes : List ℕ) → IsStanding bytes reader.old → IsStanding bytes reader.new) }
-    ensures texts { IfOk result (λ _. (bytes : List ℕ) → IsStanding bytes reader.old → HasPlacedRows bytes reader.old → HasPlacedText bytes leaf → HasPlacedRows bytes reader.new) }
+    ensures texts { IfOk result (λ _. (bytes : List ℕ) → IsStanding bytes reader.old → HasPlacedRows bytes reader.old → HasPlacedText bytes leaf
+        → HasPlacedRows bytes reader.new) }
 {
     let depth = reader.path.len();
     reader.rows.push(Row::LeafAt(depth, leaf))?;
@@ -43,7 +45,8 @@ fn put_leaf(reader: &mut Reader, leaf: Leaf) -> Result<(), AllocError>
 // Opens a container that holds nothing yet.
 fn put_container(reader: &mut Reader, container: Container) -> Result<(), AllocError>
     ensures deeper { IfOk result (λ _. (bytes : List ℕ) → IsStanding bytes reader.old → IsDeeper bytes (container_of container) reader.old reader.new) }
-    ensures texts { IfOk result (λ _. (bytes : List ℕ) → IsStanding bytes reader.old → HasPlacedRows bytes reader.old → HasPlacedRows bytes reader.new) }
+    ensures texts { IfOk result (λ _. (bytes : List ℕ) → IsStanding bytes reader.old → HasPlacedRows bytes reader.old
+        → HasPlacedRows bytes reader.new) }
 {
     let depth = reader.path.len();
     reader.rows.push(Row::ContainerAt(depth, container))?;
@@ -88,7 +91,7 @@ fn begin(
     requires within { IsWithin (length rest.now.codes) begun }
     requires is { IsBegun rest.now.codes begun }
     requires texts { HasPlacedRows rest.now.bytes reader.old }
-    ensures begun { IfOk result (λ outside. MatchOption outside (HasLeaf rest.now.bytes (begun_of rest.now.codes begun) reader.old reader.new) (λ k. (0 < k) × (k ≤ length rest.now.codes) × HasContainer rest.now.bytes (begun_of rest.now.codes begun) (drop k rest.now.codes) reader.old reader.new)) }
+    ensures begun { IfOk result (λ outside. HasBegun rest.now.bytes (begun_of rest.now.codes begun) rest.now.codes outside reader.old reader.new) }
     ensures outer { IfOk result (λ outside. IfSome outside (λ k. list_all is_outer (take k rest.now.codes) ≡ true)) }
     ensures texts { IfOk result (λ _. TextsBehind rest.now reader.new) }
 {
@@ -132,7 +135,7 @@ fn begin_next(alloc: Global, reader: &mut Reader, rest: &Rest) -> Result<Option<
     requires standing { IsStanding rest.now.bytes reader.old }
     requires empty { is_blank_line rest.now.codes ≡ true → inside_at (depth reader.old) (closed_tree rest.now.bytes reader.old) ≡ nothing }
     requires texts { HasPlacedRows rest.now.bytes reader.old }
-    ensures begun { IfOk result (λ outside. MatchOption outside (IsFinished rest.now.bytes rest.now.codes reader.old reader.new) (λ k. (k ≤ length rest.now.codes) × IsEntered rest.now.bytes rest.now.codes (drop k rest.now.codes) reader.old reader.new)) }
+    ensures begun { IfOk result (λ outside. HasPassed rest.now.bytes rest.now.codes outside reader.old reader.new) }
     ensures outer { IfOk result (λ outside. IfSome outside (λ k. list_all is_outer (take k rest.now.codes) ≡ true)) }
     ensures texts { IfOk result (λ _. TextsBehind rest.now reader.new) }
 {
@@ -157,7 +160,7 @@ fn begin_rest(alloc: Global, reader: &mut Reader, rest: &Rest) -> Result<(), All
     requires standing { IsStanding rest.now.bytes reader.old }
     requires empty { is_blank_line rest.now.codes ≡ true → inside_at (depth reader.old) (closed_tree rest.now.bytes reader.old) ≡ nothing }
     requires texts { HasPlacedRows rest.now.bytes reader.old }
-    ensures tree { IfOk result (λ _. whole_tree rest.now.bytes reader.new ≡ at_depth (depth reader.old) (with_rest (suc (length rest.now.codes)) rest.now.codes) (closed_tree rest.now.bytes reader.old)) }
+    ensures tree { IfOk result (λ _. Changes rest.now.bytes (with_rest (suc (length rest.now.codes)) rest.now.codes) reader.old reader.new) }
     ensures between { IfOk result (λ _. IsBetween rest.now.bytes reader.new) }
     ensures texts { IfOk result (λ _. TextsBehind rest.now reader.new) }
 {
@@ -179,7 +182,7 @@ fn begin_all(
     requires within { IsWithin (length rest.now.codes) begun }
     requires is { IsBegun rest.now.codes begun }
     requires texts { HasPlacedRows rest.now.bytes reader.old }
-    ensures tree { IfOk result (λ _. whole_tree rest.now.bytes reader.new ≡ at_depth (depth reader.old) (with_begun (begun_of rest.now.codes begun)) (closed_tree rest.now.bytes reader.old)) }
+    ensures tree { IfOk result (λ _. Changes rest.now.bytes (with_begun (begun_of rest.now.codes begun)) reader.old reader.new) }
     ensures between { IfOk result (λ _. IsBetween rest.now.bytes reader.new) }
     ensures texts { IfOk result (λ _. TextsBehind rest.now reader.new) }
 {
@@ -196,7 +199,7 @@ fn begin_all(
 fn stand(alloc: Global, reader: &mut Reader, rest: &Rest) -> Result<(), AllocError>
     requires standing { IsStanding rest.now.bytes reader.old }
     requires texts { HasPlacedRows rest.now.bytes reader.old }
-    ensures tree { IfOk result (λ _. whole_tree rest.now.bytes reader.new ≡ at_depth (depth reader.old) (with_line rest.now.codes) (closed_tree rest.now.bytes reader.old)) }
+    ensures tree { IfOk result (λ _. Changes rest.now.bytes (with_line rest.now.codes) reader.old reader.new) }
     ensures between { IfOk result (λ _. IsBetween rest.now.bytes reader.new) }
     ensures texts { IfOk result (λ _. TextsBehind rest.now reader.new) }
 {
@@ -239,7 +242,8 @@ fn follow_text<T: HasText>(
     requires standing { IsStanding rest.now.bytes reader.old }
     requires texts { HasPlacedRows rest.now.bytes reader.old }
     requires text { IsOpenLeaf rest.now.bytes rest.now.start (Paragraph text) }
-    ensures tree { IfOk result (λ _. whole_tree rest.now.bytes reader.new ≡ at_depth (depth reader.old) (λ s. with_text_line T.has_text rest.now.codes s (content_of rest.now.bytes text.items)) (closed_tree rest.now.bytes reader.old)) }
+    ensures tree { IfOk result (λ _.
+        Changes rest.now.bytes (λ s. with_text_line T.has_text rest.now.codes s (content_of rest.now.bytes text.items)) reader.old reader.new) }
     ensures between { IfOk result (λ _. IsBetween rest.now.bytes reader.new) }
     ensures texts { IfOk result (λ _. TextsBehind rest.now reader.new) }
 {
@@ -278,7 +282,9 @@ fn follow_other(
     requires standing { IsStanding rest.now.bytes reader.old }
     requires texts { HasPlacedRows rest.now.bytes reader.old }
     requires text { HasPlacedText rest.now.bytes leaf }
-    ensures tree { IfOk result (λ _. whole_tree rest.now.bytes reader.new ≡ at_depth (depth reader.old) (λ s. with_next_or_line rest.now.codes s (leaf_of rest.now.bytes leaf) (with_next (leaf_of rest.now.bytes leaf) rest.now.codes)) (closed_tree rest.now.bytes reader.old)) }
+    ensures tree { IfOk result (λ _.
+        Changes rest.now.bytes (λ s. with_next_or_line rest.now.codes s (leaf_of rest.now.bytes leaf)
+        (with_next (leaf_of rest.now.bytes leaf) rest.now.codes)) reader.old reader.new) }
     ensures between { IfOk result (λ _. IsBetween rest.now.bytes reader.new) }
     ensures texts { IfOk result (λ _. TextsBehind rest.now reader.new) }
 {
@@ -306,7 +312,8 @@ fn follow_leaf<T: HasText>(
     requires standing { IsStanding rest.now.bytes reader.old }
     requires texts { HasPlacedRows rest.now.bytes reader.old }
     requires text { IsOpenLeaf rest.now.bytes rest.now.start leaf }
-    ensures tree { IfOk result (λ _. whole_tree rest.now.bytes reader.new ≡ at_depth (depth reader.old) (λ s. with_leaf_line T.has_text rest.now.codes s (leaf_of rest.now.bytes leaf)) (closed_tree rest.now.bytes reader.old)) }
+    ensures tree { IfOk result (λ _.
+        Changes rest.now.bytes (λ s. with_leaf_line T.has_text rest.now.codes s (leaf_of rest.now.bytes leaf)) reader.old reader.new) }
     ensures between { IfOk result (λ _. IsBetween rest.now.bytes reader.new) }
     ensures texts { IfOk result (λ _. TextsBehind rest.now reader.new) }
 {
@@ -331,7 +338,8 @@ fn follow<T: HasText>(
 ) -> Result<(), AllocError>
     requires between { IsBetween rest.now.bytes reader.old }
     requires texts { TextsBefore rest.now reader.old }
-    ensures tree { IfOk result (λ _. whole_tree rest.now.bytes reader.new ≡ at_depth (depth reader.old) (read_line T.has_text rest.now.codes) (whole_tree rest.now.bytes reader.old)) }
+    ensures tree { IfOk result (λ _.
+        whole_tree rest.now.bytes reader.new ≡ at_depth (depth reader.old) (read_line T.has_text rest.now.codes) (whole_tree rest.now.bytes reader.old)) }
     ensures between { IfOk result (λ _. IsBetween rest.now.bytes reader.new) }
     ensures texts { IfOk result (λ _. TextsBehind rest.now reader.new) }
 {
@@ -352,7 +360,8 @@ pub fn put_open(reader: &mut Reader) -> Result<(), AllocError>
     ensures tree { IfOk result (λ _. (bytes : List ℕ) → closed_tree bytes reader.new ≡ whole_tree bytes reader.old) }
     ensures path { reader.new.path ≡ reader.old.path }
     ensures standing { IfOk result (λ _. (bytes : List ℕ) → IsBetween bytes reader.old → IsStanding bytes reader.new) }
-    ensures texts { IfOk result (λ _. (bytes : List ℕ) (p : Point) → IsBetween bytes reader.old → HasPlacedTexts bytes p reader.old → HasPlacedRows bytes reader.new) }
+    ensures texts { IfOk result (λ _. (bytes : List ℕ) (p : Point) → IsBetween bytes reader.old → HasPlacedTexts bytes p reader.old
+        → HasPlacedRows bytes reader.new) }
 {
     match reader.open.take() {
         None => Ok(()),
@@ -369,7 +378,8 @@ fn close(reader: &mut Reader, outside: usize) -> Result<(), AllocError>
     ensures tree { IfOk result (λ _. (bytes : List ℕ) → closed_tree bytes reader.new ≡ whole_tree bytes reader.old) }
     ensures depth { IfOk result (λ _. depth reader.new ≡ outside) }
     ensures standing { IfOk result (λ _. (bytes : List ℕ) → IsBetween bytes reader.old → IsStanding bytes reader.new) }
-    ensures texts { IfOk result (λ _. (bytes : List ℕ) (p : Point) → IsBetween bytes reader.old → HasPlacedTexts bytes p reader.old → HasPlacedRows bytes reader.new) }
+    ensures texts { IfOk result (λ _. (bytes : List ℕ) (p : Point) → IsBetween bytes reader.old → HasPlacedTexts bytes p reader.old
+        → HasPlacedRows bytes reader.new) }
 {
     put_open(reader)?;
     reader.path.truncate(outside);
@@ -396,7 +406,9 @@ fn leap(reader: &Reader, outside: usize, rest: &Rest) -> usize
     requires within { outside < depth reader.now }
     ensures within { result < depth reader.now }
     ensures forward { outside ≤ result }
-    ensures same { (has_text : List Code → Bool) → at_depth outside (read_line has_text rest.now.codes) (whole_tree rest.now.bytes reader.now) ≡ at_depth result (read_line has_text rest.now.codes) (whole_tree rest.now.bytes reader.now) }
+    ensures same { (has_text : List Code → Bool)
+        → at_depth outside (read_line has_text rest.now.codes) (whole_tree rest.now.bytes reader.now)
+        ≡ at_depth result (read_line has_text rest.now.codes) (whole_tree rest.now.bytes reader.now) }
 {
     if !rest.is_bare() {
         return outside;
@@ -415,8 +427,11 @@ fn go_on<'a>(reader: &Reader, rest: &Rest<'a>) -> (usize, Rest<'a>)
     ensures within { result.0 ≤ depth reader.now }
     ensures bytes { result.1.bytes ≡ rest.now.bytes }
     ensures start { result.1.start ≡ rest.now.start }
-    ensures tree { (has_text : List Code → Bool) → read_line has_text rest.now.codes (whole_tree rest.now.bytes reader.now) ≡ at_depth result.0 (read_line has_text result.1.codes) (whole_tree rest.now.bytes reader.now) }
-    ensures stops { result.0 < depth reader.now → rest_inside (container_at result.0 reader.now) (inside_at (suc result.0) (whole_tree rest.now.bytes reader.now)) result.1.codes ≡ None }
+    ensures tree { (has_text : List Code → Bool)
+        → read_line has_text rest.now.codes (whole_tree rest.now.bytes reader.now)
+        ≡ at_depth result.0 (read_line has_text result.1.codes) (whole_tree rest.now.bytes reader.now) }
+    ensures stops { result.0 < depth reader.now
+        → rest_inside (container_at result.0 reader.now) (inside_at (suc result.0) (whole_tree rest.now.bytes reader.now)) result.1.codes ≡ None }
 {
     let mut depth = 0;
     let mut inner = rest.behind(0);

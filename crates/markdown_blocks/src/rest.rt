@@ -1,6 +1,6 @@
 //! The rest of a line: the document, where the line begins, the values of its codes, and how many of these stand before the rest.
 
-ghost use Rattle.std.specs.Prelude.{◌≡◌, ◌<◌, ◌≤◌, ◌+◌, ◌||◌, ◌∷◌, [], length, take, drop, not, is_some, true, false, List, Some, None, MatchOption, IfSome};
+ghost use Rattle.std.specs.Prelude.{◌≡◌, ◌<◌, ◌≤◌, ◌+◌, ◌||◌, ◌∷◌, [], length, take, drop, not, is_some, true, false, List, IfSome};
 ghost use Rattle.std.specs.List.{list_all};
 ghost use Rattle.markdown_content.specs.Codes.{Code, codes_of};
 ghost use Rattle.markdown_content.specs.Content.{document_limit, piece_codes};
@@ -13,7 +13,7 @@ ghost use Rattle.markdown_block_model.specs.LeafStarts.{underline};
 ghost use Rattle.markdown_block_model.specs.BlockStarts.{begun};
 ghost use Rattle.markdown_block_model.specs.DocumentBlocks.{rest_inside, is_nothing};
 ghost use Rattle.markdown_block_line.specs.DocumentLines.{line_from};
-ghost use Rattle.markdown_block_line.specs.LineBlocks.{container_of};
+ghost use Rattle.markdown_block_line.specs.LineBlocks.{container_of, Says};
 ghost use Rattle.markdown_block_line.specs.LineStarts.{begun_of, StandsWhere, IsWithin};
 ghost use Rattle.markdown_blocks.specs.ItemRows.{IsBare};
 ghost use Rattle.markdown_blocks.specs.LineRest.{behind, IsLineStart};
@@ -132,7 +132,8 @@ impl<'a> Rest<'a> {
 
     /// Returns how many codes stand outside a container that the line continues, of which `is_empty` says whether it holds nothing; or `None`.
     pub fn outside(&self, container: Container, is_empty: bool) -> Option<usize>
-        ensures found { (inside : Tree) → is_nothing inside ≡ is_empty → MatchOption result (rest_inside (container_of container) inside self.now.codes ≡ None) (λ k. rest_inside (container_of container) inside self.now.codes ≡ Some (drop k self.now.codes)) }
+        ensures found { (inside : Tree) → is_nothing inside ≡ is_empty
+            → Says result (λ k. drop k self.now.codes) (rest_inside (container_of container) inside self.now.codes) }
         ensures within { IfSome result (λ k. k ≤ length self.now.codes) }
     {
         containers::rest_inside(container, is_empty, self.values())
@@ -140,7 +141,7 @@ impl<'a> Rest<'a> {
 
     /// Returns what begins here, or `None`. `in_paragraph` says that a paragraph stands right before, and `after_text` that one is open here or further inside.
     pub fn begun(&self, in_paragraph: bool, after_text: bool) -> Option<Begun>
-        ensures found { MatchOption result (begun in_paragraph after_text self.now.codes ≡ None) (λ b. begun in_paragraph after_text self.now.codes ≡ Some (begun_of self.now.codes b)) }
+        ensures found { Says result (begun_of self.now.codes) (begun in_paragraph after_text self.now.codes) }
         ensures start { IfSome result (StandsWhere self.now.codes) }
         ensures within { IfSome result (IsWithin (length self.now.codes)) }
     {
@@ -158,8 +159,10 @@ impl<'a> Rest<'a> {
     pub fn piece(&self, from: usize, len: usize) -> Piece
         requires { from + len ≤ length self.now.codes }
         ensures codes { piece_codes (codes_of self.now.bytes) result ≡ take len (drop from self.now.codes) }
-        ensures placed { list_all is_outer (take from self.now.codes) ≡ true → begins_ascii (drop (from + len) self.now.codes) ≡ true → lines_begin true (take len (drop from self.now.codes)) ≡ true → ArePlaced self.now.bytes (result ∷ []) }
-        ensures line { list_all is_outer (take from self.now.codes) ≡ true → from + len ≡ length self.now.codes → 0 < len → lines_begin true (drop from self.now.codes) ≡ true → IsLineEnd self.now.bytes self.now.start result }
+        ensures placed { list_all is_outer (take from self.now.codes) ≡ true → begins_ascii (drop (from + len) self.now.codes) ≡ true
+            → lines_begin true (take len (drop from self.now.codes)) ≡ true → ArePlaced self.now.bytes (result ∷ []) }
+        ensures line { list_all is_outer (take from self.now.codes) ≡ true → from + len ≡ length self.now.codes → 0 < len
+            → lines_begin true (drop from self.now.codes) ≡ true → IsLineEnd self.now.bytes self.now.start result }
         ensures is_line { is_line self.now.codes ≡ true }
     {
         let start = past_codes(self.document, self.start, self.at + from);
@@ -174,7 +177,8 @@ impl<'a> Rest<'a> {
     pub fn piece_from(&self, from: usize) -> Piece
         requires { from ≤ length self.now.codes }
         ensures codes { piece_codes (codes_of self.now.bytes) result ≡ drop from self.now.codes }
-        ensures line { list_all is_outer (take from self.now.codes) ≡ true → from < length self.now.codes → lines_begin true (drop from self.now.codes) ≡ true → IsLineEnd self.now.bytes self.now.start result }
+        ensures line { list_all is_outer (take from self.now.codes) ≡ true → from < length self.now.codes
+            → lines_begin true (drop from self.now.codes) ≡ true → IsLineEnd self.now.bytes self.now.start result }
         ensures is_line { is_line self.now.codes ≡ true }
     {
         self.piece(from, self.len() - from)
