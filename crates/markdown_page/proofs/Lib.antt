@@ -1,2 +1,3 @@
 -- The proofs of this crate.
 pub mod DefinitionStringLemmas
+pub mod ListTrees

@@ -1,2 +1,6 @@
 -- The definitions of this crate.
 pub mod DefinitionStrings
+pub mod BlankPieces
+pub mod ListPlaces
+pub mod ListWalks
+pub mod NestedRows

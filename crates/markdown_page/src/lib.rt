@@ -2,3 +2,4 @@
 #![tactic(auto)]
 
 pub mod definitions;
+pub mod lists;
