@@ -1,3 +1,6 @@
 -- The proofs of this crate.
 pub mod DefinitionStringLemmas
+pub mod BlankPieces
+pub mod ListSteps
 pub mod ListTrees
+pub mod NextItems

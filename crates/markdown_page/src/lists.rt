@@ -1,13 +1,13 @@
 //! Where each item of a document stands in its list (CommonMark 5.3).
 
-ghost use Rattle.std.specs.Prelude.{◌≡◌, ◌≤◌, ◌<◌, ◌∷◌, ◌&&◌, [], ℕ, suc, min, length, List, Some, None, option_map, is_some, IfOk};
+ghost use Rattle.std.specs.Prelude.{◌≡◌, ◌≤◌, ◌<◌, ◌∷◌, ◌&&◌, ◌||◌, [], ℕ, false, not, suc, min, length, List, Some, None, option_map, is_some, IfOk};
 ghost use Rattle.markdown_content.specs.Codes.{codes_of};
 ghost use Rattle.markdown_content.specs.Content.{piece_codes};
 ghost use Rattle.markdown_block_model.specs.LineRests.{is_blank_line};
 ghost use Rattle.markdown_block_model.specs.BlockTree as model;
 ghost use Rattle.markdown_block_model.specs.BlockTree.{Tree, nothing, and_leaf, and_container};
 ghost use Rattle.markdown_block_model.specs.LooseLists.{are_alike, ends_with_blank};
-ghost use Rattle.markdown_block_line.specs.LineBlocks.{marker_of};
+ghost use Rattle.markdown_block_line.specs.LineBlocks.{marker_of, container_of};
 ghost use Rattle.markdown_blocks.specs.TreeDepth.{inside_at, at_depth};
 ghost use Rattle.markdown_blocks.specs.BlockRows.{leaf_of, with_row, rows_from};
 ghost use Rattle.markdown_page.specs.NestedRows.{AreNested};
@@ -82,6 +82,18 @@ fn is_loose(item: Option<ListItem>) -> bool
     match item {
         None => false,
         Some(item) => item.is_loose,
+    }
+}
+
+// The place of an item with this marker, in a list that ends with it. It stands behind the last item, if any, of siblings that end with a blank line or not.
+fn item_place(last: Option<ListItem>, ends_with_blank: bool, marker: Marker) -> Place
+    ensures { let goes = goes_on (option_map item_of last) (marker_of marker) in result ≡ record { is_loose = goes && (ends_with_blank || is_loose_item (option_map item_of last)); begins = not goes; ends = false } }
+{
+    let goes_on = goes_on(last, marker);
+    Place {
+        is_loose: goes_on && (ends_with_blank || is_loose(last)),
+        begins: !goes_on,
+        ends: false,
     }
 }
 
@@ -239,34 +251,25 @@ impl Walk {
         Ok(())
     }
 
-    // Appends a quote that stands so deep.
-    fn put_quote(&mut self, depth: usize) -> Result<(), AllocError>
+    // Appends a container that stands so deep.
+    fn put_container(&mut self, depth: usize, container: Container) -> Result<(), AllocError>
         requires walked { (t : Tree) × IsWalked t self.old }
         requires within { depth ≤ length self.old.path.items }
-        ensures walked { IfOk result (λ _. (t : Tree) → IsWalked t self.old → IsWalked (at_depth depth (λ s. and_container s model.quote nothing) t) self.new) }
+        ensures walked { IfOk result (λ _. (t : Tree) → IsWalked t self.old → IsWalked (at_depth depth (λ s. and_container s (container_of container) nothing) t) self.new) }
         ensures depth { IfOk result (λ _. length self.new.path.items ≡ suc depth) }
     {
         self.leave(depth);
-        self.enter(NO_PLACE, self.ends_with_blank, None)?;
-        Ok(())
-    }
-
-    // Appends an item that stands so deep.
-    fn put_item(&mut self, depth: usize, marker: Marker) -> Result<(), AllocError>
-        requires walked { (t : Tree) × IsWalked t self.old }
-        requires within { depth ≤ length self.old.path.items }
-        ensures walked { IfOk result (λ _. (t : Tree) (columns : ℕ) → IsWalked t self.old → IsWalked (at_depth depth (λ s. and_container s (model.item (marker_of marker) columns) nothing) t) self.new) }
-        ensures depth { IfOk result (λ _. length self.new.path.items ≡ suc depth) }
-    {
-        self.leave(depth);
-        let goes_on = goes_on(self.last, marker);
-        let place = Place {
-            is_loose: goes_on && (self.ends_with_blank || is_loose(self.last)),
-            begins: !goes_on,
-            ends: false,
-        };
-        self.enter(place, self.ends_with_blank && !goes_on, Some(marker))?;
-        Ok(())
+        match container {
+            Container::Quote => {
+                self.enter(NO_PLACE, self.ends_with_blank, None)?;
+                Ok(())
+            }
+            Container::Item(marker, _) => {
+                let place = item_place(self.last, self.ends_with_blank, marker);
+                self.enter(place, self.ends_with_blank && place.begins, Some(marker))?;
+                Ok(())
+            }
+        }
     }
 
     // Appends a row.
@@ -278,8 +281,7 @@ impl Walk {
     {
         match row {
             Row::LeafAt(depth, leaf) => self.put_leaf(document, *depth, leaf),
-            Row::ContainerAt(depth, Container::Quote) => self.put_quote(*depth),
-            Row::ContainerAt(depth, Container::Item(marker, _)) => self.put_item(*depth, *marker),
+            Row::ContainerAt(depth, container) => self.put_container(*depth, *container),
         }
     }
 }
