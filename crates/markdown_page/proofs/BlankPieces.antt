@@ -1,14 +1,13 @@
 -- Whether a piece is blank, by its bytes.
-use Rattle.std.proofs.Common.{◌≡◌, ◌≤◌, ◌<◌, ◌+◌, ◌-◌, ℕ, zero, suc, refl, sym, ap, subst, ◌∙◌, List, [], ◌∷◌, ◌++◌, length, get_or, Bool, true, false, ◌&&◌, ◌||◌, not, ◌==◌, nat_lt, if◌then◌else◌, arith, min}
+use Rattle.std.proofs.Common.{◌≡◌, ◌≤◌, ◌<◌, ◌+◌, ◌-◌, ℕ, zero, suc, refl, sym, ap, ◌∙◌, List, [], ◌∷◌, ◌++◌, length, get_or, Bool, true, false, ◌&&◌, ◌||◌, not, ◌==◌, nat_lt, if◌then◌else◌, arith, min}
 use Rattle.std.specs.List.{filter, list_all}
 use Rattle.std.specs.Prelude.{cond}
-use Rattle.std.proofs.lemmas.Bool.{eqb-true}
 use Rattle.std.proofs.lemmas.Bool.Decides.{nat_tests}
 use Rattle.std.proofs.lemmas.List.Elements.{filter-append}
 use Rattle.std.proofs.lemmas.List.Folds.{list_all-append}
 use Rattle.markdown_event.specs.declared.event.Point.{Point}
 use Rattle.markdown_content.specs.declared.parser.Piece.{Piece}
-use Rattle.markdown_content.specs.Codes.{Code, tab_value, line_feed, carriage_return, space_value, line_start, line_ending_len, next_column, tab_width, codes_of_tab, codes_of_byte, codes_from, codes_of, document_start, is_line_ending_byte, is_code_before, stop_of}
+use Rattle.markdown_content.specs.Codes.{Code, tab_value, line_feed, carriage_return, space_value, line_start, line_ending_len, next_column, tab_width, codes_of_tab, codes_of_byte, codes_from, codes_of, document_start, is_line_ending_byte, stop_of}
 use Rattle.markdown_content.specs.Content.{is_in_piece, piece_codes}
 use Rattle.markdown_model.specs.CodeTests.{is_whitespace_code}
 use Rattle.markdown_block_model.specs.LineRests.{is_blank_line}
@@ -177,22 +176,23 @@ and-second false y h = absurd (cc)
 
 blank-from : (piece : Piece) (bs : List ℕ) (before i : ℕ) (p : Point) → p.vs ≡ 0 → StandsAt before i p bs → blank_in piece (codes_from before p bs) ≡ spaces (first_from piece.start) (first_from piece.end) i bs
 blank-from piece [] before i p e h = refl
-blank-from piece (b ∷ rest) before i p e h = by_skip (before == carriage_return && b == line_feed) refl
+blank-from piece (b ∷ rest) before i p e h = by_skip (before == carriage_return && b == line_feed) refl (λ j q f k. blank-from piece rest b j q f k)
   where
     by_skip : (x : Bool) → (before == carriage_return && b == line_feed) ≡ x
+        → ((j : ℕ) (q : Point) → q.vs ≡ 0 → StandsAt b j q rest → blank_in piece (codes_from b q rest) ≡ spaces (first_from piece.start) (first_from piece.end) j rest)
         → blank_in piece (elim x [ true ↦ codes_from b p rest | false ↦ codes_of_byte p b rest ++ codes_from b (stop_of p (codes_of_byte p b rest)) rest ]) ≡ spaces (first_from piece.start) (first_from piece.end) i (b ∷ rest)
-    by_skip true k =
+    by_skip true k more =
         let feed : (b == line_feed) ≡ true = and-second (before == carriage_return) (b == line_feed) k in
         let at : p.index ≡ i + 1 = h ∙ ap (λ x. if x then i + 1 else i) k in
-        blank-from piece rest b (suc i) p e (behind-feed b i p rest feed at)
+        more (suc i) p e (behind-feed b i p rest feed at)
         ∙ ap (λ v. v && spaces (first_from piece.start) (first_from piece.end) (suc i) rest) (sym (space-any (is_out (first_from piece.start) (first_from piece.end) i) b (space-feed b feed)))
-    by_skip false k =
+    by_skip false k more =
         let at : p.index ≡ i = h ∙ ap (λ x. if x then i + 1 else i) k in
         let byte = byte-codes piece i b rest p e at in
         let q = stop_of p (codes_of_byte p b rest) in
         blank-append piece (codes_of_byte p b rest) (codes_from b q rest)
         ∙ ap (λ v. v && blank_in piece (codes_from b q rest)) byte.blank
-        ∙ ap (λ v. (is_out (first_from piece.start) (first_from piece.end) i || is_space_byte b) && v) (blank-from piece rest b (suc i) q byte.vs (behind-byte b i p q rest at byte.index))
+        ∙ ap (λ v. (is_out (first_from piece.start) (first_from piece.end) i || is_space_byte b) && v) (more (suc i) q byte.vs (behind-byte b i p q rest at byte.index))
 
 piece-spaces : (bytes : List ℕ) (piece : Piece) → is_blank_line (piece_codes (codes_of bytes) piece) ≡ spaces (first_from piece.start) (first_from piece.end) 0 bytes
 piece-spaces [] piece = refl

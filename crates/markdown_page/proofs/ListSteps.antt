@@ -1,8 +1,8 @@
 -- What a walk knows behind a row more.
-use Rattle.std.proofs.Common.{◌≡◌, ◌≤◌, ◌<◌, ◌+◌, ◌-◌, ℕ, zero, suc, refl, sym, ap, subst, ◌∙◌, List, [], ◌∷◌, ◌++◌, length, take, set, get_or, map, Bool, true, false, ◌||◌, ◌&&◌, not, Option, Some, None, arith, length-append, append_assoc, if◌then◌else◌, ◌==◌}
+use Rattle.std.proofs.Common.{◌≡◌, ◌≤◌, ◌<◌, ◌+◌, ◌-◌, ℕ, suc, refl, sym, ap, subst, ◌∙◌, List, [], ◌∷◌, ◌++◌, length, take, set, get_or, map, Bool, true, false, ◌||◌, ◌&&◌, not, Option, Some, None, arith, length-append, if◌then◌else◌, ◌==◌}
 use Rattle.std.specs.Prelude.{option_map, is_some}
 use Rattle.std.proofs.lemmas.Bool.Decides.{nat_tests}
-use Rattle.std.proofs.lemmas.List.{get_or_at, get_or_read, length-map, map-append, length-take, take_at, take-take, get_or-take, take_more, take_all, nil_from_length}
+use Rattle.std.proofs.lemmas.List.{get_or_at, get_or_read, length-map, map-append, length-take, take_at, take-take, get_or-take, take_more, take_all}
 use Rattle.markdown_block_model.specs.BlockTree.{Marker, bullet, ordered, Container, quote, item, blank, Tree, nothing, and_leaf, and_container, Leaf}
 use Rattle.markdown_block_model.specs.LooseLists.{are_alike, goes_on_list, ends_with_blank, are_apart, is_loose}
 use Rattle.markdown_block_line.specs.LineBlocks.{marker_of}

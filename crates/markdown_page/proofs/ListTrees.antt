@@ -1,8 +1,8 @@
 -- The places of a tree with a row more.
-use Rattle.std.proofs.Common.{◌≡◌, ◌≤◌, ◌<◌, ◌+◌, ◌-◌, ℕ, zero, suc, refl, sym, ap, ◌∙◌, List, [], ◌∷◌, ◌++◌, length, take, set, get_or, map, Bool, true, false, ◌||◌, ◌&&◌, not, Option, Some, None, arith, length-append, append_assoc}
-use Rattle.std.specs.Prelude.{option_map, is_some}
+use Rattle.std.proofs.Common.{◌≡◌, ◌≤◌, ◌<◌, ◌+◌, ℕ, zero, suc, refl, sym, ap, ◌∙◌, List, [], ◌∷◌, ◌++◌, length, take, set, get_or, Bool, true, false, ◌||◌, ◌&&◌, not, Option, Some, None, arith, length-append, append_assoc}
+use Rattle.std.specs.Prelude.{is_some}
 use Rattle.std.proofs.lemmas.List.{set_at, get_or_at}
-use Rattle.markdown_block_model.specs.BlockTree.{Marker, Container, quote, item, blank, Tree, nothing, and_leaf, and_container, Leaf}
+use Rattle.markdown_block_model.specs.BlockTree.{Marker, Container, quote, item, Tree, nothing, and_leaf, and_container}
 use Rattle.markdown_block_model.specs.LooseLists.{goes_on_list, ends_with_blank, are_apart, is_loose}
 use Rattle.markdown_blocks.specs.TreeDepth.{spine, inside_at, at_depth}
 use Rattle.markdown_page.specs.declared.lists.Place.{Place}

@@ -1,14 +1,14 @@
 -- The items that stand next, from the last row to the first.
-use Rattle.std.proofs.Common.{◌≡◌, ◌≤◌, ◌<◌, ◌+◌, ℕ, zero, suc, refl, sym, ap, subst, ◌∙◌, List, [], ◌∷◌, ◌++◌, length, take, drop, set, get_or, map, Bool, true, false, not, Option, Some, None, arith, length-append, append_assoc, if◌then◌else◌, nat_lt, ◌==◌}
-use Rattle.std.proofs.lemmas.List.{append-nil, length-map, drop_more, drop-map, get_or-map, take_more, take_all, drop_all, set_at, get_or_at, length-take-le}
+use Rattle.std.proofs.Common.{◌≡◌, ◌≤◌, ◌<◌, ◌+◌, ℕ, zero, suc, refl, sym, ap, subst, ◌∙◌, List, [], ◌∷◌, ◌++◌, length, take, drop, set, get_or, map, false, not, Option, Some, None, arith, length-append, append_assoc, if◌then◌else◌, nat_lt, ◌==◌}
+use Rattle.std.proofs.lemmas.List.{append-nil, length-map, drop_more, get_or-map, take_more, take_all, drop_all, set_at, get_or_at, length-take-le}
 use Rattle.std.proofs.lemmas.Bool.Decides.{nat_tests}
 use Rattle.markdown_block_model.specs.BlockTree as model
 use Rattle.markdown_block_model.specs.BlockTree.{Marker, Container, quote, item, blank, Tree, nothing, and_leaf, and_container}
-use Rattle.markdown_block_model.specs.LooseLists.{are_alike, goes_on_list, is_loose}
+use Rattle.markdown_block_model.specs.LooseLists.{goes_on_list, is_loose}
 use Rattle.markdown_block_line.specs.LineBlocks.{container_of}
 use Rattle.markdown_block_line.specs.declared.containers.Container.{Container as RowContainer}
 use Rattle.markdown_block_line.specs.declared.containers.Container.TheVariants.{Quote, Item}
-use Rattle.markdown_blocks.specs.TreeDepth.{spine, inside_at, at_depth}
+use Rattle.markdown_blocks.specs.TreeDepth.{spine, at_depth}
 use Rattle.markdown_blocks.specs.BlockRows.{leaf_of, rows_from}
 use Rattle.markdown_blocks.specs.declared.block.Leaf.{Leaf as RowLeaf}
 use Rattle.markdown_blocks.specs.declared.block.Leaf.TheVariants.{Blank, ThematicBreak, Heading, Underlined, Paragraph, IndentedCode, FencedCode, Html}
@@ -19,7 +19,7 @@ use Rattle.markdown_page.specs.declared.lists.Place.{Place}
 use Rattle.markdown_page.specs.declared.lists.ListItem.{ListItem}
 use Rattle.markdown_page.specs.NestedRows.{AreNested}
 use Rattle.markdown_page.specs.ListPlaces.{no_place, places_in}
-use Rattle.markdown_page.specs.ListWalks.{places_so_far, item_of, is_loose_item, RowKind, passes, parts, is_item, leaf_kind, row_kind, row_depth, next_at, with_next, place_before, nexts_before}
+use Rattle.markdown_page.specs.ListWalks.{places_so_far, is_loose_item, RowKind, passes, parts, is_item, leaf_kind, row_kind, row_depth, next_at, with_next, place_before, nexts_before}
 
 -- What the rows of a tree are to the items before them.
 
@@ -93,8 +93,13 @@ kinds-length d (and_leaf s l) = omega (arith, kinds-length d s, length-append (k
 kinds-length d (and_container s quote i) =
     omega (arith, kinds-length d s, kinds-length (suc d) i, length-append (kinds d s) ((d, parts) ∷ kinds (suc d) i), length-append (places_so_far s) (no_place ∷ places_so_far i))
 kinds-length d (and_container s (item m c) i) =
-    omega (arith, kinds-length d s, kinds-length (suc d) i, length-append (kinds d s) ((d, is_item m) ∷ kinds (suc d) i),
-    length-append (places_so_far s) (record { is_loose = is_loose (and_container s (item m c) i); begins = not (goes_on_list m s); ends = false } ∷ places_so_far i))
+    omega (
+      arith,
+      kinds-length d s,
+      kinds-length (suc d) i,
+      length-append (kinds d s) ((d, is_item m) ∷ kinds (suc d) i),
+      length-append (places_so_far s) (record { is_loose = is_loose (and_container s (item m c) i); begins = not (goes_on_list m s); ends = false } ∷ places_so_far i),
+    )
 
 -- The rows from the last to the first.
 

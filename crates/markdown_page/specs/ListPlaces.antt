@@ -1,5 +1,5 @@
 -- Where the items of a document stand in their lists (CommonMark 5.3).
-use Rattle.std.specs.Prelude.{Bool, true, false, not, List, [], ◌∷◌, ◌++◌, Option, Some, None}
+use Rattle.std.specs.Prelude.{false, not, List, [], ◌∷◌, ◌++◌, Option, Some, None}
 use Rattle.markdown_block_model.specs.BlockTree.{quote, item, blank, Tree, nothing, and_leaf, and_container}
 use Rattle.markdown_block_model.specs.LooseLists.{goes_on_list}
 use Rattle.markdown_page_model.specs.PageHtml.{NextItem, goes_on, is_of_loose_list}

@@ -307,7 +307,11 @@ fn places_so_far(alloc: Global, document: &[u8], rows: &[Row]) -> Result<Vec<Pla
 fn next_at(nexts: &[Option<ListItem>], depth: usize) -> Option<ListItem>
     ensures { option_map item_of result ≡ next_at nexts.now depth }
 {
-    if depth < nexts.len() { nexts[depth] } else { None }
+    if depth < nexts.len() {
+        nexts[depth]
+    } else {
+        None
+    }
 }
 
 // Makes an item the next one at a depth, or none, and drops those that stand deeper.
@@ -332,18 +336,18 @@ fn place_before(next: Option<ListItem>, marker: Marker, place: Place) -> Place
 {
     let goes_on = goes_on(next, marker);
     Place {
-        is_loose: if goes_on { is_loose(next) } else { place.is_loose },
+        is_loose: if goes_on {
+            is_loose(next)
+        } else {
+            place.is_loose
+        },
         begins: place.begins,
         ends: !goes_on,
     }
 }
 
 // The place of a row, by the items that stand next behind it. Then these are those that stand next before it.
-fn pass_row(
-    row: &Row,
-    place: Place,
-    nexts: &mut Vec<Option<ListItem>>,
-) -> Result<Place, AllocError>
+fn pass_row(row: &Row, place: Place, nexts: &mut Vec<Option<ListItem>>) -> Result<Place, AllocError>
     ensures place { IfOk result (λ p. p ≡ place_before (next_at nexts.old.items (row_depth row.now)) (row_kind row.now) place) }
     ensures nexts { IfOk result (λ _. (k : ℕ) → next_at nexts.new.items k ≡ nexts_before (next_at nexts.old.items) (row_depth row.now) (row_kind row.now) place k) }
 {

@@ -1,5 +1,5 @@
 use Rattle.std.proofs.Common.{◌≡◌, ◌+◌, ◌-◌, refl, subst, arith}
-use Rattle.markdown_page.proofs.NextItems.{IsBack, back-step, back-init, back-end}
+use Rattle.markdown_page.proofs.NextItems.{IsBack, back-step, back-end}
 use Rattle.markdown_page.proofs.lists.end_lists.Goals as goal
 
 pub loop-index-preserved : goal.loop-index-preserved

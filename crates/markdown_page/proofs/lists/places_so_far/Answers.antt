@@ -1,4 +1,4 @@
-use Rattle.std.proofs.Common.{◌≡◌, ℕ, ◌+◌, ◌++◌, ◌∷◌, [], ap, subst, sym, ◌∙◌, take, drop, arith, length, List}
+use Rattle.std.proofs.Common.{◌≡◌, ℕ, ◌+◌, ◌++◌, ◌∷◌, [], ap, subst, sym, ◌∙◌, take, drop, length, List}
 use Rattle.std.proofs.lemmas.List.{take_more, drop_more}
 use Rattle.markdown_block_model.specs.BlockTree.{nothing}
 use Rattle.markdown_blocks.specs.BlockRows.{rows_from, with_row}

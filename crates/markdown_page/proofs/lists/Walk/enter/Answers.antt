@@ -1,5 +1,5 @@
 use Rattle.std.proofs.Common.{refl, rules}
-use Rattle.markdown_block_model.specs.BlockTree.{Tree, nothing, and_container}
+use Rattle.markdown_block_model.specs.BlockTree.{nothing, and_container}
 use Rattle.markdown_page.specs.declared.lists.OpenContainer.{OpenContainer}
 use Rattle.markdown_page.proofs.ListSteps.{walked-container}
 use Rattle.markdown_page.proofs.lists.Walk.enter.Goals as goal

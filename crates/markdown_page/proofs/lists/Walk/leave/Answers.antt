@@ -1,4 +1,4 @@
-use Rattle.std.proofs.Common.{length, arith}
+use Rattle.std.proofs.Common.{arith}
 use Rattle.markdown_page.proofs.ListSteps.{row-within, walked-pass}
 use Rattle.markdown_page.proofs.lists.Walk.leave.Goals as goal
 

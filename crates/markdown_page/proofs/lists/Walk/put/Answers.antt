@@ -18,8 +18,8 @@ returns-clause-places c = λ t f h a.
       | in-Some+then-is_apart+then-is_some w ↦ (
           let there = rw c.deref.ensures.value at w.in-Some.ensures.item in
           push ∙ ap (λ (v : Walk). v.places.items ++ c.args.place ∷ []) w.self-is
-              ∙ loose-put t f before c.args.place w.index_mut.result.now c.args.is_apart w.in-Some.container.now h there.3.0 there.1 a w.if-is_apart.true (sym w.is_some.ensures ∙ w.if-is_some.true) w.index_mut.ensures.value
-      )
+          ∙ loose-put t f before c.args.place w.index_mut.result.now c.args.is_apart w.in-Some.container.now h there.3.0 there.1 a w.if-is_apart.true (sym w.is_some.ensures ∙ w.if-is_some.true) w.index_mut.ensures.value
+          )
       | in-Some+else-is_apart w ↦ (
           let there = rw c.deref.ensures.value at w.in-Some.ensures.item in
           elim w.else-is_apart.branch [
@@ -28,9 +28,9 @@ returns-clause-places c = λ t f h a.
             | else-is_apart-via-else-is_apart v ↦ push ∙ ap (λ (x : Walk). x.places.items ++ c.args.place ∷ []) (w.self-is ∙ v.self-is)
                 ∙ plain-put t f before c.args.place c.args.is_apart w.in-Some.container.now h there.3.0 there.1 a (apart-false w.in-Some.container.now c.args.is_apart before.places.items v.if-is_apart.false)
           ]
-      )
+          )
       | in_default w ↦ (
           let none = rw c.deref.ensures.value at w.in_default.ensures.item in
           push ∙ ap (λ (x : Walk). x.places.items ++ c.args.place ∷ []) w.self-is ∙ walked-first t f before c.args.place c.args.is_apart h (omega (arith, none.3)) a
-      )
+          )
     ]

@@ -1,6 +1,6 @@
 use Rattle.std.proofs.Common.{◌∙◌, ◌≡◌, ◌&&◌, refl, ap, sym, subst, not, if◌then◌else◌, None, length}
 use Rattle.std.specs.Prelude.{option_map}
-use Rattle.markdown_block_model.specs.BlockTree.{Tree, nothing, and_leaf}
+use Rattle.markdown_block_model.specs.BlockTree.{Tree, and_leaf}
 use Rattle.markdown_blocks.specs.TreeDepth.{inside_at, at_depth}
 use Rattle.markdown_blocks.specs.BlockRows.{leaf_of}
 use Rattle.markdown_page.specs.declared.lists.Walk.{Walk}
