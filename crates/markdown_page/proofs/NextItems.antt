@@ -1,6 +1,6 @@
 -- The items that stand next, from the last row to the first.
 use Rattle.std.proofs.Common.{◌≡◌, ◌≤◌, ◌<◌, ◌+◌, ℕ, zero, suc, refl, sym, ap, subst, ◌∙◌, List, [], ◌∷◌, ◌++◌, length, take, drop, set, get_or, map, false, not, Option, Some, None, arith, length-append, append_assoc, if◌then◌else◌, nat_lt, ◌==◌}
-use Rattle.std.proofs.lemmas.List.{append-nil, length-map, drop_more, get_or-map, take_more, take_all, drop_all, set_at, get_or_at, length-take-le}
+use Rattle.std.proofs.lemmas.List.{append-nil, length-map, drop_more, get_or-map, take_more, set_at, get_or_at, length-take-le}
 use Rattle.std.proofs.lemmas.Bool.Decides.{nat_tests}
 use Rattle.markdown_block_model.specs.BlockTree as model
 use Rattle.markdown_block_model.specs.BlockTree.{Marker, Container, quote, item, blank, Tree, nothing, and_leaf, and_container}
@@ -17,7 +17,7 @@ use Rattle.markdown_blocks.specs.declared.block.Row.TheVariants.{LeafAt, Contain
 use Rattle.markdown_page_model.specs.PageHtml.{NextItem, goes_on, is_of_loose_list}
 use Rattle.markdown_page.specs.declared.lists.Place.{Place}
 use Rattle.markdown_page.specs.declared.lists.ListItem.{ListItem}
-use Rattle.markdown_page.specs.NestedRows.{AreNested}
+use Rattle.markdown_blocks.specs.NestedRows.{AreNested}
 use Rattle.markdown_page.specs.ListPlaces.{no_place, places_in}
 use Rattle.markdown_page.specs.ListWalks.{places_so_far, is_loose_item, RowKind, passes, parts, is_item, leaf_kind, row_kind, row_depth, next_at, with_next, place_before, nexts_before}
 
@@ -204,15 +204,6 @@ pub record IsBack (rows : List Row) (first : List Place) (index : ℕ) (nexts : 
   pub within : index ≤ length rows
   pub next : (k : ℕ) → next_at nexts k ≡ (back (drop index (map of_row rows)) (drop index first) start).next k
   pub done : places ≡ take index first ++ (back (drop index (map of_row rows)) (drop index first) start).places
-
-pub back-init : (rows : List Row) (first : List Place) (nexts : List (Option ListItem)) (n : ℕ) → n ≡ length rows → length first ≡ length rows → nexts ≡ [] → IsBack rows first n nexts first
-back-init rows first nexts n e l empty =
-    let none : drop n (map of_row rows) ≡ [] = drop_all n (map of_row rows) (omega (arith, length-map rows of_row)) in
-    record {
-      within = omega arith;
-      next = λ k. ap (λ v. next_at v k) empty ∙ ap (λ v. (back v (drop n first) start).next k) (sym none);
-      done = sym (ap (λ v. take n first ++ (back v (drop n first) start).places) none ∙ append-nil (take n first) ∙ take_all n first (omega arith));
-    }
 
 with-next-same : (n m : ℕ → Option NextItem) (d k : ℕ) (x y : Option NextItem) → n k ≡ m k → x ≡ y → with_next n d x k ≡ with_next m d y k
 with-next-same n m d k x y h e = ap (λ v. if nat_lt k d then v else (if k == d then x else None)) h ∙ ap (λ v. if nat_lt k d then m k else (if k == d then v else None)) e

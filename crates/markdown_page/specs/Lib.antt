@@ -3,4 +3,3 @@ pub mod DefinitionStrings
 pub mod BlankPieces
 pub mod ListPlaces
 pub mod ListWalks
-pub mod NestedRows

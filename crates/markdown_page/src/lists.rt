@@ -10,7 +10,7 @@ ghost use Rattle.markdown_block_model.specs.LooseLists.{are_alike, ends_with_bla
 ghost use Rattle.markdown_block_line.specs.LineBlocks.{marker_of, container_of};
 ghost use Rattle.markdown_blocks.specs.TreeDepth.{inside_at, at_depth};
 ghost use Rattle.markdown_blocks.specs.BlockRows.{leaf_of, with_row, rows_from};
-ghost use Rattle.markdown_page.specs.NestedRows.{AreNested};
+ghost use Rattle.markdown_blocks.specs.NestedRows.{AreNested};
 ghost use Rattle.markdown_blocks.specs.TextTrims.{is_space_byte};
 ghost use Rattle.markdown_blocks.specs.declared.block.Row.{Row};
 ghost use Rattle.markdown_page_model.specs.PageHtml.{goes_on};

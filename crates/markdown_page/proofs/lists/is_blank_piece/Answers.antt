@@ -1,5 +1,5 @@
 use Rattle.std.proofs.Common.{◌∙◌, sym, arith}
-use Rattle.markdown_page.proofs.BlankPieces.{piece-blank, piece-not-blank}
+use Rattle.markdown_page.proofs.PieceBytes.{piece-blank, piece-not-blank}
 use Rattle.markdown_page.proofs.lists.is_blank_piece.Goals as goal
 
 pub returns-then-not-is_space : goal.returns-then-not-is_space

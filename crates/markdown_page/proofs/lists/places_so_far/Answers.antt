@@ -5,7 +5,7 @@ use Rattle.markdown_blocks.specs.BlockRows.{rows_from, with_row}
 use Rattle.markdown_blocks.specs.declared.block.Row.{Row}
 use Rattle.markdown_blocks.specs.declared.block.Row.TheVariants.{LeafAt, ContainerAt}
 use Rattle.markdown_blocks.proofs.ReaderTrees.{rows_from-push}
-use Rattle.markdown_page.specs.NestedRows.{AreNested}
+use Rattle.markdown_blocks.specs.NestedRows.{AreNested}
 use Rattle.markdown_page.specs.ListWalks.{IsWalked}
 use Rattle.markdown_page.proofs.lists.places_so_far.Goals as goal
 

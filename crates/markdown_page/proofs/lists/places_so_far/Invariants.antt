@@ -1,7 +1,7 @@
 use Rattle.std.proofs.Common.{length, take, drop}
 use Rattle.markdown_block_model.specs.BlockTree.{nothing}
 use Rattle.markdown_blocks.specs.BlockRows.{rows_from}
-use Rattle.markdown_page.specs.NestedRows.{AreNested}
+use Rattle.markdown_blocks.specs.NestedRows.{AreNested}
 use Rattle.markdown_page.specs.ListWalks.{IsWalked}
 use Rattle.markdown_page.proofs.lists.places_so_far.Given as goal
 
