@@ -2,6 +2,7 @@
 use Rattle.std.proofs.Common.{◌≡◌, ◌≤◌, ◌<◌, ◌+◌, ◌-◌, ℕ, suc, refl, sym, ap, subst, ◌∙◌, List, [], ◌∷◌, ◌++◌, length, take, set, get_or, map, Bool, true, false, ◌||◌, ◌&&◌, not, Option, Some, None, arith, length-append, if◌then◌else◌, ◌==◌}
 use Rattle.std.specs.Prelude.{option_map, is_some}
 use Rattle.std.proofs.lemmas.Bool.Decides.{nat_tests}
+use Rattle.std.proofs.Math.Bool.{or-false, and-false, and-true}
 use Rattle.std.proofs.lemmas.List.{get_or_at, get_or_read, length-map, map-append, length-take, take_at, take-take, get_or-take, take_more, take_all}
 use Rattle.markdown_block_model.specs.BlockTree.{Marker, bullet, ordered, Container, quote, item, blank, Tree, nothing, and_leaf, and_container, Leaf}
 use Rattle.markdown_block_model.specs.LooseLists.{are_alike, goes_on_list, ends_with_blank, are_apart, is_loose}
@@ -113,18 +114,6 @@ leaf-last s l = refl
 leaf-blank : (s : Tree) (l : Leaf) → ends_with_blank (and_leaf s l) ≡ ends_with_blank (and_leaf nothing l)
 leaf-blank s blank = refl
 leaf-blank s l = refl
-
-and-false : (a : Bool) → (a && false) ≡ false
-and-false true = refl
-and-false false = refl
-
-and-true : (a : Bool) → (a && true) ≡ a
-and-true true = refl
-and-true false = refl
-
-or-false : (a : Bool) → (a || false) ≡ a
-or-false true = refl
-or-false false = refl
 
 leaf-apart : (s : Tree) (l : Leaf) → are_apart (and_leaf s l) ≡ (are_apart s || (ends_with_blank s && not (is_blank_leaf l)))
 leaf-apart s blank = sym (ap (λ v. are_apart s || v) (and-false (ends_with_blank s)) ∙ or-false (are_apart s))

@@ -1,6 +1,7 @@
 -- The places of a tree with a row more.
 use Rattle.std.proofs.Common.{◌≡◌, ◌≤◌, ◌<◌, ◌+◌, ℕ, zero, suc, refl, sym, ap, ◌∙◌, List, [], ◌∷◌, ◌++◌, length, take, set, get_or, Bool, true, false, ◌||◌, ◌&&◌, not, Option, Some, None, arith, length-append, append_assoc}
 use Rattle.std.specs.Prelude.{is_some}
+use Rattle.std.proofs.Math.Bool.{or-false, or-true}
 use Rattle.std.proofs.lemmas.List.{set_at, get_or_at}
 use Rattle.markdown_block_model.specs.BlockTree.{Marker, Container, quote, item, Tree, nothing, and_leaf, and_container}
 use Rattle.markdown_block_model.specs.LooseLists.{goes_on_list, ends_with_blank, are_apart, is_loose}
@@ -15,14 +16,6 @@ apart-inside n f nothing = refl
 apart-inside n f (and_leaf b l) = refl
 apart-inside n f (and_container b quote i) = refl
 apart-inside n f (and_container b (item m c) i) = refl
-
-or-false : (a : Bool) → (a || false) ≡ a
-or-false true = refl
-or-false false = refl
-
-or-true : (a : Bool) → (a || true) ≡ true
-or-true true = refl
-or-true false = refl
 
 -- an item behind siblings, by whether its own blocks are apart
 abbrev item_place : Bool → Marker → Tree → Place

@@ -3,6 +3,7 @@ use Rattle.std.proofs.Common.{◌≡◌, ◌≤◌, ◌<◌, ◌+◌, ◌-◌, �
 use Rattle.std.specs.List.{filter, list_all}
 use Rattle.std.specs.Prelude.{cond}
 use Rattle.std.proofs.lemmas.Bool.Decides.{nat_tests}
+use Rattle.std.proofs.Math.Bool.{or-true, and-false, and-true}
 use Rattle.std.proofs.lemmas.List.Elements.{filter-append}
 use Rattle.std.proofs.lemmas.List.Folds.{list_all-append}
 use Rattle.markdown_event.specs.declared.event.Point.{Point}
@@ -39,10 +40,6 @@ spaces-not s e i (b ∷ bs) zero l a c h =
     let y : nat_lt i e ≡ true = grind (arith, nat_tests) in
     rw (x, y, h) refl
 spaces-not s e i (b ∷ bs) (suc k) l a c h = ap (λ v. (is_out s e i || is_space_byte b) && v) (spaces-not s e (suc i) bs k (omega arith) (omega arith) (omega arith) h) ∙ and-false (is_out s e i || is_space_byte b)
-  where
-    and-false : (x : Bool) → (x && false) ≡ false
-    and-false true = refl
-    and-false false = refl
 
 -- Where a code stands that is whole.
 
@@ -64,17 +61,9 @@ blank_in piece cs = list_all is_whitespace_code (filter (is_in_piece piece) cs)
 one-code : (piece : Piece) (c : Code) → blank_in piece (c ∷ []) ≡ (not (is_in_piece piece c) || is_whitespace_code c)
 one-code piece c = by_test (is_in_piece piece c)
   where
-    and-true : (x : Bool) → (x && true) ≡ x
-    and-true true = refl
-    and-true false = refl
-
     by_test : (x : Bool) → list_all is_whitespace_code (cond x (c ∷ []) []) ≡ (not x || is_whitespace_code c)
     by_test true = and-true (is_whitespace_code c)
     by_test false = refl
-
-or-true : (x : Bool) → (x || true) ≡ true
-or-true true = refl
-or-true false = refl
 
 filtered-more : (piece : Piece) (c : Code) (cs : List Code) → is_whitespace_code c ≡ true → blank_in piece (c ∷ cs) ≡ blank_in piece cs
 filtered-more piece c cs h = by_test (is_in_piece piece c)

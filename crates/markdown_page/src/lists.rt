@@ -34,6 +34,7 @@ pub struct Place {
     pub ends: bool,
 }
 
+// What is no item.
 const NO_PLACE: Place = Place {
     is_loose: false,
     begins: false,
@@ -114,7 +115,7 @@ fn is_space(byte: u8) -> bool
     byte == b' ' || byte == b'\t' || byte == b'\n' || byte == b'\r'
 }
 
-// The first byte from a place on that is no tab which begins before it, or how many bytes there are.
+// The first byte that stands at a place or behind it, or how many bytes there are.
 fn first_byte(place: (usize, usize), len: usize) -> usize
     ensures from { result ≡ min (first_from place) len }
     ensures within { result ≤ len }

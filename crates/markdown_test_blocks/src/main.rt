@@ -2,15 +2,18 @@
 //!
 //! In a document `|` stands for a line feed, and `~` for a tab. In a line of answer a paragraph is `p`, a heading that an underline made `h`, and a
 //! thematic break `b`. Behind the first two stand the link reference definitions at the front, each as `[label]<destination>(title)`, and how many pieces
-//! the text has in the document without its definitions.
+//! the text has in the document without its definitions. An item is `-` in a tight list and `=` in a loose one. Before it stands `{` where it begins the
+//! list, and behind it `}` where it ends the list.
 //!
 //! Where memory is refused, the answers end there, and the status is 3.
 #![tactic(auto)]
 
 use markdown_block_definitions::document;
 use markdown_block_definitions::front::{Definition, definitions_at_front};
+use markdown_block_line::containers::Container;
 use markdown_blocks::block::{Leaf, Row};
 use markdown_content::parser::Piece;
+use markdown_page::lists::{Place, places};
 use std::alloc::{AllocError, Global};
 use std::io::{Read, Write};
 use std::process::ExitCode;
@@ -76,14 +79,36 @@ fn push_leaf(
     Ok(())
 }
 
+// Appends where an item stands in its list.
+fn push_place(out: &mut Vec<u8>, place: Place) -> Result<(), AllocError> {
+    if place.begins {
+        out.push(b'{')?;
+    }
+    out.push(if place.is_loose { b'=' } else { b'-' })?;
+    if place.ends {
+        out.push(b'}')?;
+    }
+    Ok(())
+}
+
 // Appends the answer to a document.
 fn push_answer(alloc: Global, out: &mut Vec<u8>, document: &[u8]) -> Result<(), AllocError> {
     if document.len() <= usize::MAX / 8 {
         let blocks = document::blocks(alloc, document)?;
         let resolved = document::read(alloc, document)?.blocks;
-        for (row, left) in blocks.rows.iter().zip(resolved.rows.iter()) {
-            if let (Row::LeafAt(_, leaf), Row::LeafAt(_, left)) = (row, left) {
-                push_leaf(alloc, out, document, leaf, left)?;
+        let places = places(alloc, document, resolved.rows.as_slice())?;
+        for ((row, left), place) in blocks
+            .rows
+            .iter()
+            .zip(resolved.rows.iter())
+            .zip(places.iter())
+        {
+            match (row, left) {
+                (Row::LeafAt(_, leaf), Row::LeafAt(_, left)) => push_leaf(
+                    alloc, out, document, leaf, left,
+                )?,
+                (Row::ContainerAt(_, Container::Item(_, _)), _) => push_place(out, *place)?,
+                _ => {}
             }
         }
     }
