@@ -127,7 +127,7 @@ fn first_byte(place: (usize, usize), len: usize) -> usize
 }
 
 // Whether a piece of a document has nothing but whitespace.
-fn is_blank_piece(document: &[u8], piece: Piece) -> bool
+pub(crate) fn is_blank_piece(document: &[u8], piece: Piece) -> bool
     ensures { result ≡ is_blank_line (piece_codes (codes_of document.now) piece) }
 {
     let start = first_byte(piece.start, document.len());
