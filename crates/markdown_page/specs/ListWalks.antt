@@ -5,7 +5,7 @@ use Rattle.markdown_block_model.specs.LooseLists.{goes_on_list, ends_with_blank,
 use Rattle.markdown_block_line.specs.LineBlocks.{marker_of}
 use Rattle.markdown_block_line.specs.declared.containers.Container.TheVariants.{Quote, Item}
 use Rattle.markdown_blocks.specs.TreeDepth.{inside_at}
-use Rattle.markdown_blocks.specs.declared.block.Leaf as rows_leaf
+use Rattle.markdown_blocks.specs.declared.block.Leaf.{Leaf as RowLeaf}
 use Rattle.markdown_blocks.specs.declared.block.Leaf.TheVariants as rows
 use Rattle.markdown_blocks.specs.declared.block.Row.{Row}
 use Rattle.markdown_blocks.specs.declared.block.Row.TheVariants.{LeafAt, ContainerAt}
@@ -25,6 +25,7 @@ places_so_far (and_container before (item m columns) inside) =
     places_so_far before
     ++ record { is_loose = is_loose (and_container before (item m columns) inside); begins = not (goes_on_list m before); ends = false } ∷ places_so_far inside
 
+-- an item's marker
 abbrev pub marker_in : Container → Option Marker
 marker_in quote = None
 marker_in (item m columns) = Some m
@@ -45,6 +46,7 @@ last_item (and_leaf before leaf) = None
 last_item (and_container before quote inside) = None
 last_item (and_container before (item m columns) inside) = Some (record { marker = m; is_loose = is_loose (and_container before (item m columns) inside) })
 
+-- what the walk's open containers and items are in the tree
 abbrev pub opened : OpenContainer → ℕ × Option Marker
 opened o = (o.row, option_map marker_of o.marker)
 
@@ -83,7 +85,7 @@ pub data RowKind : Type 0 where
   parts : RowKind
   is_item : Marker → RowKind
 
-abbrev pub leaf_kind : rows_leaf.Leaf → RowKind
+abbrev pub leaf_kind : RowLeaf → RowKind
 leaf_kind rows.Blank = passes
 leaf_kind leaf = parts
 
@@ -115,4 +117,5 @@ place_before next (is_item m) place =
 abbrev pub nexts_before : (ℕ → Option NextItem) → ℕ → RowKind → Place → ℕ → Option NextItem
 nexts_before nexts depth passes place = nexts
 nexts_before nexts depth parts place = with_next nexts depth None
-nexts_before nexts depth (is_item m) place = with_next nexts depth (Some (record { marker = m; is_loose = (place_before (nexts depth) (is_item m) place).is_loose }))
+nexts_before nexts depth (is_item m) place =
+    with_next nexts depth (Some (record { marker = m; is_loose = (place_before (nexts depth) (is_item m) place).is_loose }))
