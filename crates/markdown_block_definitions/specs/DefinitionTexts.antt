@@ -1,5 +1,5 @@
 -- Definitions as bytes.
-use Rattle.std.specs.Prelude.{◌≡◌, ℕ, ◌≤◌, List, length, map, drop, Option, Some, None, option_map}
+use Rattle.std.specs.Prelude.{◌≡◌, ℕ, ◌≤◌, List, ◌++◌, length, map, drop, Option, Some, None, option_map}
 use Rattle.std.specs.Global.{Vec}
 use Rattle.markdown_content.specs.Codes.{Code}
 use Rattle.markdown_model.specs.CodeTests.{values_of}
@@ -31,3 +31,7 @@ pub record IsFrontOf (cs : List Code) (f : Front) : Type 0 where
   pub definitions_are : map texts_of f.definitions.items ≡ map texts_in (definitions_of cs).0
   pub rest : lines_of (definitions_of cs).1 ≡ drop f.lines (lines_of cs)
   pub within : f.lines ≤ length (lines_of cs)
+
+-- definitions are put behind others
+abbrev pub AreAdded : (before after : List Definition) → List link_definitions.Definition → Type 0
+AreAdded before after ds = map texts_of after ≡ map texts_of before ++ map texts_in ds

@@ -1,11 +1,12 @@
 //! Link reference definitions (CommonMark 4.7) at the front of a text.
 
-ghost use Rattle.std.specs.Prelude.{◌≡◌, ◌≤◌, length, drop, List, Some, None, IfSome, MatchOption};
+ghost use Rattle.std.specs.Prelude.{◌≡◌, ◌≤◌, length, drop, List, Some, None, IfSome};
 ghost use Rattle.markdown_content.specs.Codes.{Code};
 ghost use Rattle.markdown_model.specs.CodeTests.{values_of};
 ghost use Rattle.markdown_model.specs.Grammar.{optional_tree};
 ghost use Rattle.markdown_model.specs.Whitespace.{space_or_tab_eol};
 ghost use Rattle.markdown_block_model.specs.LinkDefinitions.{definition, title_of_definition, definitions_of};
+ghost use Rattle.markdown_block_line.specs.LineBlocks.{Says};
 ghost use Rattle.markdown_block_definitions.specs.TextReadings.{left_by, firsts_of};
 ghost use Rattle.markdown_block_definitions.specs.DefinitionParts.{ending, title_of, definition_of, len_of, IsEndingWithin, IsWithin};
 
@@ -44,7 +45,7 @@ pub(crate) struct Found {
 
 // The title that stands first, apart from what is before it and last on its line.
 fn title_at(values: &[u8]) -> Option<Ending>
-    ensures read { (cs : List Code) → values_of cs ≡ values.now → MatchOption result (title_of_definition cs ≡ None) (λ e. title_of_definition cs ≡ Some (title_of e cs, drop e.len cs)) }
+    ensures read { (cs : List Code) → values_of cs ≡ values.now → Says result (λ e. (title_of e cs, drop e.len cs)) (title_of_definition cs) }
     ensures within { IfSome result (IsEndingWithin (length values.now)) }
 {
     let Some(start) = gap_len(values) else {
@@ -65,7 +66,7 @@ fn title_at(values: &[u8]) -> Option<Ending>
 
 // What ends a definition behind its destination.
 fn ending_at(values: &[u8]) -> Option<Ending>
-    ensures read { (cs : List Code) → values_of cs ≡ values.now → MatchOption result (ending cs ≡ None) (λ e. ending cs ≡ Some (title_of e cs, drop e.len cs)) }
+    ensures read { (cs : List Code) → values_of cs ≡ values.now → Says result (λ e. (title_of e cs, drop e.len cs)) (ending cs) }
     ensures within { IfSome result (IsEndingWithin (length values.now)) }
 {
     if let Some(ending) = title_at(values) {
@@ -91,7 +92,8 @@ fn optional_gap_len(values: &[u8]) -> usize
 // The definition that stands first. `firsts` says which of the codes are no later columns of a tab.
 pub(crate) fn definition_at(values: &[u8], firsts: &[bool]) -> Option<Found>
     requires { length firsts.now ≡ length values.now }
-    ensures read { (cs : List Code) → values_of cs ≡ values.now → firsts_of cs ≡ firsts.now → MatchOption result (definition cs ≡ None) (λ f. definition cs ≡ Some (definition_of f cs, drop (len_of f) cs)) }
+    ensures read { (cs : List Code) → values_of cs ≡ values.now → firsts_of cs ≡ firsts.now
+        → Says result (λ f. (definition_of f cs, drop (len_of f) cs)) (definition cs) }
     ensures within { IfSome result (IsWithin (length values.now)) }
 {
     let Some(label) = label_len(values, firsts) else {

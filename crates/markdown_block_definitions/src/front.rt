@@ -105,7 +105,8 @@ fn push_first(value: u8, first: bool, text: &mut Vec<u8>) -> Result<(), AllocErr
 // Appends the values of the codes that are no later columns of a tab.
 fn push_firsts(values: &[u8], firsts: &[bool], text: &mut Vec<u8>) -> Result<(), AllocError>
     requires { length firsts.now ≡ length values.now }
-    ensures { IfOk result (λ _. (cs : List Code) → values_of cs ≡ values.now → firsts_of cs ≡ firsts.now → text.new.items ≡ text.old.items ++ values_of (first_columns cs)) }
+    ensures { IfOk result (λ _. (cs : List Code) → values_of cs ≡ values.now → firsts_of cs ≡ firsts.now
+        → text.new.items ≡ text.old.items ++ values_of (first_columns cs)) }
 {
     let mut index = 0;
     while index < values.len() {
@@ -135,7 +136,8 @@ fn copy_title(
 ) -> Result<Option<Vec<u8>>, AllocError>
     requires same { length firsts.now ≡ length values.now }
     requires within { IsEndingWithin (length values.now) ending }
-    ensures { IfOk result (λ t. (cs : List Code) → values_of cs ≡ values.now → firsts_of cs ≡ firsts.now → items_of t ≡ option_map text_of (title_of ending cs)) }
+    ensures { IfOk result (λ t. (cs : List Code) → values_of cs ≡ values.now → firsts_of cs ≡ firsts.now
+        → items_of t ≡ option_map text_of (title_of ending cs)) }
 {
     match ending.title {
         None => Ok(None),

@@ -1,12 +1,12 @@
 //! Rows without the link reference definitions at the front of their texts (CommonMark 4.7).
 
-ghost use Rattle.std.specs.Prelude.{◌≡◌, ◌≤◌, ◌++◌, [], length, map, flat_map, IsUtf8, IfOk, All};
+ghost use Rattle.std.specs.Prelude.{◌≡◌, ◌≤◌, [], length, flat_map, IsUtf8, IfOk, All};
 ghost use Rattle.markdown_content.specs.Content.{document_limit, content_of, IsTextContent};
 ghost use Rattle.markdown_block_model.specs.LineRests.{trimmed_end};
 ghost use Rattle.markdown_block_model.specs.LinkDefinitions.{definitions_of, definitions_in};
 ghost use Rattle.markdown_blocks.specs.BlockRows.{leaf_of};
 ghost use Rattle.markdown_blocks.specs.TextRows.{ArePlaced, HasPlacedText, IsPlacedRow};
-ghost use Rattle.markdown_block_definitions.specs.DefinitionTexts.{texts_of, texts_in};
+ghost use Rattle.markdown_block_definitions.specs.DefinitionTexts.{AreAdded};
 ghost use Rattle.markdown_block_definitions.specs.ResolvedRows.{definitions_of_row, IsResolvedLeaf, IsResolvedRow, AreResolved};
 
 use crate::front::{Definition, definitions_at_front};
@@ -24,7 +24,7 @@ fn resolve_text(
 ) -> Result<(), AllocError>
     requires { ArePlaced document.now text.old.items }
     ensures codes { IfOk result (λ _. content_of document.now text.new.items ≡ trimmed_end (definitions_of (content_of document.now text.old.items)).1) }
-    ensures found { IfOk result (λ _. map texts_of definitions.new.items ≡ map texts_of definitions.old.items ++ map texts_in (definitions_of (content_of document.now text.old.items)).0) }
+    ensures found { IfOk result (λ _. AreAdded definitions.old.items definitions.new.items (definitions_of (content_of document.now text.old.items)).0) }
     ensures none { IfOk result (λ _. content_of document.now text.new.items ≡ [] → text.new.items ≡ []) }
     ensures content { IfOk result (λ _. IsUtf8 document.now → length document.now ≤ document_limit → IsTextContent document.now text.new.items) }
 {
@@ -45,7 +45,7 @@ fn resolve_leaf(
     requires fits { length document.now ≤ document_limit }
     requires placed { HasPlacedText document.now leaf }
     ensures leaf { IfOk result (IsResolvedLeaf document.now leaf) }
-    ensures found { IfOk result (λ _. map texts_of definitions.new.items ≡ map texts_of definitions.old.items ++ map texts_in (definitions_in (leaf_of document.now leaf))) }
+    ensures found { IfOk result (λ _. AreAdded definitions.old.items definitions.new.items (definitions_in (leaf_of document.now leaf))) }
 {
     match leaf {
         Leaf::Paragraph(text) => {
@@ -73,7 +73,7 @@ fn resolve_row(
     requires fits { length document.now ≤ document_limit }
     requires placed { IsPlacedRow document.now row }
     ensures row { IfOk result (IsResolvedRow document.now row) }
-    ensures found { IfOk result (λ _. map texts_of definitions.new.items ≡ map texts_of definitions.old.items ++ map texts_in (definitions_of_row document.now row)) }
+    ensures found { IfOk result (λ _. AreAdded definitions.old.items definitions.new.items (definitions_of_row document.now row)) }
 {
     match row {
         Row::LeafAt(depth, leaf) => {
@@ -94,7 +94,7 @@ pub(crate) fn resolve_rows(
     requires fits { length document.now ≤ document_limit }
     requires placed { All (IsPlacedRow document.now) rows.items }
     ensures rows { IfOk result (λ left. AreResolved document.now rows.items left.items) }
-    ensures found { IfOk result (λ _. map texts_of definitions.new.items ≡ map texts_of definitions.old.items ++ map texts_in (flat_map (definitions_of_row document.now) rows.items)) }
+    ensures found { IfOk result (λ _. AreAdded definitions.old.items definitions.new.items (flat_map (definitions_of_row document.now) rows.items)) }
 {
     let mut resolved = Vec::new(alloc);
     for row in rows {

@@ -111,7 +111,8 @@ fn text_len(text: Text, values: &[u8]) -> Option<usize>
 
 // Whether the line is filled behind a code, or `None` where the code ends a blank line.
 fn filled_behind(filled: bool, value: u8) -> Option<bool>
-    ensures { (c : Code) (cs : List Code) → c.value ≡ value → MatchOption result (has_no_blank_line filled (c ∷ cs) ≡ false) (λ now. has_no_blank_line filled (c ∷ cs) ≡ has_no_blank_line now cs) }
+    ensures { (c : Code) (cs : List Code) → c.value ≡ value → MatchOption result (has_no_blank_line filled (c ∷ cs)
+        ≡ false) (λ now. has_no_blank_line filled (c ∷ cs) ≡ has_no_blank_line now cs) }
 {
     if value == b'\n' {
         if !filled {

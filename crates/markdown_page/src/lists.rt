@@ -88,7 +88,8 @@ fn is_loose(item: Option<ListItem>) -> bool
 
 // The place of an item with this marker, in a list that ends with it. It stands behind the last item, if any, of siblings that end with a blank line or not.
 fn item_place(last: Option<ListItem>, ends_with_blank: bool, marker: Marker) -> Place
-    ensures { let goes = goes_on (option_map item_of last) (marker_of marker) in result ≡ record { is_loose = goes && (ends_with_blank || is_loose_item (option_map item_of last)); begins = not goes; ends = false } }
+    ensures { let goes = goes_on (option_map item_of last) (marker_of marker) in result
+        ≡ record { is_loose = goes && (ends_with_blank || is_loose_item (option_map item_of last)); begins = not goes; ends = false } }
 {
     let goes_on = goes_on(last, marker);
     Place {
@@ -202,7 +203,9 @@ impl Walk {
     // Appends the place of a row. `is_apart` says that a blank line stands between it and a block before it.
     fn put(&mut self, place: Place, is_apart: bool) -> Result<(), AllocError>
         requires { (t : Tree) × IsWalked t self.old }
-        ensures places { IfOk result (λ _. (t : Tree) (f : Tree → Tree) → IsWalked t self.old → IsAppended f place is_apart (inside_at (length self.old.path.items) t) → self.new.places.items ≡ places_so_far (at_depth (length self.old.path.items) f t)) }
+        ensures places { IfOk result (λ _. (t : Tree) (f : Tree → Tree) → IsWalked t self.old
+            → IsAppended f place is_apart (inside_at (length self.old.path.items) t)
+            → self.new.places.items ≡ places_so_far (at_depth (length self.old.path.items) f t)) }
         ensures path { self.new.path ≡ self.old.path }
         ensures last { self.new.last ≡ self.old.last }
         ensures blank { self.new.ends_with_blank ≡ self.old.ends_with_blank }
@@ -220,7 +223,8 @@ impl Walk {
     fn put_leaf(&mut self, document: &[u8], depth: usize, leaf: &Leaf) -> Result<(), AllocError>
         requires walked { (t : Tree) × IsWalked t self.old }
         requires within { depth ≤ length self.old.path.items }
-        ensures walked { IfOk result (λ _. (t : Tree) → IsWalked t self.old → IsWalked (at_depth depth (λ s. and_leaf s (leaf_of document.now leaf.now)) t) self.new) }
+        ensures walked { IfOk result (λ _. (t : Tree) → IsWalked t self.old
+            → IsWalked (at_depth depth (λ s. and_leaf s (leaf_of document.now leaf.now)) t) self.new) }
         ensures depth { IfOk result (λ _. length self.new.path.items ≡ depth) }
     {
         self.leave(depth);
@@ -241,7 +245,9 @@ impl Walk {
         marker: Option<Marker>,
     ) -> Result<(), AllocError>
         requires { (t : Tree) × IsWalked t self.old }
-        ensures walked { IfOk result (λ _. (t : Tree) (c : model.Container) → IsWalked t self.old → option_map marker_of marker ≡ marker_in c → IsAppended (λ s. and_container s c nothing) place is_apart (inside_at (length self.old.path.items) t) → IsWalked (at_depth (length self.old.path.items) (λ s. and_container s c nothing) t) self.new) }
+        ensures walked { IfOk result (λ _. (t : Tree) (c : model.Container) → IsWalked t self.old → option_map marker_of marker ≡ marker_in c
+            → IsAppended (λ s. and_container s c nothing) place is_apart (inside_at (length self.old.path.items) t)
+            → IsWalked (at_depth (length self.old.path.items) (λ s. and_container s c nothing) t) self.new) }
         ensures depth { IfOk result (λ _. length self.new.path.items ≡ suc (length self.old.path.items)) }
     {
         let row = self.places.len();
@@ -256,7 +262,8 @@ impl Walk {
     fn put_container(&mut self, depth: usize, container: Container) -> Result<(), AllocError>
         requires walked { (t : Tree) × IsWalked t self.old }
         requires within { depth ≤ length self.old.path.items }
-        ensures walked { IfOk result (λ _. (t : Tree) → IsWalked t self.old → IsWalked (at_depth depth (λ s. and_container s (container_of container) nothing) t) self.new) }
+        ensures walked { IfOk result (λ _. (t : Tree) → IsWalked t self.old
+            → IsWalked (at_depth depth (λ s. and_container s (container_of container) nothing) t) self.new) }
         ensures depth { IfOk result (λ _. length self.new.path.items ≡ suc depth) }
     {
         self.leave(depth);
@@ -278,7 +285,8 @@ impl Walk {
         requires walked { (t : Tree) × IsWalked t self.old }
         requires nested { AreNested (length self.old.path.items) (row.now ∷ []) }
         ensures walked { IfOk result (λ _. (t : Tree) → IsWalked t self.old → IsWalked (with_row document.now row.now t) self.new) }
-        ensures nested { IfOk result (λ _. (rs : List Row) → AreNested (length self.old.path.items) (row.now ∷ rs) → AreNested (length self.new.path.items) rs) }
+        ensures nested { IfOk result (λ _. (rs : List Row) → AreNested (length self.old.path.items) (row.now ∷ rs)
+            → AreNested (length self.new.path.items) rs) }
     {
         match row {
             Row::LeafAt(depth, leaf) => self.put_leaf(document, *depth, leaf),
@@ -350,7 +358,8 @@ fn place_before(next: Option<ListItem>, marker: Marker, place: Place) -> Place
 // The place of a row, by the items that stand next behind it. Then these are those that stand next before it.
 fn pass_row(row: &Row, place: Place, nexts: &mut Vec<Option<ListItem>>) -> Result<Place, AllocError>
     ensures place { IfOk result (λ p. p ≡ place_before (next_at nexts.old.items (row_depth row.now)) (row_kind row.now) place) }
-    ensures nexts { IfOk result (λ _. (k : ℕ) → next_at nexts.new.items k ≡ nexts_before (next_at nexts.old.items) (row_depth row.now) (row_kind row.now) place k) }
+    ensures nexts { IfOk result (λ _. (k : ℕ) → next_at nexts.new.items k
+        ≡ nexts_before (next_at nexts.old.items) (row_depth row.now) (row_kind row.now) place k) }
 {
     match row {
         Row::LeafAt(_, Leaf::Blank) => Ok(place),
@@ -373,7 +382,8 @@ fn pass_row(row: &Row, place: Place, nexts: &mut Vec<Option<ListItem>>) -> Resul
 // Makes the places of rows those in the whole lists.
 fn end_lists(alloc: Global, rows: &[Row], places: &mut Vec<Place>) -> Result<(), AllocError>
     requires { length places.old.items ≡ length rows.now }
-    ensures { IfOk result (λ _. (document : List ℕ) → AreNested 0 rows.now → places.old.items ≡ places_so_far (rows_from document nothing rows.now) → places.new.items ≡ places_in None (rows_from document nothing rows.now)) }
+    ensures { IfOk result (λ _. (document : List ℕ) → AreNested 0 rows.now → places.old.items ≡ places_so_far (rows_from document nothing rows.now)
+        → places.new.items ≡ places_in None (rows_from document nothing rows.now)) }
 {
     let mut nexts = Vec::new(alloc);
     let mut index = rows.len();
