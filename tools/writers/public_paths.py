@@ -8,9 +8,9 @@ The name of a state is that of its module without `partial_`, then that of the f
 
 Of each module that lib.rt hands on, or has itself, the public functions, types, constants and traits are read. Each has to be named in the sources of a program,
 or of the library for C; else it stands in INNER, which says what serves other crates alone.
-A type or a trait that stands in a public signature there, or in the type of a public field, has to have a path from markdown_inline too. The definitions and
-the lemmas of each crate below stand there under the crate's name. And the code of CALLER, a program that makes each single call, names no other crate of the
-repository."""
+A type or a trait that stands in a public signature there, or in the type of a public field, has to have a path from markdown_inline too, unless it is one of
+NOTES, whose values runs make themselves. The definitions and the lemmas of each crate below stand there under the crate's name. And the code of CALLER, a
+program that makes each single call, names of the other crates of the repository only NOTES and READERS."""
 import os
 import re
 
@@ -21,6 +21,8 @@ PASSES = {'LabelEnd': 'Label', 'PartialData': 'Data'}
 NAMED = {'label_groups': 'label_end'}
 # The program that makes each single call.
 CALLER = 'markdown_test_runs'
+# The crate of the notes that scratch fields of the tokenizer hold, and that of the readers: runs alone need these, and CALLER, which tries them.
+NOTES, READERS = 'markdown_notes', 'markdown_run_text'
 # Public items that serve other crates alone: bytes at which states stop, what loops and passes ask, and names that are printed. Or a caller is
 # answered a value of such a type, and does not name the type.
 INNER = {
@@ -37,11 +39,8 @@ INNER = {
     'partial_title': 'inside_stops',
     'partial_whitespace': 'data_loses is_same_place loses_first',
     'raw_text': 'is_barred data_stops',
-    'readers': 'is_ruled_out',
     'seq': 'from_vec move_within',
-    'sequence_index': 'LastBegins',
     'subtokenize': 'Subresult',
-    'title_index': 'Closer',
     'tokenizer': 'starting_at',
 }
 
@@ -204,7 +203,7 @@ def hidden():
         if not any(it[0] == file for it in found) and not any(homes.get(name) in found for name in re.findall(r'(?m)^impl(?:<[^>]*>)? (\w+)', text)):
             continue
         for name in sorted({name for signature in signatures(text) for name in re.findall(r'\b[A-Z]\w+', signature)}):
-            if name in homes and homes[name] not in found:
+            if name in homes and homes[name] not in found and homes[name][0].split(os.sep)[0] != NOTES:
                 yield '%s: %s stands in a public signature, and has no path from markdown_inline' % (file, name)
 
 
@@ -215,10 +214,10 @@ def uses(crate):
 
 
 def others():
-    """Crates of the repository that the code of the program CALLER names beside markdown_inline. Hints for the prover, in attributes, may name others."""
+    """Crates of the repository that the code of the program CALLER names beside those it may. Hints for the prover, in attributes, may name others."""
     for file in files(os.path.join(CRATES, CALLER, 'src')):
         code = re.sub(r'(?m)^ *(//|#\[|ghost use ).*', '', source(file))
-        for name in sorted(set(re.findall(r'\b(markdown_\w+)::', code)) - {'markdown_inline'}):
+        for name in sorted(set(re.findall(r'\b(markdown_\w+)::', code)) - {'markdown_inline', NOTES, READERS}):
             yield '%s: its code names %s beside markdown_inline' % (file, name)
 
 

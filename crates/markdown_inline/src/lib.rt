@@ -1,6 +1,6 @@
 //! Markdown's inline layer whole: its states and passes by name, its runs, and the program. All that a caller names stands here: what is read and
 //! answered (`parser`, `configuration`, `event`), the modules of the constructs, and the tokenizer by which single calls are made, with the types
-//! of all its fields.
+//! of its fields. The notes of what cannot come, which some scratch fields hold, are taken by the runs, so their types stay in `markdown_notes`.
 //!
 //! The definitions of each crate below stand here too, under the crate's name, and so do its lemmas: a contract that speaks of a content cites
 //! `Rattle.markdown_inline.specs.markdown_content.Content`. So a crate that calls this one names no other in `crates.txt`.
@@ -28,7 +28,6 @@ pub use markdown_leaf::{
 };
 pub use markdown_leaf_gfm::gfm_task_list_item_check;
 pub use markdown_leaf_html::html_text;
-pub use markdown_notes::{bracket_index, name_index, run_index, sequence_index, title_index};
 pub use markdown_partial::{
     partial_destination, partial_label, partial_space_or_tab, partial_space_or_tab_eol,
     partial_title,
@@ -36,5 +35,5 @@ pub use markdown_partial::{
 pub use markdown_passes::partial_whitespace;
 pub use markdown_program::{lines, program};
 pub use markdown_run::{attention, text};
-pub use markdown_run_text::{readers, string};
+pub use markdown_run_text::string;
 pub use markdown_tree::{definitions, labels, node, tree};

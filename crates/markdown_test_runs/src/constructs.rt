@@ -17,13 +17,13 @@ use crate::row::Asked;
 use markdown_inline::bytes::{ByteSet, ByteTable};
 use markdown_inline::event::{Content, Name};
 use markdown_inline::parser::{ParseState, Piece};
-use markdown_inline::readers::{attention, character_escape, label_start_link, partial_data};
 use markdown_inline::resolve::{self, ResolveName};
 use markdown_inline::run::construct;
-use markdown_inline::sequence_index::SequenceIndex;
 use markdown_inline::state::{self, Inline, StateName};
 use markdown_inline::tokenizer::Tokenizer;
 use markdown_inline::{partial_space_or_tab, partial_space_or_tab_eol};
+use markdown_notes::sequence_index::SequenceIndex;
+use markdown_run_text::readers::{attention, character_escape, label_start_link, partial_data};
 use std::alloc::{AllocError, Global};
 
 // A tokenizer at the start of a content, where constructs may be read.

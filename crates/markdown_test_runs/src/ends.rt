@@ -8,11 +8,11 @@ ghost use Rattle.markdown_inline.specs.markdown_partial.PartialSpaceOrTab.{most}
 ghost use Rattle.markdown_inline.specs.markdown_run.RunConstruct.{IsConstruct};
 
 use markdown_inline::event::{Event, Kind, Name};
-use markdown_inline::readers::label_end;
 use markdown_inline::run::construct;
 use markdown_inline::state::StateName;
 use markdown_inline::tokenizer::{LabelKind, LabelStart, Tokenizer};
 use markdown_inline::walk::DOCUMENT_START;
+use markdown_run_text::readers::label_end;
 use std::alloc::AllocError;
 
 // Keeps the start of a link that stands before all codes.
