@@ -41,7 +41,8 @@ fn check_limit(
     limit: Option<usize>,
 ) -> Result<(), Fault>
     requires { IsContent parse_state.now.bytes.now pieces.now }
-    ensures { (t : Forest) → events.now ≡ events_of t → IfOk result (λ _. IfSome limit (λ most. brought (page_from parse_state.now pieces.now definitions.now options) t ≤ most)) }
+    ensures { (t : Forest) → events.now ≡ events_of t → IfOk result (λ _. IfSome limit (λ most.
+        brought (page_from parse_state.now pieces.now definitions.now options) t ≤ most)) }
 {
     let Some(limit) = limit else {
         return Ok(());

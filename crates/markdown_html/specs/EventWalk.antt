@@ -109,13 +109,17 @@ has_parts parts = is_some parts.destination || is_some parts.title || is_some pa
 abbrev pub open_of : State → Point → Bool → OpenPart
 open_of s point kept = record { start = length s.out; point = point; within = s.within; kept = kept }
 
+-- the parts that were set apart, with these, where they are kept
+abbrev pub before_with : Bool → PartsSoFar → List PartsSoFar → List PartsSoFar
+before_with kept parts before = if kept then parts ∷ before else before
+
 -- something of which an entry is kept
 abbrev pub opened_by : State → Role → Point → Bool → State
 opened_by s role point kept = record s {
   within = within_of s.within role;
   parts = if kept then no_parts else s.parts;
   opened = open_of s point kept ∷ s.opened;
-  before = if kept then s.parts ∷ s.before else s.before;
+  before = before_with kept s.parts s.before;
 }
 
 unfoldable pub entered : State → Role → Point → State

@@ -248,7 +248,8 @@ pub fn left_of_limit(
     limit: usize,
 ) -> Result<Option<usize>, AllocError>
     requires content { HasLabelTexts parse_state.now.options.now parse_state.now.bytes.now pieces.now }
-    ensures { (t : Forest) → events.now ≡ events_of t → IfOk result (λ left. left ≡ left_of (Some limit) (brought (page_from parse_state.now pieces.now definitions.now options) t)) }
+    ensures { let page = page_from parse_state.now pieces.now definitions.now options in
+        (t : Forest) → events.now ≡ events_of t → IfOk result (λ left. left ≡ left_of (Some limit) (brought page t)) }
 {
     let given = Given {
         bytes: parse_state.bytes,

@@ -74,7 +74,8 @@ pub fn is_within_limit(
     limit: usize,
 ) -> Result<bool, AllocError>
     requires content { HasLabelTexts parse_state.now.options.now parse_state.now.bytes.now pieces.now }
-    ensures { (t : Forest) → events.now ≡ events_of t → IfOk result (λ is_within. IsTrue is_within ↔ (brought (page_from parse_state.now pieces.now definitions.now options) t ≤ limit)) }
+    ensures { let page = page_from parse_state.now pieces.now definitions.now options in
+        (t : Forest) → events.now ≡ events_of t → IfOk result (λ is_within. IsTrue is_within ↔ (brought page t ≤ limit)) }
 {
     if are_few(events, definitions, limit) {
         return Ok(true);

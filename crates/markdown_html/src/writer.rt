@@ -1,7 +1,7 @@
 //! The walk over events.
 #![tactic(auto)]
 
-ghost use Rattle.std.specs.Prelude.{◌≡◌, ◌≤◌, ◌<◌, ◌+◌, ◌^◌, ◌++◌, ◌∷◌, ◌&&◌, [], List, if◌then◌else◌, map, reverse, IfOk, IfSome, OnErr, OnOk, Option, drop, false, length, take, true, ℕ};
+ghost use Rattle.std.specs.Prelude.{◌≡◌, ◌≤◌, ◌<◌, ◌+◌, ◌^◌, ◌++◌, ◌&&◌, [], List, if◌then◌else◌, map, reverse, IfOk, IfSome, OnErr, OnOk, Option, drop, false, length, take, true, ℕ};
 ghost use Rattle.std.specs.List.{All};
 ghost use Rattle.markdown_content.specs.Content.{document_limit};
 ghost use Rattle.markdown_content.specs.LabelTexts.{HasLabelTexts};
@@ -12,7 +12,7 @@ ghost use Rattle.markdown_html_model.specs.Html.{calls_behind, group_html, html,
 ghost use Rattle.markdown_html_model.specs.Roles.{role_of};
 ghost use Rattle.markdown_html_model.specs.OwnMarkup.{IsOwnMarkup};
 ghost use Rattle.markdown_html.specs.View.{HasContent, open_view, page_from, page_of, parts_of, state_of};
-ghost use Rattle.markdown_html.specs.EventWalk.{before_left, before_parts, closed_apart, closed_around, entered, exit_first, exited, filled_before, has_parts, is_apart, is_bare, is_leaf, is_light, is_silent, is_text_alone, keeps_inside, opened_by, rewritten, stepped, walked};
+ghost use Rattle.markdown_html.specs.EventWalk.{before_left, before_parts, before_with, closed_apart, closed_around, entered, exit_first, exited, filled_before, has_parts, is_apart, is_bare, is_leaf, is_light, is_silent, is_text_alone, keeps_inside, opened_by, rewritten, stepped, walked};
 
 use crate::addresses::Given;
 use crate::calls::push_call;
@@ -184,7 +184,8 @@ fn replace(
     found: &Found,
 ) -> Result<(), AllocError>
     requires content { HasContent given.now }
-    ensures { OnOk result (out.new.items ≡ take entry.start out.old.items ++ rewritten (page_of given.now) entry.within role (drop entry.start out.old.items) (parts_of found.now)) }
+    ensures { let inside = drop entry.start out.old.items in
+        OnOk result (out.new.items ≡ take entry.start out.old.items ++ rewritten (page_of given.now) entry.within role inside (parts_of found.now)) }
 {
     take_inside(out, room, entry.start)?;
     let inside = room.as_slice();
@@ -220,7 +221,7 @@ fn sets_apart(role: Role, found: &Found) -> bool
 // Sets what was found before something apart from what is found inside it, if it is to be kept.
 fn set_apart(before: &mut Vec<Found>, found: &mut Found, kept: bool) -> Result<(), AllocError>
     ensures parts { OnOk result (parts_of found.new ≡ (if kept then no_parts else parts_of found.old)) }
-    ensures before { OnOk result (reverse (map parts_of before.new.items) ≡ (if kept then parts_of found.old ∷ reverse (map parts_of before.old.items) else reverse (map parts_of before.old.items))) }
+    ensures before { OnOk result (reverse (map parts_of before.new.items) ≡ before_with kept (parts_of found.old) (reverse (map parts_of before.old.items))) }
 {
     if kept {
         before.push(mem::replace(found, Found::nothing()))?;
@@ -305,7 +306,8 @@ impl Writer {
         requires leaf { is_leaf role ≡ true }
         ensures low { IfOk result (λ next. index ≤ next) }
         ensures high { IfOk result (λ next. next ≤ length events.now) }
-        ensures walk { let p = page_of given.now in let left = drop index events.now in IfOk result (λ next. walked p (state_of self.new) (drop next events.now) ≡ walked p (filled_before p (state_of self.old) role from left) left) }
+        ensures walk { let p = page_of given.now in let left = drop index events.now in
+            IfOk result (λ next. walked p (state_of self.new) (drop next events.now) ≡ walked p (filled_before p (state_of self.old) role from left) left) }
     {
         if index == events.len() {
             return Ok(index);
@@ -455,7 +457,8 @@ fn step(
     requires small { index + 1 < 2 ^ 64 }
     ensures low { IfOk result (λ next. index < next) }
     ensures high { IfOk result (λ next. next ≤ length events.now) }
-    ensures walk { let p = page_of given.now in IfOk result (λ next. walked p (state_of writer.new) (drop next events.now) ≡ walked p (state_of writer.old) (drop index events.now)) }
+    ensures walk { let p = page_of given.now in
+        IfOk result (λ next. walked p (state_of writer.new) (drop next events.now) ≡ walked p (state_of writer.old) (drop index events.now)) }
 {
     let event = events.at(index);
     let role = role_of(event.name);
@@ -560,7 +563,8 @@ pub fn to_html(
 pub fn text_of(alloc: Global, bytes: &[u8], events: &EventSlice) -> Result<Vec<u8>, AllocError>
     requires fits { length bytes.now ≤ document_limit }
     requires places { All (IsSpanInOrder bytes.now) (innermost events.now) }
-    ensures { (n : ℕ) (previous : Option ℕ) (t : Forest) → events.now ≡ events_from n previous t → IfOk result (λ text. text.items ≡ plain_text bytes.now t) }
+    ensures { (n : ℕ) (previous : Option ℕ) (t : Forest) → events.now ≡ events_from n previous t
+        → IfOk result (λ text. text.items ≡ plain_text bytes.now t) }
 {
     text_by(alloc, Decoding::shipped(), bytes, events)
 }
@@ -577,7 +581,8 @@ pub fn text_by(
 ) -> Result<Vec<u8>, AllocError>
     requires fits { length bytes.now ≤ document_limit }
     requires places { All (IsSpanInOrder bytes.now) (innermost events.now) }
-    ensures { (n : ℕ) (previous : Option ℕ) (t : Forest) → events.now ≡ events_from n previous t → IfOk result (λ text. text.items ≡ plain_text_by how bytes.now t) }
+    ensures { (n : ℕ) (previous : Option ℕ) (t : Forest) → events.now ≡ events_from n previous t
+        → IfOk result (λ text. text.items ≡ plain_text_by how bytes.now t) }
 {
     let definitions = Targets::new(alloc);
     let given = Given {

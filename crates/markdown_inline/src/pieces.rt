@@ -26,7 +26,8 @@ fn has_nothing_inside(enter: Event, exit: Event) -> bool
 
 // Adds a piece behind these and the last one, which the next may meet.
 fn add(pieces: &mut Vec<Piece>, last: &mut Option<Piece>, piece: Piece) -> Result<(), AllocError>
-    ensures { OnOk result ((more : List Piece) → pieces.new.items ++ with_last last.new more ≡ pieces.old.items ++ with_last last.old (in_front piece more)) }
+    ensures { OnOk result ((more : List Piece)
+        → pieces.new.items ++ with_last last.new more ≡ pieces.old.items ++ with_last last.old (in_front piece more)) }
 {
     if meets(piece, piece) {
         return Ok(());

@@ -132,7 +132,8 @@ fn found_by(alloc: Global, words: &[String], parse_state: &ParseState) -> Result
     ensures events { IfOk result (λ run. run.events ≡ found_events words.now parse_state.now.bytes.now) }
     ensures text { IfOk result (λ _. reads_text words.now ≡ true → IsTextDocument parse_state.now.bytes.now) }
     ensures faults { IfErr result (λ fault. (fault ≡ OutOfMemory) ⊎ (fault ≡ BlankLine)) }
-    ensures blank_line { IfErr result (λ fault. fault ≡ BlankLine → (reads_text words.now ≡ true) × (IsTextDocument parse_state.now.bytes.now → ⊥)) }
+    ensures blank_line { IfErr result (λ fault.
+        fault ≡ BlankLine → (reads_text words.now ≡ true) × (IsTextDocument parse_state.now.bytes.now → ⊥)) }
 {
     let pieces = [whole_document(parse_state.bytes)];
     if !reads_text(words) {

@@ -99,7 +99,8 @@ fn link_target(
     node: Node,
 ) -> Result<Option<Target>, AllocError>
     requires { HasLabelTexts labels.now.options.now labels.now.bytes.now labels.now.pieces.now }
-    ensures { IfOk result (λ to. option_map led_of to ≡ link_target (decoding_of labels.now.options.now) (given_of labels.now) tree.now node (second_inside tree.now node)) }
+    ensures { IfOk result (λ to. option_map led_of to
+        ≡ link_target (decoding_of labels.now.options.now) (given_of labels.now) tree.now node (second_inside tree.now node)) }
 {
     let Some(tail) = second_inside(tree, node) else {
         return referred(labels, tree, node);

@@ -66,6 +66,10 @@ undefined_footnote nul_is_replaced text =
 abbrev pub label_identifier : (has_caret nul_is_replaced : Bool) → List ℕ → List ℕ
 label_identifier has_caret nul_is_replaced text = if has_caret then undefined_footnote nul_is_replaced text else identifier_by nul_is_replaced text
 
+-- the identifier of bytes, where they are a text
+abbrev pub identifier_in : Given → Bool → List ℕ → Option (List ℕ)
+identifier_in g has_caret bytes = option_map (label_identifier has_caret g.rules.nul_is_replaced) (if_utf8 bytes)
+
 -- that of the text of a node
 abbrev pub node_identifier : Given → Bool → Node → Option (List ℕ)
 node_identifier g has_caret node = option_map (label_identifier has_caret g.rules.nul_is_replaced) (text_of g node)

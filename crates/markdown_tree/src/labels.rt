@@ -1,12 +1,11 @@
 //! Which definition a link or an image refers to, and which footnote a call.
 ghost use Rattle.std.specs.Prelude.{◌≡◌, ◌≤◌, IfOk, length, string_bytes};
 ghost use Rattle.std.specs.Option.{option_map};
-ghost use Rattle.markdown_content.specs.CommonMark.{rules_of};
 ghost use Rattle.markdown_content.specs.Content.{IsContent, content_of};
 ghost use Rattle.markdown_content.specs.ContentBytes.{bytes_within};
 ghost use Rattle.markdown_content.specs.LabelTexts.{HasLabelTexts};
 ghost use Rattle.markdown_tree.specs.LabelsView.{given_of};
-ghost use Rattle.markdown_tree.specs.Referred.{behind, behind_caret, definition_of, first_inside, footnote_of, if_utf8, label_identifier, met, named_by_label, named_by_reference, named_by_text, node_identifier, second_inside, text_between, undefined_footnote};
+ghost use Rattle.markdown_tree.specs.Referred.{behind, behind_caret, definition_of, first_inside, footnote_of, identifier_in, if_utf8, label_identifier, met, named_by_label, named_by_reference, named_by_text, node_identifier, second_inside, text_between, undefined_footnote};
 
 use crate::definitions::Definitions;
 use crate::node::Node;
@@ -110,7 +109,7 @@ fn label_identifier(
 impl<'a> Labels<'a> {
     // The identifier of bytes, where they are a text.
     fn identifier_in(&self, has_caret: bool, bytes: &[u8]) -> Result<Option<String>, AllocError>
-        ensures { IfOk result (λ identifier. option_map string_bytes identifier ≡ option_map (label_identifier has_caret (rules_of self.now.options.now).nul_is_replaced) (if_utf8 bytes.now)) }
+        ensures { IfOk result (λ identifier. option_map string_bytes identifier ≡ identifier_in (given_of self.now) has_caret bytes.now) }
     {
         let Some(text) = if_utf8(bytes) else {
             return Ok(None);
@@ -130,7 +129,8 @@ impl<'a> Labels<'a> {
     ) -> Result<Option<String>, AllocError>
         requires content { IsContent self.now.bytes.now self.now.pieces.now }
         requires within { to ≤ length self.now.bytes.now }
-        ensures { IfOk result (λ identifier. option_map string_bytes identifier ≡ option_map (label_identifier has_caret (rules_of self.now.options.now).nul_is_replaced) (if_utf8 (bytes_within self.now.bytes.now from to (content_of self.now.bytes.now self.now.pieces.now)))) }
+        ensures { let text = bytes_within self.now.bytes.now from to (content_of self.now.bytes.now self.now.pieces.now) in
+            IfOk result (λ identifier. option_map string_bytes identifier ≡ identifier_in (given_of self.now) has_caret text) }
     {
         let mut text = Vec::new(self.definitions.alloc());
         push_between(&mut text, self.bytes, self.bytes, self.pieces, from, to)?;
@@ -147,7 +147,8 @@ impl<'a> Labels<'a> {
         requires content { HasLabelTexts self.now.options.now self.now.bytes.now self.now.pieces.now }
         requires in_order { from ≤ to }
         requires within { to ≤ length self.now.bytes.now }
-        ensures { IfOk result (λ identifier. option_map string_bytes identifier ≡ option_map (label_identifier has_caret (rules_of self.now.options.now).nul_is_replaced) (if_utf8 (text_between (given_of self.now) from to))) }
+        ensures { let text = text_between (given_of self.now) from to in
+            IfOk result (λ identifier. option_map string_bytes identifier ≡ identifier_in (given_of self.now) has_caret text) }
     {
         if !self.options.rules().labels_by_text {
             return self.identifier_in(has_caret, &self.bytes[from..to]);
