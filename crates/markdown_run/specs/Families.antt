@@ -1,117 +1,44 @@
--- The families of states, by which they are called.
+-- The families of states, by which they are called, each told by the tables of its constructs, and with those that come after it.
+use Rattle.std.specs.Prelude.{Bool, true, false}
 use Rattle.markdown_event.specs.declared.state.StateName.{StateName}
-use Rattle.markdown_event.specs.declared.state.StateName.TheVariants as H
-use Rattle.markdown_run.specs.declared.state.Family.{Family}
+use Rattle.markdown_engine.specs.StateWords.{StateWords}
+use Rattle.markdown_leaf.specs.Autolink as Autolink
+use Rattle.markdown_leaf.specs.CharacterEscape as CharacterEscape
+use Rattle.markdown_leaf.specs.CharacterReference as CharacterReference
+use Rattle.markdown_leaf.specs.HardBreakEscape as HardBreakEscape
+use Rattle.markdown_leaf.specs.RawText as RawText
+use Rattle.markdown_leaf_gfm.specs.GfmAutolinkLiteral as GfmAutolinkLiteral
+use Rattle.markdown_leaf_html.specs.HtmlText as HtmlText
+use Rattle.markdown_label.specs.LabelEnd as LabelEnd
+use Rattle.markdown_label.specs.LabelStarts as LabelStarts
+use Rattle.markdown_label.specs.Resource as Resource
+use Rattle.markdown_partial.specs.PartialDestination as PartialDestination
+use Rattle.markdown_partial.specs.PartialLabel as PartialLabel
+use Rattle.markdown_partial.specs.PartialSpaceOrTab as PartialSpaceOrTab
+use Rattle.markdown_partial.specs.PartialSpaceOrTabEol as PartialSpaceOrTabEol
+use Rattle.markdown_partial.specs.PartialTitle as PartialTitle
 
-abbrev pub family_of : StateName → Family
-family_of H.CharacterEscapeStart = Family.Leaf
-family_of H.CharacterEscapeInside = Family.Leaf
-family_of H.CharacterReferenceStart = Family.Leaf
-family_of H.CharacterReferenceOpen = Family.Leaf
-family_of H.CharacterReferenceNumeric = Family.Leaf
-family_of H.CharacterReferenceValue = Family.Leaf
-family_of H.HardBreakEscapeStart = Family.Leaf
-family_of H.HardBreakEscapeAfter = Family.Leaf
-family_of H.AutolinkStart = Family.Leaf
-family_of H.AutolinkOpen = Family.Leaf
-family_of H.AutolinkSchemeOrEmailAtext = Family.Leaf
-family_of H.AutolinkSchemeInsideOrEmailAtext = Family.Leaf
-family_of H.AutolinkUrlInside = Family.Leaf
-family_of H.AutolinkEmailAtext = Family.Leaf
-family_of H.AutolinkEmailAtSignOrDot = Family.Leaf
-family_of H.AutolinkEmailLabel = Family.Leaf
-family_of H.AutolinkEmailValue = Family.Leaf
-family_of H.RawTextStart = Family.Leaf
-family_of H.RawTextSequenceOpen = Family.Leaf
-family_of H.RawTextBetween = Family.Leaf
-family_of H.RawTextData = Family.Leaf
-family_of H.RawTextSequenceClose = Family.Leaf
-family_of H.GfmAutolinkLiteralProtocolStart = Family.Literal
-family_of H.GfmAutolinkLiteralProtocolAfter = Family.Literal
-family_of H.GfmAutolinkLiteralProtocolPrefixInside = Family.Literal
-family_of H.GfmAutolinkLiteralProtocolSlashesInside = Family.Literal
-family_of H.GfmAutolinkLiteralWwwStart = Family.Literal
-family_of H.GfmAutolinkLiteralWwwPrefixInside = Family.Literal
-family_of H.GfmAutolinkLiteralWwwPrefixAfter = Family.Literal
-family_of H.GfmAutolinkLiteralWwwAfter = Family.Literal
-family_of H.GfmAutolinkLiteralDomainInside = Family.Literal
-family_of H.GfmAutolinkLiteralDomainAtPunctuation = Family.Literal
-family_of H.GfmAutolinkLiteralDomainAfter = Family.Literal
-family_of H.GfmAutolinkLiteralPathInside = Family.Literal
-family_of H.GfmAutolinkLiteralPathAtPunctuation = Family.Literal
-family_of H.GfmAutolinkLiteralPathAfter = Family.Literal
-family_of H.GfmAutolinkLiteralTrail = Family.Literal
-family_of H.GfmAutolinkLiteralTrailBracketAfter = Family.Literal
-family_of H.GfmAutolinkLiteralTrailCharRefStart = Family.Literal
-family_of H.GfmAutolinkLiteralTrailCharRefInside = Family.Literal
-family_of H.SpaceOrTabStart = Family.Part
-family_of H.SpaceOrTabInside = Family.Part
-family_of H.SpaceOrTabAfter = Family.Part
-family_of H.SpaceOrTabEolStart = Family.Part
-family_of H.SpaceOrTabEolAfterFirst = Family.Part
-family_of H.SpaceOrTabEolAtEol = Family.Part
-family_of H.SpaceOrTabEolAfterEol = Family.Part
-family_of H.SpaceOrTabEolAfterMore = Family.Part
-family_of H.DestinationStart = Family.Part
-family_of H.DestinationEnclosedBefore = Family.Part
-family_of H.DestinationEnclosed = Family.Part
-family_of H.DestinationEnclosedEscape = Family.Part
-family_of H.DestinationRaw = Family.Part
-family_of H.DestinationRawEscape = Family.Part
-family_of H.TitleStart = Family.Part
-family_of H.TitleBegin = Family.Part
-family_of H.TitleAtBreak = Family.Part
-family_of H.TitleAfterEol = Family.Part
-family_of H.TitleInside = Family.Part
-family_of H.TitleEscape = Family.Part
-family_of H.TitleNok = Family.Part
-family_of H.LabelStart = Family.Part
-family_of H.LabelAtBreak = Family.Part
-family_of H.LabelEolAfter = Family.Part
-family_of H.LabelInside = Family.Part
-family_of H.LabelEscape = Family.Part
-family_of H.LabelNok = Family.Part
-family_of H.GfmLabelStartFootnoteStart = Family.Label
-family_of H.LabelStartImageStart = Family.Label
-family_of H.LabelStartLinkStart = Family.Label
-family_of H.LabelEndStart = Family.Label
-family_of H.GfmLabelStartFootnoteOpen = Family.Label
-family_of H.LabelStartImageOpen = Family.Label
-family_of H.LabelStartImageAfter = Family.Label
-family_of H.LabelEndAfter = Family.Label
-family_of H.LabelEndOk = Family.Label
-family_of H.LabelEndNok = Family.Label
-family_of H.LabelEndResourceStart = Family.Label
-family_of H.LabelEndResourceBefore = Family.Label
-family_of H.LabelEndResourceOpen = Family.Label
-family_of H.LabelEndResourceDestinationAfter = Family.Label
-family_of H.LabelEndResourceDestinationMissing = Family.Label
-family_of H.LabelEndResourceBetween = Family.Label
-family_of H.LabelEndResourceTitleAfter = Family.Label
-family_of H.LabelEndResourceEnd = Family.Label
-family_of H.LabelEndReferenceFull = Family.Label
-family_of H.LabelEndReferenceFullAfter = Family.Label
-family_of H.LabelEndReferenceFullMissing = Family.Label
-family_of H.LabelEndReferenceNotFull = Family.Label
-family_of H.LabelEndReferenceCollapsed = Family.Label
-family_of H.LabelEndReferenceCollapsedOpen = Family.Label
-family_of H.GfmTaskListItemCheckStart = Family.Text
-family_of H.GfmTaskListItemCheckInside = Family.Text
-family_of H.GfmTaskListItemCheckClose = Family.Text
-family_of H.GfmTaskListItemCheckAfter = Family.Text
-family_of H.GfmTaskListItemCheckAfterSpaceOrTab = Family.Text
-family_of H.DataStart = Family.Text
-family_of H.DataAtBreak = Family.Text
-family_of H.DataInside = Family.Text
-family_of H.StringStart = Family.Text
-family_of H.StringBefore = Family.Text
-family_of H.StringBeforeData = Family.Text
-family_of H.TextStart = Family.Text
-family_of H.TextBefore = Family.Text
-family_of H.TextBeforeHtml = Family.Text
-family_of H.TextBeforeHardBreakEscape = Family.Text
-family_of H.TextBeforeLabelStartLink = Family.Text
-family_of H.TextBeforeData = Family.Text
-family_of H.AttentionStart = Family.Text
-family_of H.AttentionInside = Family.Text
-family_of _ = Family.Html
+-- it stands in a table
+abbrev pub yes : StateWords → Bool
+yes w = true
+
+-- HTML
+abbrev pub is_html : StateName → Bool
+is_html = HtmlText.said yes (λ s. false)
+
+-- autolink literals, and HTML
+abbrev pub is_from_literals : StateName → Bool
+is_from_literals = GfmAutolinkLiteral.said yes is_html
+
+-- escapes, character references, hard breaks, autolinks and spans, and those above
+abbrev pub is_from_leaves : StateName → Bool
+is_from_leaves = CharacterEscape.said yes (CharacterReference.said yes (HardBreakEscape.said yes (Autolink.said yes (RawText.said yes is_from_literals))))
+
+-- whitespace, destinations, titles, and labels of references, and those above
+abbrev pub is_from_parts : StateName → Bool
+is_from_parts =
+    PartialSpaceOrTab.said yes (PartialSpaceOrTabEol.said yes (PartialDestination.said yes (PartialTitle.said yes (PartialLabel.said yes is_from_leaves))))
+
+-- starts and ends of labels, and resources, and those above
+abbrev pub is_from_labels : StateName → Bool
+is_from_labels = LabelStarts.said yes (LabelEnd.said yes (Resource.said yes is_from_parts))

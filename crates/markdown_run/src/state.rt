@@ -2,8 +2,7 @@
 ghost use Rattle.std.specs.Prelude.{◌≡◌, false, IfOk, IsErr, OnErr, IsTrue};
 ghost use Rattle.markdown_run.specs.Layer.{ready_of, step_of, ends_of, weight_of, stops_of, laws_of};
 ghost use Rattle.markdown_run.specs.Layer.Steady.{steady_of};
-ghost use Rattle.markdown_run.specs.Families.{family_of};
-ghost use Rattle.markdown_run.specs.declared.state.Family.TheVariants as Family;
+ghost use Rattle.markdown_run.specs.Families.{is_from_labels, is_from_leaves, is_from_literals, is_from_parts, is_html};
 ghost use Rattle.markdown_run_text.specs.ContentPasses.{may_resolve_of, resolves_of};
 
 use crate::{attention, resolve, text};
@@ -24,181 +23,9 @@ use markdown_partial::{
 use markdown_run_text::string;
 use std::alloc::AllocError;
 
-// The families of states.
-#[derive(Clone, Copy)]
-enum Family {
-    /// Escapes, character references, spans and autolinks.
-    Leaf,
-    /// HTML.
-    Html,
-    /// Autolink literals.
-    Literal,
-    /// Whitespace, destinations, titles, and labels of references.
-    Part,
-    /// Starts and ends of labels, and resources.
-    Label,
-    /// Texts and strings, data, runs of markers, and task checks.
-    Text,
-}
-
-// The family of a state.
-fn family_of(name: StateName) -> Family
-    ensures { result ≡ family_of name }
-{
-    match name {
-        StateName::CharacterEscapeStart
-        | StateName::CharacterEscapeInside
-        | StateName::CharacterReferenceStart
-        | StateName::CharacterReferenceOpen
-        | StateName::CharacterReferenceNumeric
-        | StateName::CharacterReferenceValue
-        | StateName::HardBreakEscapeStart
-        | StateName::HardBreakEscapeAfter
-        | StateName::AutolinkStart
-        | StateName::AutolinkOpen
-        | StateName::AutolinkSchemeOrEmailAtext
-        | StateName::AutolinkSchemeInsideOrEmailAtext
-        | StateName::AutolinkUrlInside
-        | StateName::AutolinkEmailAtext
-        | StateName::AutolinkEmailAtSignOrDot
-        | StateName::AutolinkEmailLabel
-        | StateName::AutolinkEmailValue
-        | StateName::RawTextStart
-        | StateName::RawTextSequenceOpen
-        | StateName::RawTextBetween
-        | StateName::RawTextData
-        | StateName::RawTextSequenceClose => Family::Leaf,
-        StateName::GfmAutolinkLiteralProtocolStart
-        | StateName::GfmAutolinkLiteralProtocolAfter
-        | StateName::GfmAutolinkLiteralProtocolPrefixInside
-        | StateName::GfmAutolinkLiteralProtocolSlashesInside
-        | StateName::GfmAutolinkLiteralWwwStart
-        | StateName::GfmAutolinkLiteralWwwPrefixInside
-        | StateName::GfmAutolinkLiteralWwwPrefixAfter
-        | StateName::GfmAutolinkLiteralWwwAfter
-        | StateName::GfmAutolinkLiteralDomainInside
-        | StateName::GfmAutolinkLiteralDomainAtPunctuation
-        | StateName::GfmAutolinkLiteralDomainAfter
-        | StateName::GfmAutolinkLiteralPathInside
-        | StateName::GfmAutolinkLiteralPathAtPunctuation
-        | StateName::GfmAutolinkLiteralPathAfter
-        | StateName::GfmAutolinkLiteralTrail
-        | StateName::GfmAutolinkLiteralTrailBracketAfter
-        | StateName::GfmAutolinkLiteralTrailCharRefStart
-        | StateName::GfmAutolinkLiteralTrailCharRefInside => Family::Literal,
-        StateName::SpaceOrTabStart
-        | StateName::SpaceOrTabInside
-        | StateName::SpaceOrTabAfter
-        | StateName::SpaceOrTabEolStart
-        | StateName::SpaceOrTabEolAfterFirst
-        | StateName::SpaceOrTabEolAtEol
-        | StateName::SpaceOrTabEolAfterEol
-        | StateName::SpaceOrTabEolAfterMore
-        | StateName::DestinationStart
-        | StateName::DestinationEnclosedBefore
-        | StateName::DestinationEnclosed
-        | StateName::DestinationEnclosedEscape
-        | StateName::DestinationRaw
-        | StateName::DestinationRawEscape
-        | StateName::TitleStart
-        | StateName::TitleBegin
-        | StateName::TitleAtBreak
-        | StateName::TitleAfterEol
-        | StateName::TitleInside
-        | StateName::TitleEscape
-        | StateName::TitleNok
-        | StateName::LabelStart
-        | StateName::LabelAtBreak
-        | StateName::LabelEolAfter
-        | StateName::LabelInside
-        | StateName::LabelEscape
-        | StateName::LabelNok => Family::Part,
-        StateName::GfmLabelStartFootnoteStart
-        | StateName::LabelStartImageStart
-        | StateName::LabelStartLinkStart
-        | StateName::LabelEndStart
-        | StateName::GfmLabelStartFootnoteOpen
-        | StateName::LabelStartImageOpen
-        | StateName::LabelStartImageAfter
-        | StateName::LabelEndAfter
-        | StateName::LabelEndOk
-        | StateName::LabelEndNok
-        | StateName::LabelEndResourceStart
-        | StateName::LabelEndResourceBefore
-        | StateName::LabelEndResourceOpen
-        | StateName::LabelEndResourceDestinationAfter
-        | StateName::LabelEndResourceDestinationMissing
-        | StateName::LabelEndResourceBetween
-        | StateName::LabelEndResourceTitleAfter
-        | StateName::LabelEndResourceEnd
-        | StateName::LabelEndReferenceFull
-        | StateName::LabelEndReferenceFullAfter
-        | StateName::LabelEndReferenceFullMissing
-        | StateName::LabelEndReferenceNotFull
-        | StateName::LabelEndReferenceCollapsed
-        | StateName::LabelEndReferenceCollapsedOpen => Family::Label,
-        StateName::GfmTaskListItemCheckStart
-        | StateName::GfmTaskListItemCheckInside
-        | StateName::GfmTaskListItemCheckClose
-        | StateName::GfmTaskListItemCheckAfter
-        | StateName::GfmTaskListItemCheckAfterSpaceOrTab
-        | StateName::DataStart
-        | StateName::DataAtBreak
-        | StateName::DataInside
-        | StateName::StringStart
-        | StateName::StringBefore
-        | StateName::StringBeforeData
-        | StateName::TextStart
-        | StateName::TextBefore
-        | StateName::TextBeforeHtml
-        | StateName::TextBeforeHardBreakEscape
-        | StateName::TextBeforeLabelStartLink
-        | StateName::TextBeforeData
-        | StateName::AttentionStart
-        | StateName::AttentionInside => Family::Text,
-        _ => Family::Html,
-    }
-}
-
-// Calls the state of this name, which is of the family `Leaf`.
-fn dispatch_leaf(name: StateName, tokenizer: &mut Tokenizer) -> Result<State, AllocError>
-    requires family { family_of name ≡ Family.Leaf }
-    requires ready { ready_of name tokenizer.old }
-    ensures ok { IfOk result (λ s. step_of name tokenizer.old ≡ record { state = s; left = tokenizer.new }) }
-    ensures err { OnErr result (IsTrue tokenizer.new.failed) }
-{
-    match name {
-        StateName::CharacterEscapeStart => character_escape::start(tokenizer),
-        StateName::CharacterEscapeInside => character_escape::inside(tokenizer),
-        StateName::CharacterReferenceStart => character_reference::start(tokenizer),
-        StateName::CharacterReferenceOpen => character_reference::open(tokenizer),
-        StateName::CharacterReferenceNumeric => character_reference::numeric(tokenizer),
-        StateName::CharacterReferenceValue => character_reference::value(tokenizer),
-        StateName::HardBreakEscapeStart => hard_break_escape::start(tokenizer),
-        StateName::HardBreakEscapeAfter => hard_break_escape::after(tokenizer),
-        StateName::AutolinkStart => autolink::start(tokenizer),
-        StateName::AutolinkOpen => autolink::open(tokenizer),
-        StateName::AutolinkSchemeOrEmailAtext => autolink::scheme_or_email_atext(tokenizer),
-        StateName::AutolinkSchemeInsideOrEmailAtext => autolink::scheme_inside_or_email_atext(
-            tokenizer,
-        ),
-        StateName::AutolinkUrlInside => autolink::url_inside(tokenizer),
-        StateName::AutolinkEmailAtext => autolink::email_atext(tokenizer),
-        StateName::AutolinkEmailAtSignOrDot => autolink::email_at_sign_or_dot(tokenizer),
-        StateName::AutolinkEmailLabel => autolink::email_label(tokenizer),
-        StateName::AutolinkEmailValue => autolink::email_value(tokenizer),
-        StateName::RawTextStart => raw_text::start(tokenizer),
-        StateName::RawTextSequenceOpen => raw_text::sequence_open(tokenizer),
-        StateName::RawTextBetween => raw_text::between(tokenizer),
-        StateName::RawTextData => raw_text::data(tokenizer),
-        // (RawTextSequenceClose)
-        _ => raw_text::sequence_close(tokenizer),
-    }
-}
-
-// Calls the state of this name, which is of the family `Html`.
+// Calls the state of this name, which is one of HTML.
 fn dispatch_html(name: StateName, tokenizer: &mut Tokenizer) -> Result<State, AllocError>
-    requires family { family_of name ≡ Family.Html }
+    requires family { IsTrue (is_html name) }
     requires ready { ready_of name tokenizer.old }
     ensures ok { IfOk result (λ s. step_of name tokenizer.old ≡ record { state = s; left = tokenizer.new }) }
     ensures err { OnErr result (IsTrue tokenizer.new.failed) }
@@ -243,9 +70,9 @@ fn dispatch_html(name: StateName, tokenizer: &mut Tokenizer) -> Result<State, Al
     }
 }
 
-// Calls the state of this name, which is of the family `Literal`.
-fn dispatch_literal(name: StateName, tokenizer: &mut Tokenizer) -> Result<State, AllocError>
-    requires family { family_of name ≡ Family.Literal }
+// Calls the state of this name, which is one of autolink literals, or else of HTML.
+fn dispatch_literals(name: StateName, tokenizer: &mut Tokenizer) -> Result<State, AllocError>
+    requires family { IsTrue (is_from_literals name) }
     requires ready { ready_of name tokenizer.old }
     ensures ok { IfOk result (λ s. step_of name tokenizer.old ≡ record { state = s; left = tokenizer.new }) }
     ensures err { OnErr result (IsTrue tokenizer.new.failed) }
@@ -284,14 +111,51 @@ fn dispatch_literal(name: StateName, tokenizer: &mut Tokenizer) -> Result<State,
         ),
         StateName::GfmAutolinkLiteralTrailCharRefStart =>
             gfm_autolink_literal::trail_char_ref_start(tokenizer),
-        // (GfmAutolinkLiteralTrailCharRefInside)
-        _ => gfm_autolink_literal::trail_char_ref_inside(tokenizer),
+        StateName::GfmAutolinkLiteralTrailCharRefInside =>
+            gfm_autolink_literal::trail_char_ref_inside(tokenizer),
+        _ => dispatch_html(name, tokenizer),
     }
 }
 
-// Calls the state of this name, which is of the family `Part`.
-fn dispatch_part(name: StateName, tokenizer: &mut Tokenizer) -> Result<State, AllocError>
-    requires family { family_of name ≡ Family.Part }
+// Calls the state of this name, which is one of escapes, character references, hard breaks, autolinks and spans, or else of the families above.
+fn dispatch_leaves(name: StateName, tokenizer: &mut Tokenizer) -> Result<State, AllocError>
+    requires family { IsTrue (is_from_leaves name) }
+    requires ready { ready_of name tokenizer.old }
+    ensures ok { IfOk result (λ s. step_of name tokenizer.old ≡ record { state = s; left = tokenizer.new }) }
+    ensures err { OnErr result (IsTrue tokenizer.new.failed) }
+{
+    match name {
+        StateName::CharacterEscapeStart => character_escape::start(tokenizer),
+        StateName::CharacterEscapeInside => character_escape::inside(tokenizer),
+        StateName::CharacterReferenceStart => character_reference::start(tokenizer),
+        StateName::CharacterReferenceOpen => character_reference::open(tokenizer),
+        StateName::CharacterReferenceNumeric => character_reference::numeric(tokenizer),
+        StateName::CharacterReferenceValue => character_reference::value(tokenizer),
+        StateName::HardBreakEscapeStart => hard_break_escape::start(tokenizer),
+        StateName::HardBreakEscapeAfter => hard_break_escape::after(tokenizer),
+        StateName::AutolinkStart => autolink::start(tokenizer),
+        StateName::AutolinkOpen => autolink::open(tokenizer),
+        StateName::AutolinkSchemeOrEmailAtext => autolink::scheme_or_email_atext(tokenizer),
+        StateName::AutolinkSchemeInsideOrEmailAtext => autolink::scheme_inside_or_email_atext(
+            tokenizer,
+        ),
+        StateName::AutolinkUrlInside => autolink::url_inside(tokenizer),
+        StateName::AutolinkEmailAtext => autolink::email_atext(tokenizer),
+        StateName::AutolinkEmailAtSignOrDot => autolink::email_at_sign_or_dot(tokenizer),
+        StateName::AutolinkEmailLabel => autolink::email_label(tokenizer),
+        StateName::AutolinkEmailValue => autolink::email_value(tokenizer),
+        StateName::RawTextStart => raw_text::start(tokenizer),
+        StateName::RawTextSequenceOpen => raw_text::sequence_open(tokenizer),
+        StateName::RawTextBetween => raw_text::between(tokenizer),
+        StateName::RawTextData => raw_text::data(tokenizer),
+        StateName::RawTextSequenceClose => raw_text::sequence_close(tokenizer),
+        _ => dispatch_literals(name, tokenizer),
+    }
+}
+
+// Calls the state of this name, which is one of whitespace, destinations, titles and labels of references, or else of the families above.
+fn dispatch_parts(name: StateName, tokenizer: &mut Tokenizer) -> Result<State, AllocError>
+    requires family { IsTrue (is_from_parts name) }
     requires ready { ready_of name tokenizer.old }
     ensures ok { IfOk result (λ s. step_of name tokenizer.old ≡ record { state = s; left = tokenizer.new }) }
     ensures err { OnErr result (IsTrue tokenizer.new.failed) }
@@ -323,14 +187,14 @@ fn dispatch_part(name: StateName, tokenizer: &mut Tokenizer) -> Result<State, Al
         StateName::LabelEolAfter => partial_label::eol_after(tokenizer),
         StateName::LabelInside => partial_label::inside(tokenizer),
         StateName::LabelEscape => partial_label::escape(tokenizer),
-        // (LabelNok)
-        _ => partial_label::nok(tokenizer),
+        StateName::LabelNok => partial_label::nok(tokenizer),
+        _ => dispatch_leaves(name, tokenizer),
     }
 }
 
-// Calls the state of this name, which is of the family `Label`.
-fn dispatch_label(name: StateName, tokenizer: &mut Tokenizer) -> Result<State, AllocError>
-    requires family { family_of name ≡ Family.Label }
+// Calls the state of this name, which is one of starts and ends of labels, or of resources, or else of the families above.
+fn dispatch_labels(name: StateName, tokenizer: &mut Tokenizer) -> Result<State, AllocError>
+    requires family { IsTrue (is_from_labels name) }
     requires ready { ready_of name tokenizer.old }
     ensures ok { IfOk result (λ s. step_of name tokenizer.old ≡ record { state = s; left = tokenizer.new }) }
     ensures err { OnErr result (IsTrue tokenizer.new.failed) }
@@ -363,15 +227,14 @@ fn dispatch_label(name: StateName, tokenizer: &mut Tokenizer) -> Result<State, A
         StateName::LabelEndReferenceFullMissing => label_end::reference_full_missing(tokenizer),
         StateName::LabelEndReferenceNotFull => label_end::reference_not_full(tokenizer),
         StateName::LabelEndReferenceCollapsed => label_end::reference_collapsed(tokenizer),
-        // (LabelEndReferenceCollapsedOpen)
-        _ => label_end::reference_collapsed_open(tokenizer),
+        StateName::LabelEndReferenceCollapsedOpen => label_end::reference_collapsed_open(tokenizer),
+        _ => dispatch_parts(name, tokenizer),
     }
 }
 
-// Calls the state of this name, which is of the family `Text`.
-fn dispatch_text(name: StateName, tokenizer: &mut Tokenizer) -> Result<State, AllocError>
-    requires family { family_of name ≡ Family.Text }
-    requires ready { ready_of name tokenizer.old }
+// Calls the state of this name: those of texts and strings, data, runs of markers and task checks, or else one of the families above.
+fn dispatch(name: StateName, tokenizer: &mut Tokenizer) -> Result<State, AllocError>
+    requires { ready_of name tokenizer.old }
     ensures ok { IfOk result (λ s. step_of name tokenizer.old ≡ record { state = s; left = tokenizer.new }) }
     ensures err { OnErr result (IsTrue tokenizer.new.failed) }
 {
@@ -396,24 +259,8 @@ fn dispatch_text(name: StateName, tokenizer: &mut Tokenizer) -> Result<State, Al
         StateName::TextBeforeLabelStartLink => text::before_label_start_link(tokenizer),
         StateName::TextBeforeData => text::before_data(tokenizer),
         StateName::AttentionStart => attention::start(tokenizer),
-        // (AttentionInside)
-        _ => attention::inside(tokenizer),
-    }
-}
-
-// Calls the state of this name.
-fn dispatch(name: StateName, tokenizer: &mut Tokenizer) -> Result<State, AllocError>
-    requires { ready_of name tokenizer.old }
-    ensures ok { IfOk result (λ s. step_of name tokenizer.old ≡ record { state = s; left = tokenizer.new }) }
-    ensures err { OnErr result (IsTrue tokenizer.new.failed) }
-{
-    match family_of(name) {
-        Family::Leaf => dispatch_leaf(name, tokenizer),
-        Family::Html => dispatch_html(name, tokenizer),
-        Family::Literal => dispatch_literal(name, tokenizer),
-        Family::Part => dispatch_part(name, tokenizer),
-        Family::Label => dispatch_label(name, tokenizer),
-        Family::Text => dispatch_text(name, tokenizer),
+        StateName::AttentionInside => attention::inside(tokenizer),
+        _ => dispatch_labels(name, tokenizer),
     }
 }
 

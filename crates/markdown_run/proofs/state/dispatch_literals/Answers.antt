@@ -3,7 +3,7 @@ use Rattle.markdown_event.specs.declared.state.StateName.{StateName}
 use Rattle.markdown_leaf_gfm.specs.GfmAutolinkLiteral.{LiteralReady, PathReady, CodeReady, LookReady}
 use Rattle.markdown_leaf_gfm.proofs.TrailChecks.{may-class, may-count, trail-ready}
 use Rattle.markdown_run.specs.Layer.{ready_of}
-use Rattle.markdown_run.proofs.state.dispatch_literal.Goals as goal
+use Rattle.markdown_run.proofs.state.dispatch_literals.Goals as goal
 
 pub domain_inside-requires : goal.domain_inside-requires
 domain_inside-requires c =
