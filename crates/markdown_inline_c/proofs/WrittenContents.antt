@@ -19,10 +19,9 @@ use Rattle.markdown_inline_c.specs.FlatHtml.{IsWithinLimit, defined_by, html_opt
 use Rattle.markdown_inline_c.specs.FlatInput.{replaces_nul}
 use Rattle.markdown_inline_c.specs.FlatHtmls.{AreWritable, IsHtmlFaultAt, Read, brought_to, brought_to_one, calls_of_one, html_of_each, html_of_one}
 use Rattle.markdown_inline_c.specs.FlatTexts.{IsTextAt, many_setting}
-use Rattle.markdown_inline_c.specs.HtmlsState.{IsOverspent, IsSpent, limit_of}
+use Rattle.markdown_inline_c.specs.HtmlsState.{IsOverspent, IsSpent, IsWriteFault, limit_of}
 use Rattle.markdown_inline_c.specs.Many.{AreFound, AreHandedOut, EndsBy}
 use Rattle.markdown_inline_c.specs.Refusals.{blames, blames_none}
-use Rattle.markdown_inline_c.specs.Statuses.{IsContentAtFault}
 use Rattle.markdown_inline_c.specs.declared.fault.Fault.{Fault}
 use Rattle.markdown_inline_c.specs.declared.flat.FlatContent.{FlatContent}
 use Rattle.markdown_inline_c.specs.declared.flat.FlatPiece.{FlatPiece}
@@ -150,11 +149,6 @@ all_written p pieces tree limit contents old array ends_old ends o calls left i 
     let all : take i contents ≡ contents = take_all i contents (omega (arith, e)) in
     written-so-far p pieces tree limit contents old array ends_old ends o calls left i (λ read. EndsBy (AreWritable p pieces tree limit) (IsHtmlFaultAt p pieces tree limit) contents read (Ok (tt {0}))) w
     (e, subst (AreWritable p pieces tree limit) all (w.texts, left-within limit left _ w.is_left))
-
--- what is wrong with a content, behind what is left of the limit
-abbrev pub IsWriteFault : Page → List FlatPiece → (FlatContent → Read) → Option ℕ → FlatContent → Fault → Type 0
-IsWriteFault p pieces tree left c fault =
-    (fault ≡ Fault.Memory) ⊎ (IsContentAtFault p.bytes pieces c fault ⊎ ((fault ≡ Fault.References) × (IsTextAt p.bytes pieces c × IsOverspent left (brought_to_one p (tree c)))))
 
 -- what is brought to one content more
 brought-push : (p : Page) (tree : FlatContent → Read) (before : List FlatContent) (c : FlatContent) → brought_to p (map tree (before ++ c ∷ [])) ≡ brought_to p (map tree before) + brought_to_one p (tree c)

@@ -1,11 +1,14 @@
 -- Events as a caller in C gets them.
-use Rattle.std.specs.Prelude.{ℕ, min, Option, None, Some}
+use Rattle.std.specs.Prelude.{ℕ, List, map, min, Option, None, Some}
 use Rattle.markdown_event.specs.EventNames.{name_number}
 use Rattle.markdown_event.specs.declared.event.Content.{Content}
 use Rattle.markdown_event.specs.declared.event.Event.{Event}
 use Rattle.markdown_event.specs.declared.event.Kind.{Kind}
 use Rattle.markdown_event.specs.declared.event.Link.{Link}
+use Rattle.markdown_model.specs.InlineTree.{string_events, text_events}
+use Rattle.markdown_inline_c.specs.FlatInput.{pieces_of, string_setting, text_setting}
 use Rattle.markdown_inline_c.specs.declared.flat.FlatEvent.{FlatEvent}
+use Rattle.markdown_inline_c.specs.declared.flat.Input.{Input}
 use Rattle.markdown_inline_c.specs.declared.flat.ShortEvent.{ShortEvent}
 
 -- the number of an event, or the highest number where there is none
@@ -38,6 +41,16 @@ flat_event e = linked (record {
   previous = 18446744073709551615;
   next = 18446744073709551615;
 }) e.link
+
+-- The events of the tree of an input's pieces.
+
+-- as a string
+abbrev pub string_events_of : Input → List FlatEvent
+string_events_of i = map flat_event (string_events (string_setting i) (pieces_of i.pieces.now))
+
+-- as a text
+abbrev pub text_events_of : Input → List FlatEvent
+text_events_of i = map flat_event (text_events (text_setting i) (pieces_of i.pieces.now))
 
 -- Short events.
 

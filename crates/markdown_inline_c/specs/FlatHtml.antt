@@ -58,6 +58,10 @@ defined_by replaced labels [] targets = []
 defined_by replaced labels (r ∷ ranges) [] = []
 defined_by replaced labels (r ∷ ranges) (t ∷ targets) = defined_at replaced labels r t ∷ defined_by replaced labels ranges targets
 
+-- the definitions of an input, each with its target
+abbrev pub definitions_in : Input → List FlatTarget → List Defined
+definitions_in i targets = defined_by (replaces_nul (options_of i.options)) i.labels.now i.definitions.now targets
+
 -- whether footnotes are looked for
 abbrev pub footnotes_on : Input → Bool
 footnotes_on i = let o = options_of i.options in o.constructs.gfm_label_start_footnote
@@ -70,7 +74,7 @@ page i targets options = record {
   rules = rules_of (options_of i.options);
   footnotes_on = footnotes_on i;
   decoding = decoding_of (options_of i.options);
-  definitions = defined_by (replaces_nul (options_of i.options)) i.labels.now i.definitions.now targets;
+  definitions = definitions_in i targets;
   options = html_options_of options;
 }
 

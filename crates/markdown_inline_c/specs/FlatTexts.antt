@@ -50,6 +50,10 @@ text_at s pieces c = text_events (record s { first_of_item = is_first_of_item c 
 abbrev pub setting_at : Setting → List FlatPiece → FlatContent → Setting
 setting_at s pieces c = within (content_of s.bytes (pieces_at pieces c)) s
 
+-- these events, in a form that the setting and the content may change
+abbrev pub text_in : {X : Type 0} → (Setting → List Event → List X) → Setting → List FlatPiece → FlatContent → List X
+text_in form s pieces c = form (setting_at s pieces c) (text_at s pieces c)
+
 -- The setting of a document and what is defined by labels, which says nothing of the first of an item: each content says it.
 
 abbrev pub setting_by : List ℕ → ParseOptions → (labels : List ℕ) (definitions footnotes : List Range) → Setting

@@ -1,10 +1,16 @@
 -- What functions promise each other where many contents are written as HTML.
-use Rattle.std.specs.Prelude.{◌≡◌, ℕ, ◌-◌, ◌<◌, ◌≤◌, ◌==◌, if◌then◌else◌, List, [], Option, None, Some}
+use Rattle.std.specs.Prelude.{◌≡◌, ◌⊎◌, ℕ, ◌-◌, ◌<◌, ◌≤◌, ◌==◌, if◌then◌else◌, List, [], Option, None, Some}
 use Rattle.markdown_content.specs.declared.parser.Piece.{Piece}
 use Rattle.markdown_html.specs.View.{page_from}
 use Rattle.markdown_html_model.specs.Html.{Page}
 use Rattle.markdown_model.specs.Setting.{Setting}
 use Rattle.markdown_run_text.specs.RunSetting.{setting_of}
+use Rattle.markdown_inline_c.specs.FlatHtmls.{Read, brought_to_one}
+use Rattle.markdown_inline_c.specs.FlatTexts.{IsTextAt}
+use Rattle.markdown_inline_c.specs.Statuses.{IsContentAtFault}
+use Rattle.markdown_inline_c.specs.declared.fault.Fault.{Fault}
+use Rattle.markdown_inline_c.specs.declared.flat.FlatContent.{FlatContent}
+use Rattle.markdown_inline_c.specs.declared.flat.FlatPiece.{FlatPiece}
 use Rattle.markdown_inline_c.specs.declared.htmls.Given.{Given}
 
 -- what stands beside the trees of all contents
@@ -31,3 +37,14 @@ IsSpent (Some left) n rest = (n ≤ left) × (rest ≡ Some (left - n))
 abbrev pub IsOverspent : Option ℕ → ℕ → Type 0
 IsOverspent None n = ⊥
 IsOverspent (Some left) n = left < n
+
+-- what is wrong with a tree to which so many bytes are brought
+abbrev pub IsSpendFault : Option ℕ → ℕ → Fault → Type 0
+IsSpendFault left n fault = (fault ≡ Fault.Memory) ⊎ ((fault ≡ Fault.References) × IsOverspent left n)
+
+-- what is wrong with a content, behind what is left of the limit
+abbrev pub IsWriteFault : Page → List FlatPiece → (FlatContent → Read) → Option ℕ → FlatContent → Fault → Type 0
+IsWriteFault p pieces tree left c fault =
+    (fault ≡ Fault.Memory)
+    ⊎ (IsContentAtFault p.bytes pieces c fault
+    ⊎ ((fault ≡ Fault.References) × (IsTextAt p.bytes pieces c × IsOverspent left (brought_to_one p (tree c)))))

@@ -6,6 +6,7 @@ use Rattle.markdown_content.specs.DefaultOptions.{AreKnown}
 use Rattle.markdown_content.specs.declared.parser.Piece.{Piece}
 use Rattle.markdown_inline_c.specs.FlatHtml.{AreKnownForHtml, AreTargets, IsBroughtWithin}
 use Rattle.markdown_inline_c.specs.FlatInput.{AreInputOptions, AreLabels, IsTextInput, pieces_of}
+use Rattle.markdown_inline_c.specs.FlatStrings.{IsStringAt}
 use Rattle.markdown_inline_c.specs.FlatTexts.{IsContentAt, IsTextAt}
 use Rattle.markdown_inline_c.specs.References.{decoding_by, reference_value}
 use Rattle.markdown_inline_c.specs.declared.fault.Fault.{Fault}
@@ -13,6 +14,7 @@ use Rattle.markdown_inline_c.specs.declared.flat.FlatContent.{FlatContent}
 use Rattle.markdown_inline_c.specs.declared.flat.FlatPiece.{FlatPiece}
 use Rattle.markdown_inline_c.specs.declared.flat.FlatTarget.{FlatTarget}
 use Rattle.markdown_inline_c.specs.declared.flat.Input.{Input}
+use Rattle.markdown_inline_c.specs.declared.flat.Range.{Range}
 
 abbrev pub fault_status : Fault → ℕ
 fault_status Fault.UnknownOption = 2
@@ -25,6 +27,10 @@ fault_status Fault.TooLong = 9
 fault_status Fault.NoReference = 10
 fault_status Fault.References = 11
 fault_status Fault.NoString = 12
+
+-- this fault, where something does not hold; memory may be refused at any time
+abbrev pub IsFaultUnless : Fault → (holds : Type 0) → Fault → Type 0
+IsFaultUnless named holds fault = (fault ≡ Fault.Memory) ⊎ ((fault ≡ named) × (holds → ⊥))
 
 -- of a document
 abbrev pub IsDocumentFault : List ℕ → Fault → Type 0
@@ -67,13 +73,13 @@ IsReferenceFault options bytes Fault.NoReference = AreKnown options × (is_some 
 IsReferenceFault options bytes Fault.Memory = AreKnown options
 IsReferenceFault options bytes _ = ⊥
 
--- of where definitions lead; memory may be refused at any time
+-- of where definitions lead
 abbrev pub IsTargetsFault : Input → List FlatTarget → Fault → Type 0
-IsTargetsFault i targets fault = (fault ≡ Fault.Memory) ⊎ ((fault ≡ Fault.Definition) × (AreTargets i targets → ⊥))
+IsTargetsFault i targets = IsFaultUnless Fault.Definition (AreTargets i targets)
 
--- of what definitions bring to the tree of the input; memory may be refused at any time
+-- of what definitions bring to the tree of the input
 abbrev pub IsLimitFault : Input → List FlatTarget → (options limit : ℕ) → Fault → Type 0
-IsLimitFault i targets options limit fault = (fault ≡ Fault.Memory) ⊎ ((fault ≡ Fault.References) × (IsBroughtWithin i targets options limit → ⊥))
+IsLimitFault i targets options limit = IsFaultUnless Fault.References (IsBroughtWithin i targets options limit)
 
 -- of an input that is to be written as HTML: of what may be written, then of the text, then of where its definitions lead, then of what they bring
 abbrev pub IsHtmlFault : Input → List FlatTarget → (options limit : ℕ) → Fault → Type 0
@@ -86,3 +92,7 @@ abbrev pub IsContentAtFault : List ℕ → List FlatPiece → FlatContent → Fa
 IsContentAtFault bytes pieces c fault =
     ((fault ≡ Fault.NoContent) × (IsContentAt bytes pieces c → ⊥))
     ⊎ ((fault ≡ Fault.BlankLine) × (IsContentAt bytes pieces c × (IsTextAt bytes pieces c → ⊥)))
+
+-- of one of many strings
+abbrev pub IsStringAtFault : List ℕ → (parts : List Range) → Range → Fault → Type 0
+IsStringAtFault bytes parts s fault = (fault ≡ Fault.NoString) × (IsStringAt bytes parts s → ⊥)

@@ -10,7 +10,7 @@ ghost use Rattle.markdown_inline_c.specs.FlatInput.{AreLabels, IsLabelRange, ide
 ghost use Rattle.markdown_inline_c.specs.FlatTexts.{AreTextsOptions, IsAmong, IsTextAt, pieces_at, reserve_nothing, setting_by, text_at};
 ghost use Rattle.markdown_inline_c.specs.FlatInput.{pieces_listed};
 ghost use Rattle.markdown_inline_c.specs.Refusals.{AreLabelsRefused, IsDocumentRefused, IsFirstBlamed, IsFirstOther};
-ghost use Rattle.markdown_inline_c.specs.Statuses.{IsContentAtFault};
+ghost use Rattle.markdown_inline_c.specs.Statuses.{IsContentAtFault, IsFaultUnless};
 ghost use Rattle.markdown_inline_c.specs.declared.fault.Fault.TheVariants.{Definition, Memory, NoContent, UnknownOption};
 
 use crate::check::{Pieces, check_document};
@@ -38,7 +38,7 @@ impl<'a> Contents<'a> {
     pub fn pieces_of(&self, alloc: Global, content: FlatContent) -> Result<Pieces, Fault>
         ensures pieces { IfOk result (λ found. pieces_listed found ≡ pieces_at self.now.pieces.now content) }
         ensures among { IfOk result (λ _. IsAmong self.now.pieces.now content) }
-        ensures err { IfErr result (λ fault. (fault ≡ Memory) ⊎ ((fault ≡ NoContent) × (IsAmong self.now.pieces.now content → ⊥))) }
+        ensures err { IfErr result (IsFaultUnless NoContent (IsAmong self.now.pieces.now content)) }
     {
         let (start, end) = (content.pieces.start, content.pieces.end);
         if start > end || end > self.pieces.len() {

@@ -54,7 +54,8 @@ pub trait Form {
     ) -> Result<Self::Events, AllocError>
         requires content { IsContent document.now.bytes.now pieces.now }
         requires form { IsFor self.now (setting_of document.now) }
-        ensures { IfOk result (λ found. Self.Events.items found ≡ items (within (content_of document.now.bytes.now pieces.now) (setting_of document.now)) run.events) };
+        ensures { IfOk result (λ found.
+            Self.Events.items found ≡ items (within (content_of document.now.bytes.now pieces.now) (setting_of document.now)) run.events) };
 }
 
 /// Events with all that is known of each by itself.
@@ -302,7 +303,8 @@ impl Form for Short {
 
     type Events = Telling;
 
-    ghost IsFor = { λ form s. (form.definitions ≡ s.definitions) × (form.footnotes ≡ s.footnotes) × (IsFalse form.has_characters → LacksCharacters (decoding_of s.options) s.bytes) };
+    ghost IsFor = { λ form s. (form.definitions ≡ s.definitions) × (form.footnotes ≡ s.footnotes)
+        × (IsFalse form.has_characters → LacksCharacters (decoding_of s.options) s.bytes) };
 
     ghost items = { short_events };
 

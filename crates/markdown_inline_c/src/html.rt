@@ -1,17 +1,16 @@
 //! The HTML of an input as a text.
 
-ghost use Rattle.std.specs.Prelude.{◌≡◌, ◌⊎◌, ◌∷◌, ◌++◌, [], IfErr, IfOk, OnOk, length, option_map, string_bytes};
+ghost use Rattle.std.specs.Prelude.{◌≡◌, ◌∷◌, ◌++◌, [], IfErr, IfOk, OnOk, length, option_map, string_bytes};
 ghost use Rattle.std.specs.List.{All};
 ghost use Rattle.markdown_content.specs.Content.{IsContent};
-ghost use Rattle.markdown_content.specs.DefaultOptions.{options_of};
 ghost use Rattle.markdown_content.specs.Tree.{Forest, events_of};
 ghost use Rattle.markdown_html.specs.Brought.{brought};
 ghost use Rattle.markdown_html.specs.DefinitionView.{defined_of};
 ghost use Rattle.markdown_html.specs.View.{page_from};
-ghost use Rattle.markdown_inline_c.specs.FlatHtml.{AreKnownForHtml, AreTargets, IsHtmlInput, IsTarget, IsTitleRange, IsWithinLimit, defined_at, defined_by, html_of, html_options_of, reserve_nothing, title_of};
-ghost use Rattle.markdown_inline_c.specs.FlatInput.{IsLabelRange, range_bytes, replaces_nul};
-ghost use Rattle.markdown_inline_c.specs.Statuses.{IsHtmlFault, IsTargetsFault};
-ghost use Rattle.markdown_inline_c.specs.declared.fault.Fault.TheVariants.{Definition as NoDefinition, Memory, References, UnknownOption};
+ghost use Rattle.markdown_inline_c.specs.FlatHtml.{AreKnownForHtml, AreTargets, IsHtmlInput, IsTarget, IsTitleRange, IsWithinLimit, defined_at, defined_by, definitions_in, html_of, html_options_of, reserve_nothing, title_of};
+ghost use Rattle.markdown_inline_c.specs.FlatInput.{IsLabelRange, range_bytes};
+ghost use Rattle.markdown_inline_c.specs.Statuses.{IsFaultUnless, IsHtmlFault, IsTargetsFault};
+ghost use Rattle.markdown_inline_c.specs.declared.fault.Fault.TheVariants.{Definition as NoDefinition, References, UnknownOption};
 ghost use Rattle.markdown_util.specs.Identifier.{identifier_by};
 
 use crate::check::Pieces;
@@ -57,7 +56,7 @@ pub(crate) fn known_options(options: u32, targets: &[FlatTarget]) -> Result<Html
 fn text_at(alloc: Global, labels: &[u8], range: Range) -> Result<String, Fault>
     ensures ok { IfOk result (λ text. string_bytes text ≡ range_bytes labels.now range) }
     ensures label { IfOk result (λ _. IsLabelRange labels.now range) }
-    ensures err { IfErr result (λ fault. (fault ≡ Memory) ⊎ ((fault ≡ NoDefinition) × (IsLabelRange labels.now range → ⊥))) }
+    ensures err { IfErr result (IsFaultUnless NoDefinition (IsLabelRange labels.now range)) }
 {
     let Some(text) = text_of(labels, range) else {
         return Err(Fault::Definition);
@@ -73,7 +72,7 @@ fn identifier_at(
     replaced: bool,
 ) -> Result<String, Fault>
     ensures ok { IfOk result (λ text. string_bytes text ≡ identifier_by replaced (range_bytes labels.now range)) }
-    ensures err { IfErr result (λ fault. (fault ≡ Memory) ⊎ ((fault ≡ NoDefinition) × (IsLabelRange labels.now range → ⊥))) }
+    ensures err { IfErr result (IsFaultUnless NoDefinition (IsLabelRange labels.now range)) }
 {
     let Some(text) = text_of(labels, range) else {
         return Err(Fault::Definition);
@@ -85,7 +84,7 @@ fn identifier_at(
 fn title_at(alloc: Global, labels: &[u8], target: FlatTarget) -> Result<Option<String>, Fault>
     ensures ok { IfOk result (λ title. option_map string_bytes title ≡ title_of labels.now target) }
     ensures title { IfOk result (λ _. IsTitleRange labels.now target) }
-    ensures err { IfErr result (λ fault. (fault ≡ Memory) ⊎ ((fault ≡ NoDefinition) × (IsTitleRange labels.now target → ⊥))) }
+    ensures err { IfErr result (IsFaultUnless NoDefinition (IsTitleRange labels.now target)) }
 {
     if target.has_title == 0 {
         return Ok(None);
@@ -104,7 +103,7 @@ fn definition_at(
     requires { IsLabelRange labels.now range }
     ensures ok { IfOk result (λ found. defined_of found ≡ defined_at replaced labels.now range target) }
     ensures target { IfOk result (λ _. IsTarget labels.now target) }
-    ensures err { IfErr result (λ fault. (fault ≡ Memory) ⊎ ((fault ≡ NoDefinition) × (IsTarget labels.now target → ⊥))) }
+    ensures err { IfErr result (IsFaultUnless NoDefinition (IsTarget labels.now target)) }
 {
     Ok(Definition {
         identifier: identifier_at(alloc, labels, range, replaced)?,
@@ -133,7 +132,7 @@ fn definitions_of(
     requires one_each { length targets.now ≡ length ranges.now }
     ensures found { IfOk result (λ found. found ≡ defined_by replaced labels.now ranges.now targets.now) }
     ensures targets { IfOk result (λ _. All (IsTarget labels.now) targets.now) }
-    ensures err { IfErr result (λ fault. (fault ≡ Memory) ⊎ ((fault ≡ NoDefinition) × (All (IsTarget labels.now) targets.now → ⊥))) }
+    ensures err { IfErr result (IsFaultUnless NoDefinition (All (IsTarget labels.now) targets.now)) }
 {
     let mut found = Targets::new(alloc);
     for at in 0..targets.len() {
@@ -150,7 +149,7 @@ pub(crate) fn definitions(
     targets: &[FlatTarget],
 ) -> Result<Targets, Fault>
     requires { All (IsLabelRange input.now.labels.now) input.now.definitions.now }
-    ensures found { IfOk result (λ found. found ≡ defined_by (replaces_nul (options_of input.now.options)) input.now.labels.now input.now.definitions.now targets.now) }
+    ensures found { IfOk result (λ found. found ≡ definitions_in input.now targets.now) }
     ensures targets { IfOk result (λ _. AreTargets input.now targets.now) }
     ensures err { IfErr result (IsTargetsFault input.now targets.now) }
 {
@@ -172,8 +171,10 @@ fn check_limit(
     limit: usize,
 ) -> Result<(), Fault>
     requires content { IsContent parse_state.now.bytes.now pieces.now }
-    ensures ok { (t : Forest) → events.now ≡ events_of t → IfOk result (λ _. IsWithinLimit limit (brought (page_from parse_state.now pieces.now definitions.now options) t)) }
-    ensures err { (t : Forest) → events.now ≡ events_of t → IfErr result (λ fault. (fault ≡ Memory) ⊎ ((fault ≡ References) × (IsWithinLimit limit (brought (page_from parse_state.now pieces.now definitions.now options) t) → ⊥))) }
+    ensures ok { let page = page_from parse_state.now pieces.now definitions.now options in
+        (t : Forest) → events.now ≡ events_of t → IfOk result (λ _. IsWithinLimit limit (brought page t)) }
+    ensures err { let page = page_from parse_state.now pieces.now definitions.now options in
+        (t : Forest) → events.now ≡ events_of t → IfErr result (IsFaultUnless References (IsWithinLimit limit (brought page t))) }
 {
     if limit == 0 {
         return Ok(());

@@ -1,6 +1,6 @@
 //! The HTML of many contents of one document.
 
-ghost use Rattle.std.specs.Prelude.{◌≡◌, ◌⊎◌, ◌↔◌, ◌≤◌, [], IfErr, IfOk, IsTrue, MatchOption, OnOk, length, map};
+ghost use Rattle.std.specs.Prelude.{◌≡◌, ◌↔◌, [], IfErr, IfOk, IsTrue, MatchOption, OnOk, map};
 ghost use Rattle.std.specs.List.{All};
 ghost use Rattle.markdown_content.specs.Content.{IsContent};
 ghost use Rattle.markdown_content.specs.DefaultOptions.{options_of};
@@ -8,15 +8,15 @@ ghost use Rattle.markdown_content.specs.Tree.{Forest, events_of};
 ghost use Rattle.markdown_html.specs.Brought.{brought};
 ghost use Rattle.markdown_html_model.specs.Html.{calls_behind, html};
 ghost use Rattle.markdown_innermost.specs.InnermostEvents.{innermost, IsSpanInOrder};
-ghost use Rattle.markdown_inline_c.specs.FlatHtml.{AreTargets, IsTarget, defined_by, html_options_of, page};
+ghost use Rattle.markdown_inline_c.specs.Calls.{EndHtmls};
+ghost use Rattle.markdown_inline_c.specs.FlatHtml.{AreTargets, IsTarget, definitions_in, html_options_of};
 ghost use Rattle.markdown_inline_c.specs.FlatHtmls.{AreWritable, IsHtmlFaultAt, brought_to_one, calls_of_one, html_of_each, html_of_one, htmls_of, tree_at};
-ghost use Rattle.markdown_inline_c.specs.FlatInput.{IsLabelRange, replaces_nul};
-ghost use Rattle.markdown_inline_c.specs.FlatTexts.{IsTextAt, many_setting};
-ghost use Rattle.markdown_inline_c.specs.HtmlsState.{IsOverspent, IsSpent, limit_of, page_of, page_within, setting};
-ghost use Rattle.markdown_inline_c.specs.Many.{AreFound, EndsBy, EndsByInput};
-ghost use Rattle.markdown_inline_c.specs.Refusals.{AreAllKnown, AreTargetsRefused, IsFirstOther, IsHtmlInputRefused, IsReadyForHtml, blames_none};
-ghost use Rattle.markdown_inline_c.specs.Statuses.{IsContentAtFault};
-ghost use Rattle.markdown_inline_c.specs.declared.fault.Fault.TheVariants.{Memory, References, UnknownOption};
+ghost use Rattle.markdown_inline_c.specs.FlatInput.{IsLabelRange};
+ghost use Rattle.markdown_inline_c.specs.FlatTexts.{IsTextAt};
+ghost use Rattle.markdown_inline_c.specs.HtmlsState.{IsSpendFault, IsSpent, IsWriteFault, limit_of, page_of, page_within, setting};
+ghost use Rattle.markdown_inline_c.specs.Many.{AreFound, EndsBy};
+ghost use Rattle.markdown_inline_c.specs.Refusals.{AreAllKnown, AreTargetsRefused, IsFirstOther, blames_none};
+ghost use Rattle.markdown_inline_c.specs.declared.fault.Fault.TheVariants.{Memory, UnknownOption};
 
 use crate::contents::{Contents, check_input, prepared, texts_options};
 use crate::fault::Fault;
@@ -61,7 +61,7 @@ fn spend(
 ) -> Result<Option<usize>, Fault>
     requires content { IsContent given.now.contents.document.now.bytes.now pieces.now }
     ensures ok { (t : Forest) → events.now ≡ events_of t → IfOk result (λ rest. IsSpent left (brought (page_within given.now pieces.now) t) rest) }
-    ensures err { (t : Forest) → events.now ≡ events_of t → IfErr result (λ fault. (fault ≡ Memory) ⊎ ((fault ≡ References) × IsOverspent left (brought (page_within given.now pieces.now) t))) }
+    ensures err { (t : Forest) → events.now ≡ events_of t → IfErr result (IsSpendFault left (brought (page_within given.now pieces.now) t)) }
 {
     let Some(limit) = left else {
         return Ok(None);
@@ -110,10 +110,13 @@ impl Carried {
     ) -> Result<Vec<u8>, Fault>
         requires content { IsContent given.now.contents.document.now.bytes.now pieces.now }
         requires places { All (IsSpanInOrder given.now.contents.document.now.bytes.now) (innermost events.now) }
-        ensures html { (t : Forest) → events.now ≡ events_of t → IfOk result (λ written. written.items ≡ html (page_within given.now pieces.now) self.old.calls t) }
-        ensures calls { (t : Forest) → events.now ≡ events_of t → OnOk result (self.new.calls ≡ calls_behind (page_within given.now pieces.now) self.old.calls t) }
-        ensures left { (t : Forest) → events.now ≡ events_of t → OnOk result (IsSpent self.old.left (brought (page_within given.now pieces.now) t) self.new.left) }
-        ensures err { (t : Forest) → events.now ≡ events_of t → IfErr result (λ fault. (fault ≡ Memory) ⊎ ((fault ≡ References) × IsOverspent self.old.left (brought (page_within given.now pieces.now) t))) }
+        ensures html { (t : Forest) → events.now ≡ events_of t
+            → IfOk result (λ written. written.items ≡ html (page_within given.now pieces.now) self.old.calls t) }
+        ensures calls { (t : Forest) → events.now ≡ events_of t
+            → OnOk result (self.new.calls ≡ calls_behind (page_within given.now pieces.now) self.old.calls t) }
+        ensures left { (t : Forest) → events.now ≡ events_of t
+            → OnOk result (IsSpent self.old.left (brought (page_within given.now pieces.now) t) self.new.left) }
+        ensures err { (t : Forest) → events.now ≡ events_of t → IfErr result (IsSpendFault self.old.left (brought (page_within given.now pieces.now) t)) }
     {
         self.left = spend(alloc, given, pieces, events, self.left)?;
         let parse_state = given.contents.document.parse_state();
@@ -137,11 +140,15 @@ impl Carried {
         given: &Given,
         content: FlatContent,
     ) -> Result<Vec<u8>, Fault>
-        ensures html { IfOk result (λ written. written.items ≡ html_of_one (page_of given.now) self.old.calls (tree_at (setting given.now) given.now.contents.pieces.now content)) }
-        ensures calls { OnOk result (self.new.calls ≡ calls_of_one (page_of given.now) self.old.calls (tree_at (setting given.now) given.now.contents.pieces.now content)) }
-        ensures left { OnOk result (IsSpent self.old.left (brought_to_one (page_of given.now) (tree_at (setting given.now) given.now.contents.pieces.now content)) self.new.left) }
+        ensures html { let read = tree_at (setting given.now) given.now.contents.pieces.now content in
+            IfOk result (λ written. written.items ≡ html_of_one (page_of given.now) self.old.calls read) }
+        ensures calls { let read = tree_at (setting given.now) given.now.contents.pieces.now content in
+            OnOk result (self.new.calls ≡ calls_of_one (page_of given.now) self.old.calls read) }
+        ensures left { let read = tree_at (setting given.now) given.now.contents.pieces.now content in
+            OnOk result (IsSpent self.old.left (brought_to_one (page_of given.now) read) self.new.left) }
         ensures text { OnOk result (IsTextAt given.now.contents.document.now.bytes.now given.now.contents.pieces.now content) }
-        ensures err { IfErr result (λ fault. (fault ≡ Memory) ⊎ (IsContentAtFault given.now.contents.document.now.bytes.now given.now.contents.pieces.now content fault ⊎ ((fault ≡ References) × (IsTextAt given.now.contents.document.now.bytes.now given.now.contents.pieces.now content × IsOverspent self.old.left (brought_to_one (page_of given.now) (tree_at (setting given.now) given.now.contents.pieces.now content)))))) }
+        ensures err { let pieces = given.now.contents.pieces.now in
+            IfErr result (IsWriteFault (page_of given.now) pieces (tree_at (setting given.now) pieces) self.old.left content) }
     {
         let pieces = given.contents.pieces_of(alloc, content)?;
         let run = given.contents.read(alloc, pieces.as_slice(), content)?;
@@ -160,7 +167,9 @@ fn write_all(
     outcome: &mut Outcome,
 ) -> Result<(), Refusal>
     requires { (outcome.old.done ≡ 0) × (outcome.old.count ≡ 0) }
-    ensures { let p = page_of given.now in let pieces = given.now.contents.pieces.now in let tree = tree_at (setting given.now) pieces in AreFound (html_of_each p [] (map tree contents.now)) html.old html.new ends.old ends.new outcome.new (λ read. EndsBy (AreWritable p pieces tree limit) (IsHtmlFaultAt p pieces tree limit) contents.now read result) }
+    ensures { let p = page_of given.now in let pieces = given.now.contents.pieces.now in let tree = tree_at (setting given.now) pieces in
+        AreFound (html_of_each p [] (map tree contents.now)) html.old html.new ends.old ends.new outcome.new
+        (λ read. EndsBy (AreWritable p pieces tree limit) (IsHtmlFaultAt p pieces tree limit) contents.now read result) }
 {
     let mut carried = Carried::nothing(alloc, limit);
     for at in 0..contents.len() {
@@ -231,7 +240,7 @@ fn known_definitions(
 ) -> Result<Targets, Refusal>
     requires labels { All (IsLabelRange input.now.labels.now) input.now.definitions.now }
     requires targets { AreTargets input.now targets.now }
-    ensures ok { IfOk result (λ found. found ≡ defined_by (replaces_nul (options_of input.now.options)) input.now.labels.now input.now.definitions.now targets.now) }
+    ensures ok { IfOk result (λ found. found ≡ definitions_in input.now targets.now) }
     ensures err { IfErr result (λ r. r ≡ blames_none Memory) }
 {
     Ok(definitions(alloc, input, targets)?)
@@ -249,7 +258,8 @@ pub fn htmls(
     ends: &mut [usize],
     outcome: &mut Outcome,
 ) -> Result<(), Refusal>
-    ensures { let i = input.now in let p = page i targets.now options in let tree = tree_at (many_setting i) i.pieces.now in AreFound (htmls_of i targets.now contents.now options) html.old html.new ends.old ends.new outcome.new (λ read. EndsByInput (IsReadyForHtml i targets.now contents.now options) (IsHtmlInputRefused i targets.now contents.now options) (AreWritable p i.pieces.now tree limit) (IsHtmlFaultAt p i.pieces.now tree limit) contents.now read result) }
+    ensures { AreFound (htmls_of input.now targets.now contents.now options) html.old html.new ends.old ends.new outcome.new
+        (EndHtmls input.now targets.now contents.now options limit result) }
 {
     *outcome = Outcome::nothing();
     let (asked, allowed) = known_options(input, targets, contents, options)?;

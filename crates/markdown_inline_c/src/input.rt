@@ -1,14 +1,14 @@
 //! Runs over an input.
 
-ghost use Rattle.std.specs.Prelude.{◌≡◌, ◌⊎◌, ◌<◌, ◌∷◌, ◌++◌, [], IfErr, IfNone, IfOk, IfSome, OnOk, map, string_bytes};
+ghost use Rattle.std.specs.Prelude.{◌≡◌, ◌<◌, ◌∷◌, ◌++◌, [], IfErr, IfNone, IfOk, IfSome, OnOk, map, string_bytes};
 ghost use Rattle.std.specs.List.{All};
 ghost use Rattle.markdown_content.specs.DefaultOptions.{AreKnown, options_of};
 ghost use Rattle.markdown_model.specs.InlineTree.{string_events, text_events};
 ghost use Rattle.markdown_innermost.specs.InnermostEvents.{innermost, IsSpanInOrder};
 ghost use Rattle.markdown_util.specs.Identifier.{identifier_by};
 ghost use Rattle.markdown_inline_c.specs.FlatInput.{AreInputOptions, identifiers, IsLabelRange, pieces_of, range_bytes, string_setting, text_setting, IsStringInput, IsTextInput};
-ghost use Rattle.markdown_inline_c.specs.Statuses.{IsStringFault, IsTextFault};
-ghost use Rattle.markdown_inline_c.specs.declared.fault.Fault.TheVariants.{Definition, Memory, UnknownOption};
+ghost use Rattle.markdown_inline_c.specs.Statuses.{IsFaultUnless, IsStringFault, IsTextFault};
+ghost use Rattle.markdown_inline_c.specs.declared.fault.Fault.TheVariants.{Definition, UnknownOption};
 
 use crate::check::{Pieces, check_content, check_text};
 use crate::fault::Fault;
@@ -79,7 +79,7 @@ fn some_identifiers_of(
 ) -> Result<Vec<String>, Fault>
     ensures found { IfOk result (λ found. map string_bytes found.items ≡ identifiers replaced labels.now ranges.now) }
     ensures labels { IfOk result (λ _. All (IsLabelRange labels.now) ranges.now) }
-    ensures err { IfErr result (λ fault. (fault ≡ Memory) ⊎ ((fault ≡ Definition) × (All (IsLabelRange labels.now) ranges.now → ⊥))) }
+    ensures err { IfErr result (IsFaultUnless Definition (All (IsLabelRange labels.now) ranges.now)) }
 {
     let mut found = Vec::new(alloc);
     for range in ranges {
@@ -101,7 +101,7 @@ pub(crate) fn identifiers_of(
 ) -> Result<Vec<String>, Fault>
     ensures found { IfOk result (λ found. map string_bytes found.items ≡ identifiers replaced labels.now ranges.now) }
     ensures labels { IfOk result (λ _. All (IsLabelRange labels.now) ranges.now) }
-    ensures err { IfErr result (λ fault. (fault ≡ Memory) ⊎ ((fault ≡ Definition) × (All (IsLabelRange labels.now) ranges.now → ⊥))) }
+    ensures err { IfErr result (IsFaultUnless Definition (All (IsLabelRange labels.now) ranges.now)) }
 {
     if ranges.is_empty() {
         return Ok(Vec::new(alloc));

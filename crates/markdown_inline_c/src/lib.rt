@@ -8,9 +8,8 @@
 #![tactic(auto)]
 
 ghost use Rattle.std.specs.Prelude.{◌≡◌, ◌∷◌, [], IsUtf8, length, map};
-ghost use Rattle.markdown_model.specs.InlineTree.{string_events, text_events};
-ghost use Rattle.markdown_inline_c.specs.FlatInput.{pieces_of, string_setting, text_setting, IsStringInput, IsTextInput};
-ghost use Rattle.markdown_inline_c.specs.FlatEvents.{flat_event};
+ghost use Rattle.markdown_inline_c.specs.FlatInput.{pieces_of, IsStringInput, IsTextInput};
+ghost use Rattle.markdown_inline_c.specs.FlatEvents.{flat_event, string_events_of, text_events_of};
 ghost use Rattle.markdown_inline_c.specs.ShortEvents.{short_events};
 ghost use Rattle.markdown_inline_c.specs.FlatLeaves.{leaves_of};
 ghost use Rattle.markdown_inline_c.specs.FlatHtml.{html_of, IsHtmlInput};
@@ -115,7 +114,7 @@ pub extern "C" fn markdown_inline_string(
     events: &mut [FlatEvent],
     count: &mut usize,
 ) -> u32
-    ensures { IsAnswer (map flat_event (string_events (string_setting input.now) (pieces_of input.now.pieces.now))) (IsStringInput input.now) (IsStringFault input.now) events.old events.new count.old count.new result }
+    ensures { IsAnswer (string_events_of input.now) (IsStringInput input.now) (IsStringFault input.now) events.old events.new count.old count.new result }
 {
     answer(input::string(alloc, input), events, count)
 }
@@ -133,7 +132,7 @@ pub extern "C" fn markdown_inline_text(
     events: &mut [FlatEvent],
     count: &mut usize,
 ) -> u32
-    ensures { IsAnswer (map flat_event (text_events (text_setting input.now) (pieces_of input.now.pieces.now))) (IsTextInput input.now) (IsTextFault input.now) events.old events.new count.old count.new result }
+    ensures { IsAnswer (text_events_of input.now) (IsTextInput input.now) (IsTextFault input.now) events.old events.new count.old count.new result }
 {
     answer(input::text(alloc, input), events, count)
 }
@@ -186,7 +185,8 @@ pub extern "C" fn markdown_inline_reference(
     text: &mut [u8],
     count: &mut usize,
 ) -> u32
-    ensures { IsAnswer (reference_text options reference.now) (IsReference options reference.now) (IsReferenceFault options reference.now) text.old text.new count.old count.new result }
+    ensures { IsAnswer (reference_text options reference.now) (IsReference options reference.now) (IsReferenceFault options reference.now)
+        text.old text.new count.old count.new result }
 {
     answer(reference::decoded(alloc, options, reference), text, count)
 }
@@ -264,7 +264,8 @@ pub extern "C" fn markdown_inline_html(
     html: &mut [u8],
     count: &mut usize,
 ) -> u32
-    ensures { IsAnswer (html_of input.now targets.now options) (IsHtmlInput input.now targets.now options limit) (IsHtmlFault input.now targets.now options limit) html.old html.new count.old count.new result }
+    ensures { IsAnswer (html_of input.now targets.now options) (IsHtmlInput input.now targets.now options limit)
+        (IsHtmlFault input.now targets.now options limit) html.old html.new count.old count.new result }
 {
     answer(
         html::html(alloc, input, targets, options, limit),

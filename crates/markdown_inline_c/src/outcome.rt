@@ -42,7 +42,8 @@ impl Outcome {
         room: usize,
         room_of_ends: usize,
     ) -> Result<Option<usize>, AllocError>
-        ensures room { IfOk result (λ place. MatchOption place (HasRoom self.old number len room room_of_ends → ⊥) (λ _. HasRoom self.old number len room room_of_ends)) }
+        ensures room { IfOk result (λ place.
+            MatchOption place (HasRoom self.old number len room room_of_ends → ⊥) (λ _. HasRoom self.old number len room room_of_ends)) }
         ensures placed { IfOk result (λ place. MatchOption place (self.new ≡ counted len self.old) (λ from. IsPlaced len self.old self.new from)) }
         ensures err { OnErr result (self.new ≡ self.old) }
     {
@@ -68,7 +69,9 @@ impl Outcome {
         array: &mut [X],
         ends: &mut [usize],
     ) -> Result<(), AllocError>
-        ensures ok { (all : List (List X)) (old : List X) (ends_old : List ℕ) → length all ≡ number → AreHandedOut all old array.old ends_old ends.old self.old → OnOk result (AreHandedOut (all ++ F.items found.now ∷ []) old array.new ends_old ends.new self.new) }
+        ensures ok { (all : List (List X)) (old : List X) (ends_old : List ℕ) → length all ≡ number
+            → AreHandedOut all old array.old ends_old ends.old self.old
+            → OnOk result (AreHandedOut (all ++ F.items found.now ∷ []) old array.new ends_old ends.new self.new) }
         ensures err { OnErr result ((array.new ≡ array.old) × ((ends.new ≡ ends.old) × (self.new ≡ self.old))) }
     {
         let count = found.count();

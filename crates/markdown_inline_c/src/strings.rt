@@ -1,13 +1,15 @@
 //! The texts of strings, with escapes and character references resolved.
 
-ghost use Rattle.std.specs.Prelude.{◌≡◌, ◌⊎◌, ◌∷◌, ◌++◌, [], IfErr, IfOk, OnOk, map};
+ghost use Rattle.std.specs.Prelude.{◌≡◌, ◌∷◌, ◌++◌, [], IfErr, IfOk, OnOk, map};
 ghost use Rattle.std.specs.List.{All};
 ghost use Rattle.markdown_html_model.specs.Resolved.{resolved};
+ghost use Rattle.markdown_inline_c.specs.Calls.{EndStrings, strings_of};
 ghost use Rattle.markdown_inline_c.specs.FlatInput.{IsLabelRange, range_bytes};
 ghost use Rattle.markdown_inline_c.specs.FlatStrings.{AreStringOptions, IsStringAt, all_written, joined, string_text, writing_by, written};
-ghost use Rattle.markdown_inline_c.specs.Many.{AreFound, EndsBy, EndsByInput};
+ghost use Rattle.markdown_inline_c.specs.Many.{AreFound, EndsBy};
 ghost use Rattle.markdown_inline_c.specs.Refusals.{AreOptionsRefused};
-ghost use Rattle.markdown_inline_c.specs.declared.fault.Fault.TheVariants.{Memory, NoString};
+ghost use Rattle.markdown_inline_c.specs.Statuses.{IsFaultUnless, IsStringAtFault};
+ghost use Rattle.markdown_inline_c.specs.declared.fault.Fault.TheVariants.{NoString};
 
 use crate::fault::Fault;
 use crate::flat::Range;
@@ -106,7 +108,7 @@ fn push_bytes(joined: &mut Vec<u8>, part: &str) -> Result<(), AllocError>
 fn joined_parts(alloc: Global, bytes: &[u8], parts: &[Range]) -> Result<Vec<u8>, Fault>
     ensures joined { IfOk result (λ found. found.items ≡ joined bytes.now parts.now) }
     ensures parts { IfOk result (λ _. All (IsLabelRange bytes.now) parts.now) }
-    ensures err { IfErr result (λ fault. (fault ≡ Memory) ⊎ ((fault ≡ NoString) × (All (IsLabelRange bytes.now) parts.now → ⊥))) }
+    ensures err { IfErr result (IsFaultUnless NoString (All (IsLabelRange bytes.now) parts.now)) }
 {
     let mut found = Vec::new(alloc);
     for part in parts {
@@ -128,7 +130,7 @@ fn push_joined(
 ) -> Result<(), Fault>
     ensures text { OnOk result (texts.new.items ≡ texts.old.items ++ resolved how.decoding (all_written how (joined bytes.now parts.now))) }
     ensures parts { IfOk result (λ _. All (IsLabelRange bytes.now) parts.now) }
-    ensures err { IfErr result (λ fault. (fault ≡ Memory) ⊎ ((fault ≡ NoString) × (All (IsLabelRange bytes.now) parts.now → ⊥))) }
+    ensures err { IfErr result (IsFaultUnless NoString (All (IsLabelRange bytes.now) parts.now)) }
 {
     let joined = joined_parts(alloc, bytes, parts)?;
     push_text(alloc, texts, how, joined.as_slice())?;
@@ -146,7 +148,7 @@ fn push_one(
 ) -> Result<(), Fault>
     ensures text { OnOk result (texts.new.items ≡ texts.old.items ++ resolved how.decoding (all_written how (joined bytes.now (part ∷ [])))) }
     ensures parts { IfOk result (λ _. All (IsLabelRange bytes.now) (part ∷ [])) }
-    ensures err { IfErr result (λ fault. (fault ≡ Memory) ⊎ ((fault ≡ NoString) × (All (IsLabelRange bytes.now) (part ∷ []) → ⊥))) }
+    ensures err { IfErr result (IsFaultUnless NoString (All (IsLabelRange bytes.now) (part ∷ []))) }
 {
     let Some(text) = text_of(bytes, part) else {
         return Err(Fault::NoString);
@@ -165,7 +167,7 @@ fn push_parts(
 ) -> Result<(), Fault>
     ensures text { OnOk result (texts.new.items ≡ texts.old.items ++ resolved how.decoding (all_written how (joined bytes.now parts.now))) }
     ensures parts { IfOk result (λ _. All (IsLabelRange bytes.now) parts.now) }
-    ensures err { IfErr result (λ fault. (fault ≡ Memory) ⊎ ((fault ≡ NoString) × (All (IsLabelRange bytes.now) parts.now → ⊥))) }
+    ensures err { IfErr result (IsFaultUnless NoString (All (IsLabelRange bytes.now) parts.now)) }
 {
     match parts {
         [part] => push_one(alloc, how, bytes, *part, texts),
@@ -183,7 +185,7 @@ fn string_text(
 ) -> Result<Vec<u8>, Fault>
     ensures text { IfOk result (λ text. text.items ≡ string_text how bytes.now parts.now string) }
     ensures string { IfOk result (λ _. IsStringAt bytes.now parts.now string) }
-    ensures err { IfErr result (λ fault. (fault ≡ Memory) ⊎ ((fault ≡ NoString) × (IsStringAt bytes.now parts.now string → ⊥))) }
+    ensures err { IfErr result (IsFaultUnless NoString (IsStringAt bytes.now parts.now string)) }
 {
     if string.start > string.end || string.end > parts.len() {
         return Err(Fault::NoString);
@@ -211,7 +213,8 @@ fn read_all(
     outcome: &mut Outcome,
 ) -> Result<(), Refusal>
     requires none_yet { (outcome.old.done ≡ 0) × (outcome.old.count ≡ 0) }
-    ensures { AreFound (map (string_text how bytes.now parts.now) strings.now) texts.old texts.new ends.old ends.new outcome.new (λ read. EndsBy (All (IsStringAt bytes.now parts.now)) (λ before s fault. (fault ≡ NoString) × (IsStringAt bytes.now parts.now s → ⊥)) strings.now read result) }
+    ensures { AreFound (map (string_text how bytes.now parts.now) strings.now) texts.old texts.new ends.old ends.new outcome.new
+        (λ read. EndsBy (All (IsStringAt bytes.now parts.now)) (λ before. IsStringAtFault bytes.now parts.now) strings.now read result) }
 {
     for at in 0..strings.len() {
         match string_text(alloc, how, bytes, parts, strings[at]) {
@@ -234,7 +237,8 @@ pub fn strings(
     ends: &mut [usize],
     outcome: &mut Outcome,
 ) -> Result<(), Refusal>
-    ensures { AreFound (map (string_text (writing_by options string_options) bytes.now parts.now) strings.now) texts.old texts.new ends.old ends.new outcome.new (λ read. EndsByInput (AreStringOptions options string_options) (AreOptionsRefused options string_options) (All (IsStringAt bytes.now parts.now)) (λ before s fault. (fault ≡ NoString) × (IsStringAt bytes.now parts.now s → ⊥)) strings.now read result) }
+    ensures { AreFound (strings_of options string_options bytes.now parts.now strings.now) texts.old texts.new ends.old ends.new outcome.new
+        (EndStrings options string_options bytes.now parts.now strings.now result) }
 {
     *outcome = Outcome::nothing();
     let how = writing_by(options, string_options)?;

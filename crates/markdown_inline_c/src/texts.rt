@@ -3,9 +3,9 @@
 ghost use Rattle.std.specs.Prelude.{◌≡◌, ◌⊎◌, IfErr, IfOk, map};
 ghost use Rattle.std.specs.List.{All};
 ghost use Rattle.markdown_run_text.specs.RunSetting.{setting_of};
-ghost use Rattle.markdown_inline_c.specs.FlatTexts.{AreTextsOptions, IsTextAt, many_setting, setting_at, text_at};
-ghost use Rattle.markdown_inline_c.specs.Many.{AreFound, EndsBy, EndsByInput};
-ghost use Rattle.markdown_inline_c.specs.Refusals.{IsInputRefused, IsReady};
+ghost use Rattle.markdown_inline_c.specs.Calls.{EndTexts, texts_of};
+ghost use Rattle.markdown_inline_c.specs.FlatTexts.{IsTextAt, text_in};
+ghost use Rattle.markdown_inline_c.specs.Many.{AreFound, EndsBy};
 ghost use Rattle.markdown_inline_c.specs.Statuses.{IsContentAtFault};
 ghost use Rattle.markdown_inline_c.specs.declared.fault.Fault.TheVariants.{Memory};
 
@@ -25,7 +25,7 @@ fn found_in<F: Form>(
     content: FlatContent,
 ) -> Result<F::Events, Fault>
     requires { F.IsFor form.now (setting_of given.now.document.now) }
-    ensures items { let s = setting_of given.now.document.now in IfOk result (λ found. F.Events.items found ≡ F.items (setting_at s given.now.pieces.now content) (text_at s given.now.pieces.now content)) }
+    ensures items { IfOk result (λ found. F.Events.items found ≡ text_in F.items (setting_of given.now.document.now) given.now.pieces.now content) }
     ensures text { IfOk result (λ _. IsTextAt given.now.document.now.bytes.now given.now.pieces.now content) }
     ensures err { IfErr result (λ fault. (fault ≡ Memory) ⊎ IsContentAtFault given.now.document.now.bytes.now given.now.pieces.now content fault) }
 {
@@ -46,7 +46,9 @@ fn read_all<F: Form>(
 ) -> Result<(), Refusal>
     requires form { F.IsFor form.now (setting_of given.now.document.now) }
     requires none_yet { (outcome.old.done ≡ 0) × (outcome.old.count ≡ 0) }
-    ensures { let s = setting_of given.now.document.now in AreFound (map (λ c. F.items (setting_at s given.now.pieces.now c) (text_at s given.now.pieces.now c)) contents.now) array.old array.new ends.old ends.new outcome.new (λ read. EndsBy (All (IsTextAt s.bytes given.now.pieces.now)) (λ before at fault. IsContentAtFault s.bytes given.now.pieces.now at fault) contents.now read result) }
+    ensures { let s = setting_of given.now.document.now in let pieces = given.now.pieces.now in
+        AreFound (map (text_in F.items s pieces) contents.now) array.old array.new ends.old ends.new outcome.new
+        (λ read. EndsBy (All (IsTextAt s.bytes pieces)) (λ before. IsContentAtFault s.bytes pieces) contents.now read result) }
 {
     for at in 0..contents.len() {
         match found_in(alloc, given, form, contents[at]) {
@@ -66,7 +68,7 @@ pub fn texts<F: Form + Drop>(
     ends: &mut [usize],
     outcome: &mut Outcome,
 ) -> Result<(), Refusal>
-    ensures { let i = input.now in AreFound (map (λ c. F.items (setting_at (many_setting i) i.pieces.now c) (text_at (many_setting i) i.pieces.now c)) contents.now) array.old array.new ends.old ends.new outcome.new (λ read. EndsByInput (IsReady (AreTextsOptions i contents.now) i) (IsInputRefused (AreTextsOptions i contents.now) i) (All (IsTextAt i.bytes.now i.pieces.now)) (λ before at fault. IsContentAtFault i.bytes.now i.pieces.now at fault) contents.now read result) }
+    ensures { AreFound (texts_of F.items input.now contents.now) array.old array.new ends.old ends.new outcome.new (EndTexts input.now contents.now result) }
 {
     *outcome = Outcome::nothing();
     let options = texts_options(input, contents)?;
