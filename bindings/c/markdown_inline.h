@@ -101,7 +101,7 @@ extern "C" {
     X(LABEL_SHORTCUT_BEFORE_BRACKET, "label_shortcut_before_bracket", 0x80000) \
     /* Whether the text is the first of a list item, where the check of a task may stand. */ \
     X(FIRST_OF_ITEM, "first_of_item", 0x100000) \
-    /* Whether CommonMark's rule holds in each point that `Rules` names, in which the crate that is ported departs from it. The two options above and the one below are implied. */ \
+    /* Whether CommonMark's rule holds in each point that `Rules` names, in which the crate that is ported departs from it. It implies `attention_first_lengths`, `label_shortcut_before_bracket` and `html_references`. */ \
     X(STANDARD_RULES, "standard_rules", 0x200000) \
     /* Whether a reference may have any of the 2,125 names of HTML that end in a semicolon, as CommonMark says, and not only the 294 of a shorter table. */ \
     X(HTML_REFERENCES, "html_references", 0x400000)

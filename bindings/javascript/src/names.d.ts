@@ -55,7 +55,7 @@ export interface Switches {
   labelShortcutBeforeBracket?: boolean;
   /** Whether the text is the first of a list item, where the check of a task may stand. */
   firstOfItem?: boolean;
-  /** Whether CommonMark's rule holds in each point that `Rules` names, in which the crate that is ported departs from it. The two options above and the one below are implied. */
+  /** Whether CommonMark's rule holds in each point that `Rules` names, in which the crate that is ported departs from it. It implies `attentionFirstLengths`, `labelShortcutBeforeBracket` and `htmlReferences`. */
   standardRules?: boolean;
   /** Whether a reference may have any of the 2,125 names of HTML that end in a semicolon, as CommonMark says, and not only the 294 of a shorter table. */
   htmlReferences?: boolean;

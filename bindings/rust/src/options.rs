@@ -61,7 +61,7 @@ options! {
     LABEL_SHORTCUT_BEFORE_BRACKET label_shortcut_before_bracket 0x8_0000,
     /// Whether the text is the first of a list item, where the check of a task may stand.
     FIRST_OF_ITEM first_of_item 0x10_0000,
-    /// Whether CommonMark's rule holds in each point that `Rules` names, in which the crate that is ported departs from it. The two options above and the one below are implied.
+    /// Whether CommonMark's rule holds in each point that `Rules` names, in which the crate that is ported departs from it. It implies `attention_first_lengths`, `label_shortcut_before_bracket` and `html_references`.
     STANDARD_RULES standard_rules 0x20_0000,
     /// Whether a reference may have any of the 2,125 names of HTML that end in a semicolon, as CommonMark says, and not only the 294 of a shorter table.
     HTML_REFERENCES html_references 0x40_0000,

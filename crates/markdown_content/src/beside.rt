@@ -18,7 +18,8 @@ fn ending_before(bytes: &[u8], pieces: &[Piece], index: usize) -> usize
 // How many of the pieces end at the byte of an index or before it.
 pub(crate) fn ending_by(bytes: &[u8], pieces: &[Piece], index: usize) -> usize
     requires { IsContent bytes.now pieces.now }
-    ensures { IsPartitionPoint (λ (p : Stretch). not (nat_lt index p.end.0) ≡ true) (λ (p : Stretch). not (nat_lt index p.end.0) ≡ false) pieces.now result }
+    ensures { IsPartitionPoint (λ (p : Stretch). not (nat_lt index p.end.0) ≡ true) (λ (p : Stretch). not (nat_lt index p.end.0) ≡ false)
+        pieces.now result }
 {
     pieces.partition_point(|piece| piece.end.0 <= index)
 }

@@ -176,7 +176,7 @@ pub struct ParseOptions {
     pub attention_first_lengths: bool,
     /// Whether a defined label before a `[` that begins no label of its own is a shortcut reference, as CommonMark says.
     pub label_shortcut_before_bracket: bool,
-    /// Whether CommonMark's rule holds in each point that `Rules` names, in which the crate that is ported departs from it. The two options above and the one below are implied.
+    /// Whether CommonMark's rule holds in each point that `Rules` names, in which the crate that is ported departs from it. It implies `attention_first_lengths`, `label_shortcut_before_bracket` and `html_references`.
     pub commonmark: bool,
     /// Whether a reference may have any of the 2,125 names of HTML that end in a semicolon, as CommonMark says, and not only the 294 of a shorter table.
     pub html_references: bool,
