@@ -31,15 +31,11 @@ use Rattle.markdown_run_text.specs.ReaderEnds.{ReadsWith, options_here}
 -- Marker by marker.
 
 pub marker-here : (m : ℕ) (o : Option ℕ) → is_some_value m o ≡ true → o ≡ Some m
-marker-here m None h = cc
-marker-here m (Some v) h = ap (λ n. Some n) (eqb-true v m h)
+marker-here m x2 h = grind (arith, eqb-true)
 
 -- past a marker at the place
 pub run-goes : (m : ℕ) (p : Place) → is_some_value m (code_at p) ≡ true → past_run m p ≡ past_run m (moved p)
-run-goes m p h =
-    let a : IsAhead p m = ahead_some p m (marker-here m (code_at p) h) in
-    ap (λ cs. moved_by (span (is_value m) cs).0 p) a.codes
-    ∙ ap (λ (s : List Code × List Code). moved_by s.0 p) (span-takes (is_value m) a.code (ahead_at (moved p)) (eq-eqb a.code.value m a.value))
+run-goes m p h = grind (arith, ahead_some p m, marker-here m (code_at p), span-takes (is_value m), eq-eqb)
 
 pub run-code : (m : ℕ) (p : Place) → is_some_value m (code_at p) ≡ true → is_some (code_at p) ≡ true
 run-code m p h = ap is_some (marker-here m (code_at p) h)
@@ -77,11 +73,7 @@ run-codes m on c cs e h =
 
 pub span-parts : (p : Code → Bool) (cs : List Code) → (span p cs).0 ++ (span p cs).1 ≡ cs
 span-parts p [] = refl
-span-parts p (c ∷ cs) = by_test (p c) refl (span-parts p cs)
-  where
-    by_test : (b : Bool) → p c ≡ b → (span p cs).0 ++ (span p cs).1 ≡ cs → (span p (c ∷ cs)).0 ++ (span p (c ∷ cs)).1 ≡ c ∷ cs
-    by_test true e more = ap (λ (s : List Code × List Code). s.0 ++ s.1) (span-takes p c cs e) ∙ ap (λ xs. c ∷ xs) more
-    by_test false e more = ap (λ (s : List Code × List Code). s.0 ++ s.1) (span-none p (c ∷ cs) e)
+span-parts p (c ∷ cs) = grind (arith, span-takes, span-none, span-parts p cs)
 
 -- past a run, with the events of its leaf
 abbrev past_markers : ℕ → Tokenizer → Tokenizer
@@ -128,5 +120,4 @@ run-reads T U V m e on k l =
 pub no-run : (T : Tokenizer) (m : ℕ) → current_of T ≡ Some m → begins_run (switches_of T) m ≡ false →
     attention_here (options_here T) (ahead T) ≡ None
 unfolding switched
-no-run T m e off =
-    run-ahead T m e ∙ ap plain_tree (switched-off (attention_run m) (begins_run (switches_of T) m) (ahead T) off)
+no-run T m e off = grind (arith, run-ahead T m, switched-off (attention_run m) (begins_run (switches_of T) m) (ahead T))

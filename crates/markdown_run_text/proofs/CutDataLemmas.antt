@@ -1,5 +1,5 @@
 -- Cutting data into its codes goes through rows, and merging undoes it.
-use Rattle.std.proofs.Common.{◌≡◌, ◌≢◌, Bool, true, false, Option, Some, None, List, [], ◌∷◌, refl, sym, ap, ◌∙◌}
+use Rattle.std.proofs.Common.{◌≡◌, ◌≢◌, Bool, true, Option, Some, None, List, [], ◌∷◌, refl, sym, ap, ◌∙◌, arith}
 use Rattle.markdown_passes.proofs.MergePassLaw.{data-name, merged-data, merged-linked, merged-other, merged-group}
 use Rattle.markdown_content.specs.Codes.{Code}
 use Rattle.markdown_content.specs.Tree.{Forest, empty, leaf_then, group_then, ◌⊕◌}
@@ -23,15 +23,11 @@ each-join (c ∷ cs) t u = ap (leaf_then N.Data None (c ∷ [])) (each-join cs t
 
 leaf-join : (b : Bool) (name : Name) (link : Option Content) (cs : List Code) (t u : Forest) →
     cut_leaf b name link cs (t ⊕ u) ≡ cut_leaf b name link cs t ⊕ u
-leaf-join true name None cs t u = each-join cs t u
-leaf-join true name (Some c) cs t u = refl
-leaf-join false name None cs t u = refl
-leaf-join false name (Some c) cs t u = refl
+leaf-join x1 name x3 cs t u = grind (arith, each-join)
 
 pub split-join : (t u : Forest) → split (t ⊕ u) ≡ split t ⊕ split u
 split-join empty u = refl
-split-join (leaf_then name link cs rest) u =
-    ap (cut_leaf (is_data name) name link cs) (split-join rest u) ∙ leaf-join (is_data name) name link cs (split rest) (split u)
+split-join (leaf_then name link cs rest) u = grind (arith, leaf-join, split-join rest u)
 split-join (group_then name a b inside rest) u = ap (group_then name a b (split inside)) (split-join rest u)
 
 -- Merging.
@@ -55,8 +51,7 @@ onto-onto c cs (group_then name a b inside rest) = refl
 merged-each : (c : Code) (cs : List Code) (rest : Forest) →
     merged (each_code (c ∷ cs) rest) ≡ data_onto (c ∷ cs) (merged rest)
 merged-each c [] rest = merged-data (c ∷ []) rest
-merged-each c (d ∷ ds) rest =
-    merged-data (c ∷ []) (each_code (d ∷ ds) rest) ∙ ap (data_onto (c ∷ [])) (merged-each d ds rest) ∙ onto-onto c (d ∷ ds) (merged rest)
+merged-each c (d ∷ ds) rest = grind (arith, merged-data, onto-onto, merged-each d ds rest)
 
 merged-some : (cs : List Code) (rest : Forest) → cs ≢ [] → merged (each_code cs rest) ≡ data_onto cs (merged rest)
 merged-some [] rest h = absurd (h refl)
@@ -65,22 +60,13 @@ merged-some (c ∷ cs) rest h = merged-each c cs rest
 leaf-split : (b : Bool) (name : Name) (link : Option Content) (cs : List Code) (rest more : Forest) → is_data name ≡ b →
     (b ≡ true → link ≡ None → cs ≢ []) → merged more ≡ merged rest →
     merged (cut_leaf b name link cs more) ≡ merged (leaf_then name link cs rest)
-leaf-split true name None cs rest more e h k =
-    merged-some cs more (h refl refl) ∙ ap (data_onto cs) k ∙ sym (merged-data cs rest) ∙ ap (λ n. merged (leaf_then n None cs rest)) (sym (data-name name e))
-leaf-split true name (Some c) cs rest more e h k =
-    merged-linked name c cs more ∙ ap (leaf_then name (Some c) cs) k ∙ sym (merged-linked name c cs rest)
-leaf-split false name None cs rest more e h k =
-    merged-other name cs more e ∙ ap (leaf_then name None cs) k ∙ sym (merged-other name cs rest e)
-leaf-split false name (Some c) cs rest more e h k =
-    merged-linked name c cs more ∙ ap (leaf_then name (Some c) cs) k ∙ sym (merged-linked name c cs rest)
+leaf-split x1 name x3 cs rest more e h k = grind (arith, merged-some, merged-data, data-name, merged-linked, merged-other)
 
 -- how data is cut is no matter to merging
 pub merged-split : (t : Forest) → HasCodes t → merged (split t) ≡ merged t
 merged-split empty h = refl
-merged-split (leaf_then name link cs rest) h =
-    leaf-split (is_data name) name link cs rest (split rest) refl h.0 (merged-split rest h.1)
-merged-split (group_then name a b inside rest) h =
-    merged-group name a b (split inside) (split rest) ∙ ap (λ x. group_then name a b x (merged (split rest))) (merged-split inside h.0) ∙ ap (group_then name a b (merged inside)) (merged-split rest h.1) ∙ sym (merged-group name a b inside rest)
+merged-split (leaf_then name link cs rest) h = grind (arith, leaf-split, merged-split rest)
+merged-split (group_then name a b inside rest) h = grind (arith, merged-group, merged-split inside, merged-split rest)
 
 -- Cutting twice is cutting once.
 
@@ -90,17 +76,12 @@ each-split (c ∷ cs) t = ap (leaf_then N.Data None (c ∷ [])) (each-split cs t
 
 leaf-twice : (b : Bool) (name : Name) (link : Option Content) (cs : List Code) (t : Forest) → is_data name ≡ b →
     split (cut_leaf b name link cs t) ≡ cut_leaf b name link cs (split t)
-leaf-twice true name None cs t e = each-split cs t
-leaf-twice true name (Some c) cs t e = ap (λ b. cut_leaf b name (Some c) cs (split t)) e
-leaf-twice false name None cs t e = ap (λ b. cut_leaf b name None cs (split t)) e
-leaf-twice false name (Some c) cs t e = ap (λ b. cut_leaf b name (Some c) cs (split t)) e
+leaf-twice x1 name x3 cs t e = grind (arith, each-split)
 
 pub split-twice : (t : Forest) → split (split t) ≡ split t
 split-twice empty = refl
-split-twice (leaf_then name link cs rest) =
-    leaf-twice (is_data name) name link cs (split rest) refl ∙ ap (cut_leaf (is_data name) name link cs) (split-twice rest)
-split-twice (group_then name a b inside rest) =
-    ap (λ x. group_then name a b x (split (split rest))) (split-twice inside) ∙ ap (group_then name a b (split inside)) (split-twice rest)
+split-twice (leaf_then name link cs rest) = grind (arith, leaf-twice, split-twice rest)
+split-twice (group_then name a b inside rest) = grind (arith, split-twice inside, split-twice rest)
 
 -- trees that differ only in how data is cut are merged to one
 pub merged-same : (t u : Forest) → HasCodes t → HasCodes u → split t ≡ split u → merged t ≡ merged u

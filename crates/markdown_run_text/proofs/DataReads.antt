@@ -1,17 +1,16 @@
 -- Data read line by line is data as the definition reads it.
 use Rattle.std.proofs.Common.{◌≡◌, ℕ, ◌<◌, ◌==◌, ◌||◌, Bool, true, false, Option, None, Some, List, [], ◌∷◌, ◌++◌, length, refl, sym, ap, subst, ◌∙◌, arith, append-nil, length-append}
-use Rattle.std.specs.Prelude.{codes, IfOk, IsSome, OnOk, Result, Ok, Err}
-use Rattle.std.specs.Option.{is_some}
+use Rattle.std.specs.Prelude.{codes, IfOk, IsSome, OnOk, Result}
 use Rattle.std.proofs.lemmas.Bool.{not-false, not-true}
 use Rattle.markdown_content.specs.Codes.{Code, line_feed}
 use Rattle.markdown_content.specs.ListFunctions.{rest_of}
-use Rattle.markdown_content.specs.Place.{Place, ahead_at, moved}
+use Rattle.markdown_content.specs.Place.{moved}
 use Rattle.markdown_content.specs.Tree.{Forest, empty, leaf, leaf_codes}
 use Rattle.markdown_event.specs.declared.event.Name.{Name}
 use Rattle.markdown_event.specs.declared.event.Name.TheVariants as N
 use Rattle.markdown_content.proofs.PlaceRules.{code_at_ahead, codes_moved}
 use Rattle.markdown_engine.specs.Operations.{HasCode, ahead, applied, current_of, done, exited}
-use Rattle.markdown_engine.specs.PastTree.{Reads, behind, moved_by, passed, past}
+use Rattle.markdown_engine.specs.PastTree.{Reads, behind, passed, past}
 use Rattle.markdown_engine.specs.declared.tokenizer.TokenizeState.{TokenizeState}
 use Rattle.markdown_engine.specs.declared.tokenizer.Tokenizer.{Tokenizer}
 use Rattle.markdown_engine.proofs.OperationFields.{BeginsWithValue, ahead-some}
@@ -31,17 +30,14 @@ use Rattle.markdown_run_text.specs.TextStops.{reader_stops}
 
 -- the code at hand, by whether it is a line ending
 or-false : (b : Bool) → (b || false) ≡ b
-or-false true = refl
-or-false false = refl
+or-false x1 = grind arith
 
 mark-value : (o : Option ℕ) → is_some_mark (codes "\n") o ≡ true → (v : ℕ) × ((o ≡ Some v) × ((v == 10) ≡ true))
-mark-value None h = cc
-mark-value (Some v) h = (v, (refl, sym (or-false (v == 10)) ∙ h))
+mark-value x1 h = grind (arith, or-false)
 
 other-value : (o : Option ℕ) → IsSome o → is_some_mark (codes "\n") o ≡ false →
     (v : ℕ) × ((o ≡ Some v) × ((v == 10) ≡ false))
-other-value None some h = cc
-other-value (Some v) some h = (v, (refl, sym (or-false (v == 10)) ∙ h))
+other-value x1 some h = grind (arith, or-false)
 
 module _ (whole : List Code) (literals : Bool) where
   abbrev stops : List Code → Bool
@@ -105,10 +101,7 @@ module _ (whole : List Code) (literals : Bool) where
   data-passed : (T : Tokenizer) → T.cursor.codes ≡ whole →
       data_read literals T ≡ exited N.Data (passed (up_to_break stops (rest_of (ahead T))).0 (done opening T))
   unfolding passed
-  data-passed T same =
-      let O : Tokenizer = done opening T in
-      ap (λ ws. exited N.Data (record O { cursor = moved_by (up_to_break (reader_stops ws literals) (ahead O)).0 O.cursor })) (codes-opening T ∙ same)
-      ∙ ap (λ cs. exited N.Data (record O { cursor = moved_by (up_to_break stops cs).0 O.cursor })) (ahead-opening T)
+  data-passed T same = grind (arith, codes-opening, ahead-opening)
 
   stretch-line : (T U : Tokenizer) (v : ℕ) → T.cursor.codes ≡ whole → current_of T ≡ Some v → (v == 10) ≡ false →
       U ≡ data_read literals T → Line T U
@@ -121,15 +114,7 @@ module _ (whole : List Code) (literals : Bool) where
       (ap (data_up_to stops) b.whole ∙ data-then stops b.code cs (ap (λ x. x == 10) b.value ∙ h))
 
   pub line-is : (T U : Tokenizer) → T.cursor.codes ≡ whole → HasCode T → U ≡ line_read literals T → Line T U
-  line-is T U same some k = by_mark (is_some_mark (codes "\n") (current_of T)) refl
-    where
-      by_mark : (b : Bool) → is_some_mark (codes "\n") (current_of T) ≡ b → Line T U
-      by_mark true e =
-          let m = mark-value (current_of T) e in
-          ending-line T U m.0 m.1.0 m.1.1 (k ∙ if-true (is_some_mark (codes "\n") (current_of T)) (done ending T) (data_read literals T) e)
-      by_mark false e =
-          let m = other-value (current_of T) some e in
-          stretch-line T U m.0 same m.1.0 m.1.1 (k ∙ if-false (is_some_mark (codes "\n") (current_of T)) (done ending T) (data_read literals T) e)
+  line-is T U same some k = grind (arith, mark-value (current_of T), ending-line T U, if-true (is_some_mark (codes "\n") (current_of T)) (done ending T) (data_read literals T), other-value (current_of T), stretch-line T U, if-false (is_some_mark (codes "\n") (current_of T)) (done ending T) (data_read literals T))
 
   more-here : (cs : List Code) → goes_past whole literals cs ≡ true → more_data stops cs ≡ data_up_to stops cs
   more-here [] h = cc
@@ -141,12 +126,10 @@ module _ (whole : List Code) (literals : Bool) where
       (V : Tokenizer) → Reads (data_up_to stops) None T.tokenize_state U V → Reads (data_up_to stops) None T.tokenize_state T V
 
   pub more-lines : (S T U : Tokenizer) → Continues S T → goes_past whole literals (ahead U) ≡ true → Line T U → Continues S U
-  more-lines S T U g h line V k =
-      g V (line.on S.tokenize_state V (EndsAs-same (more_data stops) (data_up_to stops) None S.tokenize_state U (more-here (ahead U) h) true V k))
+  more-lines S T U g h line V k = grind (arith, EndsAs-same, more-here)
 
   nothing : (cs : List Code) → goes_past whole literals cs ≡ false → more_data stops cs ≡ Some (empty, cs)
-  nothing [] h = refl
-  nothing (c ∷ cs) h = more-stops stops c cs (not-false (stops (c ∷ cs)) h)
+  nothing x1 h = grind (arith, more-stops, not-false)
 
   pub last-line : (S T U : Tokenizer) → Continues S T → T.tokenize_state ≡ S.tokenize_state → Line T U →
       goes_past whole literals (ahead U) ≡ false → Reads (data_up_to stops) None S.tokenize_state S U
@@ -155,8 +138,7 @@ module _ (whole : List Code) (literals : Bool) where
       (subst (λ s. Reads (more_data stops) None s U U) (line.scratch ∙ e) (EndsAs-here (more_data stops) U (nothing (ahead U) h) true U (refl, refl))))
 
   code-from : (cs : List Code) (T : Tokenizer) → ahead T ≡ cs → goes_past whole literals cs ≡ true → HasCode T
-  code-from [] T e h = cc
-  code-from (c ∷ cs) T e h = ap is_some (code_at_ahead T.cursor c cs e)
+  code-from x1 T e h = grind (arith, code_at_ahead)
 
   -- what the reader of a line says of its codes holds of the content's
   pub on-past : (T U : Tokenizer) (on : Bool) → T.cursor.codes ≡ whole → Line T U → on ≡ goes_past U.cursor.codes literals (ahead U) →
@@ -174,15 +156,10 @@ ending-place T = refl
 
 ending-on : (literals : Bool) (T U : Tokenizer) → current_of T ≡ Some line_feed → U ≡ done ending T →
     goes_on literals (ahead U) ≡ goes_past U.cursor.codes literals (ahead U)
-ending-on literals T U e k =
-    let here : U.cursor ≡ moved T.cursor = ap (λ (x : Tokenizer). x.cursor) k ∙ ending-place T in
-    ap (λ p. goes_on literals (ahead_at p)) here
-    ∙ ending-past literals T.cursor e
-    ∙ ap (λ (p : Place). goes_past p.codes literals (ahead_at p)) (sym here)
+ending-on literals T U e k = grind (arith, ending-place, ending-past)
 
 -- so its reader tells what this one does
 pub ending-tells : {E : Type 0} (literals : Bool) (T U : Tokenizer) (r : Result Bool E) → current_of T ≡ Some line_feed →
     OnOk r (U ≡ done ending T) → IfOk r (λ on. on ≡ goes_on literals (ahead U)) →
     IfOk r (λ on. on ≡ goes_past U.cursor.codes literals (ahead U))
-ending-tells literals T U (Ok on) e k h = h ∙ ending-on literals T U e k
-ending-tells literals T U (Err x) e k h = tt
+ending-tells x1 T U x4 e k h = grind (arith, ending-on)

@@ -1,12 +1,12 @@
 -- From one element of a content to the next.
-use Rattle.std.proofs.Common.{◌≡◌, ◌≢◌, ℕ, ◌+◌, ◌<◌, ◌≤◌, Bool, true, false, not, ◌&&◌, ◌||◌, List, [], ◌∷◌, ◌++◌, length, slice_get, Option, None, Some, refl, sym, ap, subst, ◌∙◌, arith, length-append, append_assoc, add-one, append-nil, inl, inr}
+use Rattle.std.proofs.Common.{◌≡◌, ◌≢◌, ℕ, ◌+◌, ◌<◌, ◌≤◌, Bool, true, false, not, ◌&&◌, ◌||◌, List, [], ◌∷◌, ◌++◌, length, Option, None, Some, refl, sym, ap, subst, ◌∙◌, arith, length-append, append_assoc, append-nil, inl}
 use Rattle.std.specs.Prelude.{map}
 use Rattle.markdown_run_text.proofs.RowScratch.{kinds-row, row-input, row-content}
 use Rattle.std.specs.List.{list_any}
 use Rattle.markdown_content.specs.Codes.{Code, is_line_ending, document_start, stop_of}
-use Rattle.markdown_content.specs.ListFunctions.{first_of, rest_of}
+use Rattle.markdown_content.specs.ListFunctions.{rest_of}
 use Rattle.markdown_engine.specs.Operations.{ahead, current_of, registered}
-use Rattle.markdown_content.specs.Place.{Place, value_of, last_of, moved, ahead_at}
+use Rattle.markdown_content.specs.Place.{Place, last_of, moved, ahead_at}
 use Rattle.markdown_engine.specs.PastTree.{TreeReading, Reads, past, last_link, moved_by, appended_from}
 use Rattle.markdown_content.specs.Tree.{Forest, empty, leaf, leaf_then, group_then, ◌⊕◌, leaf_codes, event, start_of}
 use Rattle.markdown_engine.specs.Weights.{codes_left}
@@ -33,35 +33,26 @@ use Rattle.markdown_model.proofs.DefinitionSteps.{code_before-append}
 use Rattle.markdown_model.proofs.LeafCodes.{until-append}
 use Rattle.markdown_run_text.specs.ElementsAsRead.{IsReadAs, AreReadAs, Source, source_of}
 use Rattle.markdown_run_text.specs.RunOverElements.{AreSingle, AreReadAsData, StandsAfter, ReadsRow, Advances, AllElements, Finishes}
-use Rattle.markdown_run_text.specs.Row.{Row, row_end, row_then, loses, tree_onto, joined_rows, past_tree, past_row, row_codes, kinds_of, split_row, row_of_elements, element_onto, HasElementCodes, HaveCodes, IsRowAt}
-use Rattle.markdown_innermost.specs.OneLineLeaves.{makes_data}
+use Rattle.markdown_run_text.specs.Row.{Row, row_end, tree_onto, joined_rows, past_tree, past_row, row_codes, kinds_of, split_row, row_of_elements, element_onto, HasElementCodes, HaveCodes, IsRowAt}
 use Rattle.markdown_run_text.specs.RowTreeNames.{HasRowLines, HasOuterRuns, IsRowPart, IsRunless, IsRunLeaf, IsSingle, IsNode}
 use Rattle.markdown_run_text.proofs.ConstructNodes.{quiet-lines-of, quiet-node-unlinked}
 use Rattle.markdown_run_text.proofs.RowJoins.{HasLines-row, past-joined, codes-joined, split-joined, onto-joined, row-joined}
 use Rattle.markdown_run_text.proofs.PastTrees.{past_tree-without, past_tree-empty, past_tree-with, ahead-registered, quiet-no-run, quiet-outer, runless-no-run, runless-outer}
 use Rattle.markdown_run_text.specs.CutData.{split, HasCodes}
-use Rattle.markdown_label.specs.KeptStarts.{StandFor, KeepsStarts}
+use Rattle.markdown_label.specs.KeptStarts.{KeepsStarts}
 use Rattle.markdown_label.proofs.KeptStartStack.{starts-plain}
 use Rattle.markdown_model.specs.Laws.{unused_starts}
-use Rattle.markdown_passes.specs.MergedEvents.{is_data}
 use Rattle.markdown_run_text.proofs.LinesCutAlike.{lines-cut}
 
 -- Rows.
 
 pub elements-append : (es fs : List Element) →
     row_of_elements (es ++ fs) ≡ joined_rows (row_of_elements es) (row_of_elements fs)
-elements-append [] fs = onto-empty (row_of_elements fs)
-  where
-    onto-empty : (q : Row) → q ≡ tree_onto empty q
-    onto-empty (row_end t) = refl
-    onto-empty (row_then t mark rest) = refl
-elements-append (plain t ∷ es) fs =
-    ap (tree_onto t) (elements-append es fs) ∙ sym (onto-joined t (row_of_elements es) (row_of_elements fs))
+elements-append [] fs = grind arith
+elements-append (plain t ∷ es) fs = grind (arith, onto-joined, elements-append es fs)
 elements-append (starts kind marker ∷ es) fs = ap (element_onto (starts kind marker)) (elements-append es fs)
-elements-append (ends marker None ∷ es) fs =
-    ap (element_onto (ends marker None)) (elements-append es fs) ∙ ap (row_then empty loses) (sym (onto-joined (leaf N.Data marker) (row_of_elements es) (row_of_elements fs)))
-elements-append (ends marker (Some outcome) ∷ es) fs =
-    ap (element_onto (ends marker (Some outcome))) (elements-append es fs)
+elements-append (ends marker None ∷ es) fs = grind (arith, onto-joined, elements-append es fs)
+elements-append (ends marker (Some outcome) ∷ es) fs = grind (arith, elements-append es fs)
 
 have-append : (es fs : List Element) → HaveCodes es → HaveCodes fs → HaveCodes (es ++ fs)
 have-append [] fs h k = k
@@ -79,15 +70,7 @@ read-append source (e ∷ es) [] gs hs h k = absurd h
 elements-all : (choice : Choice) (earlier : List Element) (previous : Option Code) (r q : Row) (T U : Tokenizer) →
     (k : ReadsRow choice earlier previous r T U) → AllElements (source_of T) choice k.later k.last q (ahead U) →
     AllElements (source_of T) choice earlier previous (joined_rows r q) (ahead T)
-elements-all choice earlier previous r q T U k a =
-    record {
-      elements = k.elements ++ a.elements;
-      are = k.follow a.elements a.are;
-      read = k.read ++ a.read;
-      read_as = read-append (source_of T) k.elements k.read a.elements a.read k.read_as a.read_as;
-      have_codes = have-append k.read a.read k.have_codes a.have_codes;
-      alike = split-joined r q ∙ (λ i. joined_rows (k.alike i) (a.alike i)) ∙ sym (split-joined (row_of_elements k.read) (row_of_elements a.read)) ∙ ap split_row (sym (elements-append k.read a.read));
-    }
+elements-all choice earlier previous r q T U k a = grind (arith, read-append (source_of T) k.elements k.read a.elements a.read, have-append k.read a.read, split-joined r q, split-joined (row_of_elements k.read) (row_of_elements a.read), elements-append k.read a.read)
 
 -- a row leaves what is read as it is
 source-past : (row : Row) (T : Tokenizer) → source_of (past_row row T) ≡ source_of T
@@ -125,9 +108,7 @@ finishes-end choice passed T U e left =
 code-there : (p : Place) (c : Code) (rest : List Code) → ahead_at p ≡ c ∷ rest →
     last_of (moved p).codes (moved p).at ≡ Some c
 unfolding ahead_at moved
-code-there p c rest e =
-    let at : last_of p.codes (p.at + 1) ≡ slice_get p.codes p.at = rw add-one refl in
-    at ∙ first-drop p.at p.codes ∙ ap first_of e
+code-there p c rest e = grind (arith, first-drop)
 
 -- past some codes, the last of them stands before
 last-moved : (c : Code) (cs rest : List Code) (p : Place) → ahead_at p ≡ (c ∷ cs) ++ rest →
@@ -176,8 +157,7 @@ past_code previous (c ∷ cs) = past_code (Some c) cs
 pub data-next : (choice : Choice) (earlier : List Element) (previous : Option Code) (e : Element) (c : Code) (cs : List Code) (es : List Element) →
     choice earlier previous (c ∷ cs) ≡ Some (e, cs) → AreElementsFrom choice (e ∷ earlier) (Some c) cs es →
     AreElementsFrom choice earlier previous (c ∷ cs) (e ∷ es)
-data-next choice earlier previous e c cs es h k =
-    (cs, h, subst (λ o. AreElementsFrom choice (e ∷ earlier) o cs es) (sym (code_before-append (c ∷ []) cs)) k)
+data-next choice earlier previous e c cs es h k = grind (arith, code_before-append)
 
 -- an element by itself is read as itself
 pub single-read : (source : Source) (choice : Choice) (stops : List Code → Bool) (whole : List Code) → AreSingle choice stops whole → AreReadAsData source choice stops whole
@@ -224,22 +204,18 @@ data-others source choice stops earlier previous (c ∷ cs) others =
 -- no escape stands before, past a code
 unescaped-leaf : (b : Bool) (c : Code) (earlier : List Element) →
     ends_escaped (plain (elim b as (λ _. Forest) [ true ↦ leaf N.LineEnding (c ∷ []) | false ↦ leaf N.Data (c ∷ []) ]) ∷ earlier) ≡ false
-unescaped-leaf true c earlier = refl
-unescaped-leaf false c earlier = refl
+unescaped-leaf x1 c earlier = grind arith
 
 unescaped-read : (source : Source) (e : Element) (c : Code) (earlier : List Element) → IsReadAs source e (plain (code_leaf c)) →
     ends_escaped (e ∷ earlier) ≡ false
-unescaped-read source e c earlier (inl h) =
-    ap (λ x. ends_escaped (x ∷ earlier)) h ∙ unescaped-leaf (is_line_ending c) c earlier
-unescaped-read source e c earlier (inr h) = ap (λ x. ends_escaped (x ∷ earlier)) h.1.1.0
+unescaped-read source e c earlier x5 = grind (arith, unescaped-leaf)
 
 -- nor past elements that are read as data
 unescaped-past : (source : Source) (earlier es : List Element) (cs : List Code) → AreReadAs source es (leaf_elements cs) →
     ends_escaped earlier ≡ false → ends_escaped (past_elements earlier es) ≡ false
 unfolding leaf_elements past_elements
 unescaped-past source earlier [] [] h e = e
-unescaped-past source earlier (x ∷ es) (c ∷ cs) h e =
-    unescaped-past source (x ∷ earlier) es cs h.1 (unescaped-read source x c earlier h.0)
+unescaped-past source earlier (x ∷ es) (c ∷ cs) h e = grind (arith, unescaped-read, unescaped-past source (x ∷ earlier) es cs)
 unescaped-past source earlier [] (c ∷ cs) h e = absurd h
 unescaped-past source earlier (x ∷ es) [] h e = absurd h
 
@@ -258,16 +234,12 @@ line-leaf b c cs e = ap (λ x. leaf_by x (c ∷ cs)) e
 unescaped-event : (b : Bool) (es : List Event) (n : ℕ) (c : Code) (cs : List Code) →
     follows_escape (es ++ appended_from n None (leaf_by b (c ∷ cs))) ≡ false
 unfolding leaf_by
-unescaped-event true es n c cs =
-    follows-these es (event Kind.Enter N.LineEnding (start_of (c ∷ cs)) ∷ []) (event Kind.Exit N.LineEnding (stop_of document_start (c ∷ cs)))
-unescaped-event false es n c cs =
-    follows-these es (event Kind.Enter N.Data (start_of (c ∷ cs)) ∷ []) (event Kind.Exit N.Data (stop_of document_start (c ∷ cs)))
+unescaped-event x1 es n c cs = grind (arith, follows-these es (event Kind.Enter N.LineEnding (start_of (c ∷ cs)) ∷ []) (event Kind.Exit N.LineEnding (stop_of document_start (c ∷ cs))), follows-these es (event Kind.Enter N.Data (start_of (c ∷ cs)) ∷ []) (event Kind.Exit N.Data (stop_of document_start (c ∷ cs))))
 
 leaf-row : (b : Bool) (n : ℕ) (c : Code) (cs : List Code) (rest : Forest) →
     appended_from n None (leaf_by b (c ∷ cs) ⊕ rest) ≡ appended_from n None (leaf_by b (c ∷ cs)) ++ appended_from (n + 2) None rest
 unfolding leaf_by
-leaf-row true n c cs rest = refl
-leaf-row false n c cs rest = refl
+leaf-row x1 n c cs rest = grind arith
 
 first-unescaped : (es : List Event) (n : ℕ) (c : Code) (cs : List Code) (ss : List (List Code)) →
     ((fs : List Event) → follows_escape fs ≡ false → follows_escape (fs ++ appended_from (n + 2) None (line_leaves N.Data ss)) ≡ false) →
@@ -306,14 +278,10 @@ any-one c e = ap (λ b. b || false) e
 lines-joined : (a b : Bool) (c d : Code) (ds : List Code) (more : List (List Code)) → is_line_ending c ≡ a →
     is_line_ending d ≡ b → AreOnLines ((d ∷ ds) ∷ more) →
     AreOnLines (elim (not (a || b) && ((true && true) || not (true || true))) [ true ↦ (c ∷ d ∷ ds) ∷ more | false ↦ (c ∷ []) ∷ (d ∷ ds) ∷ more ])
-lines-joined true b c d ds more e f h = (any-one c, h)
-lines-joined false true c d ds more e f h = (any-one c, h)
-lines-joined false false c d ds more e f h = (λ k. ap (λ x. x || list_any is_line_ending (d ∷ ds)) e ∙ h.0 f, h.1)
+lines-joined x1 b c d ds more e f h = grind (arith, any-one)
 
 lines-onto : (c : Code) (ss : List (List Code)) → AreOnLines ss → AreOnLines (onto_stretch (λ x. true) c ss)
-lines-onto c [] h = (any-one c, tt)
-lines-onto c ([] ∷ more) h = (any-one c, h.1)
-lines-onto c ((d ∷ ds) ∷ more) h = lines-joined (is_line_ending c) (is_line_ending d) c d ds more refl refl h
+lines-onto c x2 h = grind (arith, any-one, lines-joined)
 
 are-lines : (cs : List Code) → AreOnLines (lines_of cs)
 are-lines [] = tt
@@ -322,14 +290,12 @@ are-lines (c ∷ cs) = lines-onto c (lines_of cs) (are-lines cs)
 HasLines-leaf : (b : Bool) (c : Code) (cs : List Code) → (b ≡ false → list_any is_line_ending (c ∷ cs) ≡ false) →
     HasRowLines (leaf_by b (c ∷ cs))
 unfolding leaf_by
-HasLines-leaf true c cs h = (λ e l. cc, tt)
-HasLines-leaf false c cs h = (λ e l. (λ k. cc, h refl), tt)
+HasLines-leaf x1 c cs h = grind arith
 
 HasLines-stretches : (ss : List (List Code)) → AreOnLines ss → HasRowLines (line_leaves N.Data ss)
 HasLines-stretches [] h = tt
 HasLines-stretches ([] ∷ ss) h = HasLines-stretches ss h.1
-HasLines-stretches ((c ∷ cs) ∷ ss) h =
-    HasLines-row (line_leaf N.Data None (c ∷ cs)) (line_leaves N.Data ss) (subst HasRowLines (sym (line-leaf (is_line_ending c) c cs refl)) (HasLines-leaf (is_line_ending c) c cs h.0)) (HasLines-stretches ss h.1)
+HasLines-stretches ((c ∷ cs) ∷ ss) h = grind (arith, HasLines-row, line-leaf, HasLines-leaf, HasLines-stretches ss)
 
 HasLines-lines : (cs : List Code) → HasRowLines (line_leaves N.Data (lines_of cs))
 HasLines-lines cs = HasLines-stretches (lines_of cs) (are-lines cs)
@@ -337,21 +303,18 @@ HasLines-lines cs = HasLines-stretches (lines_of cs) (are-lines cs)
 unlinked-leaf : (b : Bool) (n : ℕ) (c : Code) (cs : List Code) (rest : Forest) → is_line_ending c ≡ b →
     last_link (n + 2) None rest ≡ None → last_link n None (line_leaf N.Data None (c ∷ cs) ⊕ rest) ≡ None
 unfolding leaf_by
-unlinked-leaf true n c cs rest e h = ap (λ x. last_link n None (x ⊕ rest)) (line-leaf true c cs e) ∙ h
-unlinked-leaf false n c cs rest e h = ap (λ x. last_link n None (x ⊕ rest)) (line-leaf false c cs e) ∙ h
+unlinked-leaf x1 n c cs rest e h = grind (arith, line-leaf)
 
 unlinked-lines : (n : ℕ) (ss : List (List Code)) → last_link n None (line_leaves N.Data ss) ≡ None
 unlinked-lines n [] = refl
 unlinked-lines n ([] ∷ ss) = unlinked-lines n ss
-unlinked-lines n ((c ∷ cs) ∷ ss) =
-    unlinked-leaf (is_line_ending c) n c cs (line_leaves N.Data ss) refl (unlinked-lines (n + 2) ss)
+unlinked-lines n ((c ∷ cs) ∷ ss) = grind (arith, unlinked-leaf, unlinked-lines (n + 2) ss)
 
 -- no run stands in data
 runless-leaf : (b : Bool) (c : Code) (cs : List Code) (rest : Forest) → is_line_ending c ≡ b → IsRunless rest →
     IsRunless (line_leaf N.Data None (c ∷ cs) ⊕ rest)
 unfolding leaf_by
-runless-leaf true c cs rest e h = subst (λ x. IsRunless (x ⊕ rest)) (sym (line-leaf true c cs e)) (refl, h)
-runless-leaf false c cs rest e h = subst (λ x. IsRunless (x ⊕ rest)) (sym (line-leaf false c cs e)) (refl, h)
+runless-leaf x1 c cs rest e h = grind (arith, line-leaf)
 
 runless-lines : (ss : List (List Code)) → IsRunless (line_leaves N.Data ss)
 runless-lines [] = tt
@@ -375,8 +338,7 @@ data-alike cs = ap row_end (lines-cut cs) ∙ ap split_row (sym (leaves-row cs))
 
 code-has : (b : Bool) (c : Code) →
     HasCodes (elim b as (λ _. Forest) [ true ↦ leaf N.LineEnding (c ∷ []) | false ↦ leaf N.Data (c ∷ []) ])
-code-has true c = (λ e l k. cc, tt)
-code-has false c = (λ e l k. cc, tt)
+code-has x1 c = grind arith
 
 pub have-leaves : (cs : List Code) → HaveCodes (leaf_elements cs)
 unfolding leaf_elements
@@ -388,13 +350,11 @@ data-reads : (stops : List Code → Bool) (cs : List Code) (c : Code) (xs : List
     cs ≡ c ∷ xs → data_up_to stops cs ≡ Some (t, rest) →
     (line_leaves N.Data (lines_of (c ∷ (until stops xs).0)) ≡ t) × ((until stops xs).1 ≡ rest)
 unfolding data_up_to
-data-reads stops cs c xs t rest e h =
-    both-parts (line_leaves N.Data (lines_of (c ∷ (until stops xs).0))) t (until stops xs).1 rest (ap (data_up_to stops) (sym e) ∙ h)
+data-reads stops cs c xs t rest e h = grind (arith, both-parts)
 
 pub some-ahead : (T : Tokenizer) (cs : List Code) → ahead T ≡ cs → current_of T ≢ None →
     (c : Code) × ((xs : List Code) × (cs ≡ c ∷ xs))
-some-ahead T [] e h = absurd (h (current-ahead T ∙ ap (λ xs. value_of (first_of xs)) e))
-some-ahead T (c ∷ xs) e h = (c, (xs, refl))
+some-ahead T x2 e h = grind (arith, current-ahead)
 
 pub fewer-left : (T U : Tokenizer) (ws : List Code) → 1 ≤ length ws → ahead T ≡ ws ++ ahead U →
     codes_left U < codes_left T
@@ -409,35 +369,30 @@ past-last c [] previous = refl
 past-last c (d ∷ ds) previous = past-last d ds (Some c)
 
 same-last : (xs ws vs rest : List Code) → xs ≡ ws ++ rest → xs ≡ vs ++ rest → last_code ws ≡ last_code vs
-same-last xs ws vs rest e f =
-    sym (code_before-append ws rest) ∙ ap (λ ys. code_before ys rest) (sym e ∙ f) ∙ code_before-append vs rest
+same-last xs ws vs rest e f = grind (arith, code_before-append ws rest, code_before-append vs rest)
 
 -- the starts are kept past a tree
 pub kept-tree : (t : Forest) (T U : Tokenizer) → U ≡ past_tree t T → (earlier : List Element) → KeepsStarts earlier T →
     KeepsStarts earlier U
 unfolding past past_tree
-kept-tree t T U left earlier k =
-    subst (λ (x : Tokenizer). StandFor x.events (unused_starts earlier) x.tokenize_state.label_starts) (sym left) (starts-plain earlier t T.events _ T.tokenize_state.label_starts k)
+kept-tree t T U left earlier k = grind (arith, starts-plain earlier t T.events)
 
 -- the starts that no end has used are those before data
 read-starts : (source : Source) (e : Element) (c : Code) (earlier : List Element) → IsReadAs source e (plain (code_leaf c)) →
     unused_starts (e ∷ earlier) ≡ unused_starts earlier
-read-starts source e c earlier (inl h) = ap (λ x. unused_starts (x ∷ earlier)) h
-read-starts source e c earlier (inr h) = ap (λ x. unused_starts (x ∷ earlier)) h.1.1.0
+read-starts source e c earlier x5 = grind arith
 
 past-starts : (source : Source) (earlier es : List Element) (cs : List Code) → AreReadAs source es (leaf_elements cs) →
     unused_starts (past_elements earlier es) ≡ unused_starts earlier
 unfolding leaf_elements past_elements
 past-starts source earlier [] [] h = refl
-past-starts source earlier (x ∷ es) (c ∷ cs) h =
-    past-starts source (x ∷ earlier) es cs h.1 ∙ read-starts source x c earlier h.0
+past-starts source earlier (x ∷ es) (c ∷ cs) h = grind (arith, read-starts, past-starts source (x ∷ earlier) es cs)
 past-starts source earlier [] (c ∷ cs) h = absurd h
 past-starts source earlier (x ∷ es) [] h = absurd h
 
 kept-past : (source : Source) (earlier es : List Element) (cs : List Code) (U : Tokenizer) → AreReadAs source es (leaf_elements cs) →
     KeepsStarts earlier U → KeepsStarts (past_elements earlier es) U
-kept-past source earlier es cs U h k =
-    subst (λ us. StandFor U.events us U.tokenize_state.label_starts) (sym (past-starts source earlier es cs h)) k
+kept-past source earlier es cs U h k = grind (arith, past-starts)
 
 -- Data that is read where a run stands: the code at hand, and those up to where data stops.
 pub record DataRead (stops : List Code → Bool) (T U : Tokenizer) (c : Code) (cs : List Code) : Type 0 where
@@ -533,31 +488,22 @@ data-advances choice stops T U c cs whole k first others =
 -- an escape is a group of that name
 named-escape : (name : Name) (a b : _) (inside rest : Forest) (earlier : List Element) →
     is_escape name ≡ ends_escaped (plain (group_then name a b inside rest) ∷ earlier)
-named-escape N.CharacterEscape a b inside rest earlier = refl
-named-escape _ a b inside rest earlier = refl
+named-escape x1 a b inside rest earlier = grind arith
 
 leaf-escaped : (es : List Event) (n : ℕ) (name : Name) (cs : List Code) →
     follows_escape (es ++ appended_from n None (leaf_then name None cs empty)) ≡ is_escape name
-leaf-escaped es n name cs =
-    follows-these es (event Kind.Enter name (start_of cs) ∷ []) (event Kind.Exit name (stop_of document_start cs))
+leaf-escaped es n name cs = grind (arith, follows-these es (event Kind.Enter name (start_of cs) ∷ []) (event Kind.Exit name (stop_of document_start cs)))
 
 pub group-escaped : (es : List Event) (n : ℕ) (name : Name) (a b : _) (inside : Forest) →
     follows_escape (es ++ appended_from n None (group_then name a b inside empty)) ≡ is_escape name
-group-escaped es n name a b inside =
-    follows-these es (event Kind.Enter name a ∷ appended_from (n + 1) None inside) (event Kind.Exit name b)
+group-escaped es n name a b inside = grind (arith, follows-these es (event Kind.Enter name a ∷ appended_from (n + 1) None inside) (event Kind.Exit name b))
 
 -- whether an escape stands before, past one tree
 single-escaped : (es : List Event) (n : ℕ) (t : Forest) (earlier : List Element) → IsSingle t →
     follows_escape (es ++ appended_from n None t) ≡ ends_escaped (plain t ∷ earlier)
 single-escaped es n empty earlier h = absurd h
-single-escaped es n (leaf_then name link cs rest) earlier h =
-    ap (λ (x : Option _ × Forest). follows_escape (es ++ appended_from n None (leaf_then name x.0 cs x.1))) (λ i. (h.0 i, h.1.1 i))
-    ∙ leaf-escaped es n name cs
-    ∙ h.1.0
-single-escaped es n (group_then name a b inside rest) earlier h =
-    ap (λ x. follows_escape (es ++ appended_from n None (group_then name a b inside x))) h
-    ∙ group-escaped es n name a b inside
-    ∙ named-escape name a b inside rest earlier
+single-escaped es n (leaf_then name link cs rest) earlier h = grind (arith, leaf-escaped es n name cs)
+single-escaped es n (group_then name a b inside rest) earlier h = grind (arith, group-escaped, named-escape)
 
 -- an element of a tree, a start or an end, behind which these codes are left
 pub one-element : (choice : Choice) (earlier : List Element) (previous : Option Code) (row : Row) (T U : Tokenizer) (e : Element) (ws : List Code) → 1 ≤ length ws → ahead T ≡ ws ++ ahead U → code_just_before U ≡ last_code ws → follows_escape U.events ≡ ends_escaped (e ∷ earlier) → KeepsStarts (e ∷ earlier) U → choice earlier previous (ahead T) ≡ Some (e, ahead U)
@@ -577,11 +523,7 @@ one-element choice earlier previous row T U e ws some covers before escaped keep
 
 has-single : (t : Forest) → HasRowLines t → HasCodes t
 has-single empty h = tt
-has-single (leaf_then name link cs rest) h = (λ e l. (h.0 (data-makes name e) l).0, has-single rest h.1)
-  where
-    data-makes : (n : Name) → is_data n ≡ true → makes_data n ≡ true
-    data-makes N.Data e = refl
-    data-makes _ e = cc
+has-single (leaf_then name link cs rest) h = grind (arith, has-single rest)
 has-single (group_then name enter exit inside rest) h = (has-single inside h.1.0, has-single rest h.1.1)
 
 -- past a tree that stands by itself
@@ -609,15 +551,11 @@ pub node-advances : (choice : Choice) (reading : TreeReading) (T U : Tokenizer) 
     (k : Reads reading None T.tokenize_state T U) → IsNode k.tree → 1 + length k.rest ≤ length (ahead T) →
     ((earlier : List Element) (previous : Option Code) → StandsAfter earlier previous T → choice earlier previous (ahead T) ≡ Some (plain k.tree, k.rest)) →
     Advances choice T U
-node-advances choice reading T U k node more finds =
-    single-advances choice T U k.tree k.rest node.single (quiet-lines-of k.tree node.quiet) (quiet-outer k.tree node.quiet) (some-codes (ahead T) (leaf_codes k.tree) k.rest k.whole more)
-    (k.left ∙ ap (past None k.tree) (scratched-same T) ∙ past_tree-without k.tree T (quiet-no-run k.tree node.quiet)) k.whole k.after finds
+node-advances choice reading T U k node more finds = grind (arith, single-advances, quiet-lines-of, quiet-outer, some-codes, scratched-same, past_tree-without, quiet-no-run)
 
 -- past a run of markers, whose pass is registered
 pub run-advances : (choice : Choice) (reading : TreeReading) (T U V : Tokenizer) →
     (k : Reads reading None T.tokenize_state T V) → U ≡ registered R.Attention V → IsRunLeaf k.tree →
     ((earlier : List Element) (previous : Option Code) → StandsAfter earlier previous T → choice earlier previous (ahead T) ≡ Some (plain k.tree, k.rest)) →
     Advances choice T U
-run-advances choice reading T U V k e run finds =
-    single-advances choice T U k.tree k.rest run.single run.has_lines run.outer run.some
-    (e ∙ ap (registered R.Attention) (k.left ∙ ap (past None k.tree) (scratched-same T)) ∙ past_tree-with k.tree T run.runs) k.whole (ap ahead e ∙ ahead-registered R.Attention V ∙ k.after) finds
+run-advances choice reading T U V k e run finds = grind (arith, single-advances, scratched-same, past_tree-with, ahead-registered)

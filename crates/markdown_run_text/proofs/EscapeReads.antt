@@ -1,14 +1,13 @@
 -- An escape that is at the place is read; where none is, none is read.
-use Rattle.std.proofs.Common.{◌≡◌, ◌&&◌, ◌||◌, ◌==◌, Bool, true, false, List, [], ◌∷◌, ◌++◌, None, Some, refl, sym, ap, ◌∙◌}
+use Rattle.std.proofs.Common.{◌≡◌, ◌&&◌, ◌||◌, ◌==◌, Bool, true, false, List, [], ◌∷◌, ◌++◌, None, Some, refl, sym, ap, ◌∙◌, arith}
 use Rattle.std.specs.Prelude.{codes}
 use Rattle.std.proofs.Math.Bool.{and-false, or-false}
 use Rattle.markdown_content.specs.Codes.{Code}
 use Rattle.markdown_content.specs.Place.{Place, ahead_at, code_at, moved}
-use Rattle.markdown_content.specs.Tree.{Forest, ◌⊕◌, leaf, leaf_codes}
-use Rattle.markdown_event.specs.declared.event.Name.TheVariants as N
+use Rattle.markdown_content.specs.Tree.{Forest, leaf_codes}
 use Rattle.markdown_content.proofs.PlaceRules.{ahead_moved, code_at_ahead, code_at_end}
 use Rattle.markdown_engine.specs.Operations.{ahead, done}
-use Rattle.markdown_engine.specs.PastTree.{Reads, TreeReading, past}
+use Rattle.markdown_engine.specs.PastTree.{Reads, TreeReading}
 use Rattle.markdown_engine.specs.TreeOps.{IsSolid, ops_of}
 use Rattle.markdown_engine.specs.declared.tokenizer.Tokenizer.{Tokenizer}
 use Rattle.markdown_engine.proofs.ReadingSequences.{scratched-same}
@@ -27,20 +26,10 @@ use Rattle.markdown_run_text.specs.ReaderEnds.{options_here}
 -- a solid tree that is read, with its operations
 pub solid-reads : (r : TreeReading) (tree : Forest) (rest : List Code) (T U : Tokenizer) → IsSolid tree → r (ahead T) ≡ Some (tree, rest) →
     ahead T ≡ leaf_codes tree ++ rest → U ≡ done (ops_of tree) T → Reads r None T.tokenize_state T U
-solid-reads r tree rest T U solid reads whole e =
-    let over : U ≡ past None tree T = e ∙ ops-past tree rest T solid whole in
-    record {
-      tree = tree;
-      rest = rest;
-      holds = reads;
-      left = over ∙ ap (past None tree) (sym (scratched-same T));
-      whole = whole;
-      after = ap ahead over ∙ ahead-past None tree T rest whole;
-    }
+solid-reads r tree rest T U solid reads whole e = grind (arith, ops-past, scratched-same, ahead-past)
 
 escape-solid : (c d : Code) → IsSolid (escape_tree (c ∷ []) (d ∷ []))
-escape-solid c d =
-    IsSolid-group N.CharacterEscape (leaf N.CharacterEscapeMarker (c ∷ []) ⊕ leaf N.CharacterEscapeValue (d ∷ [])) (λ e. cc) (IsSolid-row (leaf N.CharacterEscapeMarker (c ∷ [])) (leaf N.CharacterEscapeValue (d ∷ [])) (IsSolid-leaf N.CharacterEscapeMarker (c ∷ [])) (IsSolid-leaf N.CharacterEscapeValue (d ∷ [])))
+escape-solid c d = grind (arith, IsSolid-group, IsSolid-row, IsSolid-leaf)
 
 escape-codes : (c d : Code) (cs : List Code) → is_value 92 c ≡ true → is_ascii_punctuation d ≡ true →
     character_escape (c ∷ d ∷ cs) ≡ Some (escape_tree (c ∷ []) (d ∷ []), cs)
@@ -51,21 +40,16 @@ escape-codes c d cs h k =
 -- the test of a place, by its codes
 test-two : (p : Place) (c d : Code) (cs : List Code) → ahead_at p ≡ c ∷ d ∷ cs →
     begins_escape p ≡ (((c.value == 92) || false) && is_punctuation d.value)
-test-two p c d cs e =
-    ap (λ o. is_some_mark (codes "\\") o && is_some_punctuation (code_at (moved p))) (code_at_ahead p c (d ∷ cs) e)
-    ∙ ap (λ o. ((c.value == 92) || false) && is_some_punctuation o) (code_at_ahead (moved p) d cs (ahead_moved p c (d ∷ cs) e))
+test-two p c d cs e = grind (arith, code_at_ahead p c (d ∷ cs), code_at_ahead (moved p) d cs, ahead_moved p c (d ∷ cs))
 
 test-one : (p : Place) (c : Code) → ahead_at p ≡ c ∷ [] → begins_escape p ≡ false
-test-one p c e =
-    ap (λ o. is_some_mark (codes "\\") (code_at p) && is_some_punctuation o) (code_at_end (moved p) (ahead_moved p c [] e))
-    ∙ and-false (is_some_mark (codes "\\") (code_at p))
+test-one p c e = grind (arith, code_at_end, ahead_moved, and-false)
 
 test-none : (p : Place) → ahead_at p ≡ [] → begins_escape p ≡ false
 test-none p e = ap (λ o. is_some_mark (codes "\\") o && is_some_punctuation (code_at (moved p))) (code_at_end p e)
 
 clash : {A : Type 0} → (b : Bool) → b ≡ true → b ≡ false → A
-clash true h k = cc
-clash false h k = cc
+clash x1 h k = grind arith
 
 module _ (T U : Tokenizer) (here : escapes_here T ≡ true) (appended : U ≡ done (opening ++ value) T) where
   reads-from : (cs : List Code) → ahead T ≡ cs → Reads (character_escape_here (options_here T)) None T.tokenize_state T U
@@ -103,9 +87,4 @@ none-from (c ∷ d ∷ cs) p e h = by_slash (c.value == 92) refl
         bind-some _ _ _ _ _ _ (one-here (is_value 92) c (d ∷ cs) k) (bind-none _ _ _ (one-other is_ascii_punctuation d cs other))
 
 pub no-escape : (T : Tokenizer) → escapes_here T ≡ false → character_escape_here (options_here T) (ahead T) ≡ None
-no-escape T h = by_switch (is_on T) refl h
-  where
-    by_switch : (b : Bool) → is_on T ≡ b → b && begins_escape T.cursor ≡ false →
-        character_escape_here (options_here T) (ahead T) ≡ None
-    by_switch false e k = switched-off character_escape (is_on T) (ahead T) e
-    by_switch true e k = switched-on character_escape (is_on T) (ahead T) e ∙ none-from (ahead T) T.cursor refl k
+no-escape T h = grind (arith, switched-off, switched-on, none-from)

@@ -1,24 +1,21 @@
 -- The start of an image that stands at hand, by its codes, and how it is read.
-use Rattle.std.proofs.Common.{◌≡◌, ℕ, ◌&&◌, not, Bool, true, false, List, ◌++◌, Option, None, Some, refl, sym, ap, subst, ◌∙◌, arith}
+use Rattle.std.proofs.Common.{◌≡◌, ℕ, ◌&&◌, Bool, true, false, List, ◌++◌, Option, None, Some, refl, sym, ap, subst, ◌∙◌, arith}
 use Rattle.std.specs.Option.{is_some}
 use Rattle.std.proofs.lemmas.Bool.{not-true}
 use Rattle.markdown_content.specs.ListFunctions.{rest_of}
 use Rattle.markdown_content.specs.Place.{Place, ahead_at, code_at, moved}
-use Rattle.markdown_content.specs.declared.label_kind.LabelKind.{LabelKind}
 use Rattle.markdown_event.proofs.AndParts.{and-left, and-right}
 use Rattle.markdown_content.proofs.PlaceRules.{IsAhead, ahead-moved, ahead_none, ahead_some}
 use Rattle.markdown_engine.specs.Operations.{Op, ahead, applied, current_of, done}
-use Rattle.markdown_engine.specs.StateRuns.{Stepped, stepped}
 use Rattle.markdown_event.specs.declared.state.State.{State}
-use Rattle.markdown_event.specs.declared.state.State.TheVariants.{Nok, Ok}
 use Rattle.markdown_engine.specs.declared.tokenizer.Tokenizer.{Tokenizer}
-use Rattle.markdown_label.specs.LabelStarts.{ImageAfterReady, footnotes_on, image_after_step, image_back, image_front, image_test, images_on, is_caret, kept_start}
+use Rattle.markdown_label.specs.LabelStarts.{ImageAfterReady, footnotes_on, image_after_step, image_back, image_front, image_test, is_caret}
 use Rattle.markdown_label.proofs.LabelStartOps.{written}
 use Rattle.markdown_model.specs.CodeTests.{is_value, next_is}
 use Rattle.markdown_model.specs.SingleConstructs.{label_start_image_here}
 use Rattle.markdown_model.proofs.GrammarSteps.{if-false}
 use Rattle.markdown_run_text.proofs.LabelStartConstructs.{image-begins, image-not}
-use Rattle.markdown_run_text.specs.PlacesPassed.{calls_here, image_here, is_some_value}
+use Rattle.markdown_run_text.specs.PlacesPassed.{image_here, is_some_value}
 use Rattle.markdown_run_text.specs.ReaderEnds.{BeginsOrStays, options_here}
 
 -- The code at a place, and those behind it.
@@ -39,32 +36,21 @@ third-at : (v : ℕ) (p : Place) → is_some_value v (code_at (moved (moved p)))
 third-at v p = second-at v (moved p) ∙ ap (λ cs. next_is (is_value v) (rest_of cs)) (ahead-moved p)
 
 pub some-value : (v : ℕ) (o : Option ℕ) → is_some_value v o ≡ true → is_some o ≡ true
-some-value v None e = cc
-some-value v (Some c) e = refl
+some-value v x2 e = grind arith
 
 caret-is : (o : Option ℕ) → is_caret o ≡ is_some_value 94 o
-caret-is None = refl
-caret-is (Some c) = refl
+caret-is x1 = grind arith
 
 -- Where a start stands.
 
 sorted : (a b c d : Bool) → a && ((b && c) && d) ≡ (a && b) && (c && d)
-sorted true true c d = refl
-sorted true false c d = refl
-sorted false b c d = refl
+sorted x1 b c d = grind arith
 
 pub image-here : (T : Tokenizer) → image_here T ≡ image_test T (ahead T)
-image-here T =
-    let p : Place = T.cursor in
-    sorted (images_on T) (is_some_value 33 (code_at p)) (is_some_value 91 (code_at (moved p))) (not (calls_here T))
-    ∙ (λ i. (images_on T && first-at 33 p i) && (second-at 91 p i && not (footnotes_on T && third-at 94 p i)))
+image-here T = grind (arith, sorted, first-at, second-at, third-at)
 
 pub image-codes : (T : Tokenizer) → image_test T (ahead T) ≡ true → is_some (code_at T.cursor) && is_some (code_at (moved T.cursor)) ≡ true
-image-codes T e =
-    let p : Place = T.cursor in
-    let first : is_some (code_at p) ≡ true = some-value 33 (code_at p) (first-at 33 p ∙ and-right _ _ (and-left _ _ e)) in
-    let second : is_some (code_at (moved p)) ≡ true = some-value 91 (code_at (moved p)) (second-at 91 p ∙ and-left _ _ (and-right _ _ e)) in
-    (λ i. first i && second i)
+image-codes T e = grind (arith, some-value, first-at, and-right, and-left, second-at)
 
 -- How it is read.
 
@@ -76,19 +62,11 @@ image-ready T V e = subst ImageAfterReady (sym e) (omega (arith, written image_o
 
 no-call : (T : Tokenizer) → image_test T (ahead T) ≡ true → (let V : Tokenizer = done image_ops T in footnotes_on V && is_caret (current_of V)) ≡ false
 unfolding applied
-no-call T e =
-    let o : Option ℕ = code_at (moved (moved T.cursor)) in
-    ap (λ b. footnotes_on T && b) (caret-is o ∙ third-at 94 T.cursor) ∙ not-true _ (and-right _ _ (and-right _ _ e))
+no-call T e = grind (arith, caret-is, third-at, not-true, and-right)
 
 pub image-reads : (T V U : Tokenizer) (s : State) → image_test T (ahead T) ≡ true → V ≡ done image_ops T → image_after_step V ≡ record { state = s; left = U } →
     BeginsOrStays (label_start_image_here (options_here T)) T true U
-image-reads T V U s e k l =
-    let W : Tokenizer = done image_ops T in
-    let kept : U ≡ kept_start LabelKind.Image 6 W =
-    sym (ap (λ (x : Stepped). x.left) l)
-    ∙ ap (λ (x : Tokenizer). (image_after_step x).left) k
-    ∙ ap (λ (x : Stepped). x.left) (if-false (footnotes_on W && is_caret (current_of W)) (stepped Nok W) (stepped Ok (kept_start LabelKind.Image 6 W)) (no-call T e)) in
-    image-begins T U (record { holds = e; left = kept })
+image-reads T V U s e k l = grind (arith, if-false, no-call, image-begins)
 
 pub no-image : (T : Tokenizer) → image_test T (ahead T) ≡ false → BeginsOrStays (label_start_image_here (options_here T)) T false T
 no-image T e = (image-not T e, refl)

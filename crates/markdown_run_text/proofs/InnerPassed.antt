@@ -1,9 +1,8 @@
 -- What data passes that goes on past inner underscores, those between letters or digits.
-use Rattle.std.proofs.Common.{◌≡◌, ℕ, zero, suc, ◌-◌, ◌<◌, ◌≤◌, ◌&&◌, ◌||◌, ◌==◌, Bool, true, false, not, List, [], ◌∷◌, length, drop, take, Option, None, Some, refl, sym, ap, ◌∙◌, arith, add-one}
+use Rattle.std.proofs.Common.{◌≡◌, ℕ, zero, suc, ◌-◌, ◌<◌, ◌≤◌, ◌&&◌, ◌||◌, ◌==◌, Bool, true, false, not, List, [], ◌∷◌, length, drop, take, Option, Some, refl, sym, ap, ◌∙◌, arith, add-one}
 use Rattle.std.specs.Prelude.{IsSome}
 use Rattle.std.specs.List.{list_any}
 use Rattle.std.specs.Str.{byte}
-use Rattle.std.specs.Option.{is_some}
 use Rattle.std.proofs.Math.Bool.{and-false}
 use Rattle.std.proofs.lemmas.Bool.{and_parts, eqb-true}
 use Rattle.std.proofs.lemmas.List.{length-drop}
@@ -20,7 +19,7 @@ use Rattle.markdown_model.proofs.GrammarSteps.{until-goes, until-stops}
 use Rattle.markdown_partial.specs.PartialData.{ends_stretch}
 use Rattle.markdown_run_text.proofs.PassedData.{data-goes, data-stops}
 use Rattle.markdown_run_text.specs.PlacesPassed.{goes_on, goes_past, is_some_alphanumeric, is_some_value, past_data, past_inner}
-use Rattle.markdown_run_text.specs.TextStops.{begins_word, is_inner_underscore, reader_stops, text_stops}
+use Rattle.markdown_run_text.specs.TextStops.{is_inner_underscore, reader_stops, text_stops}
 use Rattle.markdown_run_text.specs.TextContent.{plain_markers}
 
 -- The code before a place.
@@ -50,12 +49,10 @@ before-ahead p c cs e =
 -- Underscores between letters or digits.
 
 tested : (o : Option Code) → is_some_alphanumeric (value_of o) ≡ is_some_code is_alphanumeric o
-tested None = refl
-tested (Some c) = refl
+tested x1 = grind arith
 
 code-first : (p : Place) (cs : List Code) → ahead_at p ≡ cs → code_at p ≡ value_of (first_code cs)
-code-first p [] e = code_at_end p e
-code-first p (c ∷ cs) e = code_at_ahead p c cs e
+code-first p x2 e = grind (arith, code_at_end, code_at_ahead)
 
 -- an inner underscore is at the place
 abbrev inner_at : Place → Bool
@@ -80,26 +77,16 @@ inner-here p = by_codes (ahead_at p) refl
 -- Where the reader stops.
 
 without : (line stop inner : Bool) → (line || stop) ≡ false → (line || (stop && not inner)) ≡ false
-without false false inner e = refl
-without true stop inner e = cc
-without false true inner e = cc
+without x1 stop inner e = grind arith
 
 other : (line stop inner : Bool) → (line || stop) ≡ true → inner ≡ false → (line || (stop && not inner)) ≡ true
-other true stop inner e f = refl
-other false true false e f = refl
-other false false inner e f = cc
-other false true true e f = cc
+other x1 stop inner e f = grind arith
 
 stays : (stop inner : Bool) → inner ≡ false → not stop ≡ not (stop && not inner)
-stays true false e = refl
-stays false false e = refl
-stays stop true e = cc
+stays stop x2 e = grind arith
 
 passes : (line stop inner : Bool) → line ≡ false → inner ≡ true → (line || (stop && not inner)) ≡ false
-passes false true true e f = refl
-passes false false true e f = refl
-passes true stop inner e f = cc
-passes false stop false e f = cc
+passes x1 stop inner e f = grind arith
 
 module _ (whole : List Code) (literals : Bool) where
   abbrev ends : List Code → Bool
@@ -110,15 +97,11 @@ module _ (whole : List Code) (literals : Bool) where
   inner_from p = moved_by (until ends (ahead_at p)).0 p
 
   inner-stop : (p : Place) (c : Code) (cs : List Code) → ahead_at p ≡ c ∷ cs → ends (c ∷ cs) ≡ true → inner_from p ≡ p
-  inner-stop p c cs e h =
-      ap (λ xs. moved_by (until ends xs).0 p) e ∙ ap (λ (s : List Code × List Code). moved_by s.0 p) (until-stops ends c cs h)
+  inner-stop p c cs e h = grind (arith, until-stops)
 
   inner-go : (p : Place) (c : Code) (cs : List Code) → ahead_at p ≡ c ∷ cs → ends (c ∷ cs) ≡ false →
       inner_from p ≡ inner_from (moved p)
-  inner-go p c cs e h =
-      ap (λ xs. moved_by (until ends xs).0 p) e
-      ∙ ap (λ (s : List Code × List Code). moved_by s.0 p) (until-goes ends c cs h)
-      ∙ ap (λ xs. moved_by (until ends xs).0 (moved p)) (sym (ahead_moved p c cs e))
+  inner-go p c cs e h = grind (arith, until-goes, ahead_moved)
 
   inner-none : (p : Place) → ahead_at p ≡ [] → inner_from p ≡ p
   inner-none p e = ap (λ xs. moved_by (until ends xs).0 p) e
@@ -126,23 +109,12 @@ module _ (whole : List Code) (literals : Bool) where
   -- from a place and from behind data of its line the reader comes to one place
   inner-on-from : (cs : List Code) (p : Place) → ahead_at p ≡ cs → inner_from p ≡ inner_from (past_data literals p)
   inner-on-from [] p e = ap inner_from (sym (ap (λ xs. moved_by (until (ends_stretch (text_stops literals)) xs).0 p) e))
-  inner-on-from (c ∷ cs) p e =
-      by_test (ends_stretch (text_stops literals) (c ∷ cs)) refl (inner-on-from cs (moved p) (ahead_moved p c cs e))
-    where
-      by_test : (b : Bool) → ends_stretch (text_stops literals) (c ∷ cs) ≡ b →
-          inner_from (moved p) ≡ inner_from (past_data literals (moved p)) → inner_from p ≡ inner_from (past_data literals p)
-      by_test true h more = ap inner_from (sym (data-stops literals p (ap (ends_stretch (text_stops literals)) e ∙ h)))
-      by_test false h more =
-          inner-go p c cs e (without (is_line_ending c) (text_stops literals (c ∷ cs)) (is_inner_underscore whole (c ∷ cs)) h)
-          ∙ more
-          ∙ ap inner_from (sym (data-goes literals p c.value (code_at_ahead p c cs e) (ap (ends_stretch (text_stops literals)) e ∙ h)))
+  inner-on-from (c ∷ cs) p e = grind (arith, ahead_moved p c cs, data-stops literals, inner-go p c cs, without (is_line_ending c) (text_stops literals (c ∷ cs)) (is_inner_underscore whole (c ∷ cs)), data-goes literals p, code_at_ahead p c cs, inner-on-from cs (moved p))
 
   -- behind data of the line it stops where no such underscore is
   inner-stop-from : (cs : List Code) (p : Place) → ahead_at p ≡ cs →
       is_inner_underscore whole (ahead_at (past_data literals p)) ≡ false → inner_from (past_data literals p) ≡ past_data literals p
-  inner-stop-from [] p e none =
-      let here : past_data literals p ≡ p = ap (λ xs. moved_by (until (ends_stretch (text_stops literals)) xs).0 p) e in
-      ap inner_from here ∙ inner-none p e ∙ sym here
+  inner-stop-from [] p e none = grind (arith, inner-none)
   inner-stop-from (c ∷ cs) p e none =
       by_test (ends_stretch (text_stops literals) (c ∷ cs)) refl (inner-stop-from cs (moved p) (ahead_moved p c cs e))
     where
@@ -162,30 +134,22 @@ module _ (whole : List Code) (literals : Bool) where
   -- and from behind an inner underscore
   inner-past-from : (cs : List Code) (p : Place) → ahead_at p ≡ cs → is_inner_underscore whole cs ≡ true →
       inner_from p ≡ inner_from (moved p)
-  inner-past-from [] p e h = cc
-  inner-past-from (c ∷ cs) p e h =
-      let marker : c.value ≡ byte "_" = eqb-true c.value (byte "_") (and_parts (is_value (byte "_") c) _ h).0 in
-      inner-go p c cs e
-      (passes (is_line_ending c) (text_stops literals (c ∷ cs)) (is_inner_underscore whole (c ∷ cs)) (ap (λ v. v == line_feed) marker) h)
+  inner-past-from x1 p e h = grind (arith, eqb-true, and_parts, inner-go, passes)
 
   pub goes-from : (cs : List Code) → is_inner_underscore whole cs ≡ false → goes_on literals cs ≡ goes_past whole literals cs
-  goes-from [] h = refl
-  goes-from (c ∷ cs) h = stays (text_stops literals (c ∷ cs)) (is_inner_underscore whole (c ∷ cs)) h
+  goes-from x1 h = grind (arith, stays)
 
 -- some code is where such an underscore is
 some-from : (whole : List Code) (cs : List Code) (p : Place) → ahead_at p ≡ cs → is_inner_underscore whole cs ≡ true →
     IsSome (code_at p)
-some-from whole [] p e h = cc
-some-from whole (c ∷ cs) p e h = ap is_some (code_at_ahead p c cs e)
+some-from whole x2 p e h = grind (arith, code_at_ahead)
 
 rest-less : {A : Type 0} (xs : List A) → length (rest_of xs) ≤ length xs
-rest-less [] = omega arith
-rest-less (x ∷ xs) = omega arith
+rest-less x1 = grind arith
 
 left-by : (cs : List Code) (p : Place) → length (ahead_at (moved_by cs p)) ≤ length (ahead_at p)
 left-by [] p = omega arith
-left-by (c ∷ cs) p =
-    omega (arith, left-by cs (moved p), ap (λ (xs : List Code). length xs) (ahead-moved p), rest-less (ahead_at p))
+left-by (c ∷ cs) p = grind (arith, ahead-moved, rest-less, left-by cs (moved p))
 
 -- What `pass_inner` does, turn by turn.
 
@@ -195,16 +159,7 @@ no-mark c rest e = ap (λ v. not (not (list_any (λ n. v == n) plain_markers || 
 -- where data goes on no underscore is at hand
 pub held-is : (whole : List Code) (literals on : Bool) (cs : List Code) → on ≡ goes_on literals cs →
     (not on && is_inner_underscore whole cs) ≡ is_inner_underscore whole cs
-held-is whole literals on cs e = by_inner (is_inner_underscore whole cs) refl
-  where
-    stops-at : (cs : List Code) → is_inner_underscore whole cs ≡ true → not (goes_on literals cs) ≡ true
-    stops-at [] h = refl
-    stops-at (c ∷ cs) h =
-        no-mark c (literals && begins_word (c ∷ cs)) (eqb-true c.value (byte "_") (and_parts (is_value (byte "_") c) _ h).0)
-
-    by_inner : (b : Bool) → is_inner_underscore whole cs ≡ b → (not on && b) ≡ b
-    by_inner true h = ap (λ x. not x && true) e ∙ ap (λ x. x && true) (stops-at cs h)
-    by_inner false h = and-false (not on)
+held-is whole literals on cs e = grind (arith, no-mark, eqb-true, and_parts, and-false)
 
 -- from behind data of the line the reader comes to the same place
 pub inner-on : (literals : Bool) (p q : Place) → q ≡ past_data literals p → past_inner literals q ≡ past_inner literals p
@@ -232,12 +187,7 @@ inner-some q h = some-from q.codes (ahead_at q) q refl h
 -- fewer codes are left
 pub inner-less : (literals : Bool) (p q : Place) → IsSome (code_at p) → q ≡ past_data literals (moved p) →
     length (ahead_at q) < length (ahead_at p)
-inner-less literals p q some e = by_code (code_at p) refl some
-  where
-    by_code : (o : Option ℕ) → code_at p ≡ o → IsSome o → length (ahead_at q) < length (ahead_at p)
-    by_code None k h = cc
-    by_code (Some v) k h =
-        omega (arith, left_moved p v k, left-by (until (ends_stretch (text_stops literals)) (ahead_at (moved p))).0 (moved p), ap (λ (x : Place). length (ahead_at x)) e)
+inner-less literals p q some e = grind (arith, left_moved, left-by)
 
 -- Behind a line ending.
 

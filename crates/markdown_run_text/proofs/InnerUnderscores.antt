@@ -1,5 +1,5 @@
 -- An underscore between two letters or digits of a text.
-use Rattle.std.proofs.Common.{◌≡◌, ℕ, ◌+◌, ◌<◌, ◌==◌, ◌&&◌, ◌||◌, nat_le, nat_lt, ◌≤◌, Bool, true, false, suc, List, [], ◌∷◌, ◌++◌, length, drop, take, get_or, Option, Some, if◌then◌else◌, not, refl, sym, ap, ◌∙◌, arith, append_assoc, inl, inr}
+use Rattle.std.proofs.Common.{◌≡◌, ℕ, ◌+◌, ◌<◌, ◌==◌, ◌&&◌, ◌||◌, nat_le, Bool, true, false, suc, List, [], ◌∷◌, ◌++◌, length, drop, take, get_or, Option, Some, if◌then◌else◌, not, refl, sym, ap, ◌∙◌, arith, append_assoc, inl, inr}
 use Rattle.std.specs.Prelude.{IsUtf8, slice_get}
 use Rattle.std.specs.Char.{is_ascii_punctuation}
 use Rattle.std.specs.Str.{byte}
@@ -9,10 +9,10 @@ use Rattle.std.proofs.lemmas.Bool.{and_parts, eqb-true, ltb-true, ltb-false, lt-
 use Rattle.std.proofs.lemmas.List.{drop_more, take_more, get_or_past}
 use Rattle.std.proofs.lemmas.Str.{IsUtf8-drop, IsUtf8-take, IsCharBoundary-before_ascii, IsCharBoundary-after_ascii, chars_past_char, encode_ascii}
 use Rattle.std.proofs.Math.Utf8.{encode}
-use Rattle.markdown_content.specs.Codes.{Code, document_start, line_feed, stop_of}
+use Rattle.markdown_content.specs.Codes.{Code, document_start, stop_of}
 use Rattle.markdown_content.specs.declared.configuration.Rules.{Rules}
 use Rattle.markdown_content.specs.Place.{Place, start_or}
-use Rattle.markdown_content.specs.Tree.{Forest, leaf}
+use Rattle.markdown_content.specs.Tree.{leaf}
 use Rattle.markdown_event.specs.declared.event.Name.TheVariants as N
 use Rattle.markdown_model.specs.CodeTests.{is_alphanumeric, is_some_code, is_value, last_code, next_is}
 use Rattle.markdown_model.specs.Elements.{attention_run, code_before, switched, text_choice, text_element}
@@ -35,7 +35,7 @@ use Rattle.markdown_util.specs.Neighbours.{after_index, before_index, class_of, 
 use Rattle.markdown_util.specs.declared.util.char.Kind.{Kind}
 use Rattle.markdown_util.proofs.AsciiClasses.{white_space_ascii, listed_space_ascii, punctuation_ascii}
 use Rattle.markdown_util.proofs.LastChar.{last_char}
-use Rattle.markdown_content.specs.Beside.{has_code_before, has_code_behind, reaches_to, goes_on_from}
+use Rattle.markdown_content.specs.Beside.{has_code_before, has_code_behind}
 use Rattle.std.proofs.lemmas.List.Folds.{list_any-append}
 use Rattle.std.specs.List.{list_any}
 
@@ -53,9 +53,7 @@ no-punctuation v h = grind (arith, nat_tests)
 
 other-by : (space punctuation : Bool) → space ≡ false → punctuation ≡ false →
     is_other (elim space as (λ _. Kind) [ true ↦ Kind.Whitespace | false ↦ elim punctuation as (λ _. Kind) [ true ↦ Kind.Punctuation | false ↦ Kind.Other ] ]) ≡ true
-other-by true p e f = cc
-other-by false true e f = cc
-other-by false false e f = refl
+other-by x1 p e f = grind arith
 
 no-listed : (v : ℕ) → alphanumeric_value v ≡ true → ((v == 9 || (v == 10 || (v == 12 || v == 13))) || v == 32) ≡ false
 no-listed v h = grind (arith, nat_tests)
@@ -66,16 +64,12 @@ no-nul v h = grind (arith, nat_tests)
 -- so it is of class other, where whitespace is White_Space
 other-class : (v : ℕ) → alphanumeric_value v ≡ true → is_other (class_of (Some v)) ≡ true
 unfolding class_of
-other-class v h =
-    let b = bounds v h in
-    other-by _ _ (white_space_ascii v b.1 ∙ no-space v h) (punctuation_ascii v b.1 ∙ no-punctuation v h)
+other-class v h = grind (arith, bounds, other-by, white_space_ascii, no-space, punctuation_ascii, no-punctuation)
 
 -- and where whitespace is what CommonMark lists
 other-listed : (v : ℕ) → alphanumeric_value v ≡ true → is_other (listed_class_of (Some v)) ≡ true
 unfolding listed_class_of
-other-listed v h =
-    let b = bounds v h in
-    other-by _ _ (listed_space_ascii v b.1 ∙ no-listed v h) (punctuation_ascii v b.1 ∙ no-punctuation v h)
+other-listed v h = grind (arith, bounds, other-by, listed_space_ascii, no-listed, punctuation_ascii, no-punctuation)
 
 -- it is read as itself
 read-itself : (r : Rules) (v : ℕ) → alphanumeric_value v ≡ true → as_read r (Some v) ≡ Some v
@@ -83,12 +77,7 @@ read-itself r v h = ap (λ b. Some (if r.nul_is_replaced && b then 0xFFFD else v
 
 other-beside : (r : Rules) (v : ℕ) → alphanumeric_value v ≡ true → is_other (class_beside r (Some v)) ≡ true
 unfolding class_beside
-other-beside r v h =
-    ap (λ c. is_other (if r.listed_spaces then listed_class_of c else class_of c)) (read-itself r v h) ∙ by_rule r.listed_spaces
-  where
-    by_rule : (b : Bool) → is_other (if b then listed_class_of (Some v) else class_of (Some v)) ≡ true
-    by_rule true = other-listed v h
-    by_rule false = other-class v h
+other-beside r v h = grind (arith, read-itself, other-listed, other-class)
 
 -- Bytes.
 
@@ -110,13 +99,7 @@ last-char bytes i v u lt low e =
 
 -- a byte that is not 0 is one of the text
 within : (bytes : List ℕ) (i v : ℕ) → get_or bytes i 0 ≡ v → 32 < v → i < length bytes
-within bytes i v e h = by_size (nat_lt i (length bytes)) refl
-  where
-    by_size : (b : Bool) → nat_lt i (length bytes) ≡ b → i < length bytes
-    by_size true k = ltb-true i (length bytes) k
-    by_size false k =
-        let out : length bytes ≤ i = ltb-false i (length bytes) k in
-        absurd (omega (arith, get_or_past bytes i 0 out, e, h))
+within bytes i v e h = grind (arith, ltb-true, ltb-false, get_or_past)
 
 -- Codes.
 
@@ -147,27 +130,21 @@ third (e ∷ front) b c d cs = third front b c d cs
 -- The codes beside it.
 
 or-true : (b : Bool) → (b || true) ≡ true
-or-true true = refl
-or-true false = refl
+or-true x1 = grind arith
 
 and-both : (a b : Bool) → a ≡ true → b ≡ true → (a && b) ≡ true
 and-both a b h k = λ i. h i && k i
 
 any-front : (f : Code → Bool) (front : List Code) (b : Code) (rest : List Code) → f b ≡ true → list_any f (front ++ b ∷ rest) ≡ true
-any-front f front b rest h =
-    list_any-append f front (b ∷ rest) ∙ ap (λ x. list_any f front || (x || list_any f rest)) h ∙ or-true (list_any f front)
+any-front f front b rest h = grind (arith, list_any-append, or-true)
 
 joins-before : (front : List Code) (b : Code) (rest all : List Code) → all ≡ front ++ b ∷ rest → (i : ℕ) → i ≡ b.start.index + 1 →
     b.stop.index ≡ b.start.index + 1 → has_code_before all i ≡ true
-joins-before front b rest all whole i from past =
-    ap (λ xs. has_code_before xs i) whole ∙ any-front (reaches_to i) front b rest
-    (λ j. and-both (nat_lt b.start.index i) (not (nat_lt b.stop.index i)) (lt-ltb b.start.index i (omega (arith, from))) (ap not (le-ltb b.stop.index i (omega (arith, from, past)))) j)
+joins-before front b rest all whole i from past = grind (arith, any-front, and-both, lt-ltb, le-ltb)
 
 joins-behind : (front : List Code) (a : Code) (rest all : List Code) → all ≡ front ++ a ∷ rest → (i : ℕ) → a.start.index ≡ i →
     a.stop.index ≡ a.start.index + 1 → has_code_behind all i ≡ true
-joins-behind front a rest all whole i from past =
-    ap (λ xs. has_code_behind xs i) whole ∙ any-front (goes_on_from i) front a rest
-    (λ j. and-both (not (nat_lt i a.start.index)) (nat_lt i a.stop.index) (ap not (le-ltb i a.start.index (omega (arith, from)))) (lt-ltb i a.stop.index (omega (arith, from, past))) j)
+joins-behind front a rest all whole i from past = grind (arith, any-front, and-both, le-ltb, lt-ltb)
 
 module _ (bytes : List ℕ) (p : Place) (text : IsText bytes p) where
   -- what stands at a letter or digit
@@ -176,10 +153,7 @@ module _ (bytes : List ℕ) (p : Place) (text : IsText bytes p) where
     byte_is : get_or bytes b.start.index 0 ≡ b.value
 
   stands : (n : ℕ) (b : Code) → slice_get p.codes n ≡ Some b → is_alphanumeric b ≡ true → ByteStands b
-  stands n b at h =
-      let high : 32 < b.value = (bounds b.value h).0 in
-      let here : get_or bytes b.start.index 0 ≡ b.value = text.byte n b at high in
-      record { in_bytes = within bytes b.start.index b.value here high; byte_is = here }
+  stands n b at h = grind (arith, bounds b.value, within bytes b.start.index b.value)
 
   inner-from : (front : List Code) (b c a : Code) (cs : List Code) → p.codes ≡ front ++ b ∷ c ∷ a ∷ cs →
       c.value ≡ byte "_" → is_alphanumeric b ≡ true → is_alphanumeric a ≡ true → IsIntraword (record { bytes = bytes; content = p.codes }) c
@@ -236,12 +210,10 @@ run-alone c cs e none =
     refl
 
 no-marker : (cs : List Code) → next_is is_alphanumeric cs ≡ true → next_is (is_value (byte "_")) cs ≡ false
-no-marker [] h = cc
-no-marker (a ∷ cs) h = grind (arith, nat_tests)
+no-marker x1 h = grind (arith, nat_tests)
 
 underscore-leaf : (c : Code) → c.value ≡ byte "_" → code_leaf c ≡ leaf N.Data (c ∷ [])
-underscore-leaf c e =
-    ap (λ v. elim (v == line_feed) as (λ _. Forest) [ true ↦ leaf N.LineEnding (c ∷ []) | false ↦ leaf N.Data (c ∷ []) ]) e
+underscore-leaf c e = grind arith
 
 -- an element of one code that is read as data
 abbrev IsReadOne : Setting → List Code → ℕ → List Element → Option Code → Code → List Code → Type 0

@@ -1,5 +1,5 @@
 -- The end of a label is read as the definitions read it, where it is read what follows its `]`.
-use Rattle.std.proofs.Common.{◌≡◌, ℕ, ◌&&◌, not, Bool, true, false, List, [], ◌∷◌, ◌++◌, Option, None, Some, refl, sym, ap, ◌∙◌}
+use Rattle.std.proofs.Common.{◌≡◌, ℕ, ◌&&◌, not, Bool, true, false, List, [], ◌∷◌, ◌++◌, Option, None, Some, refl, sym, ap, ◌∙◌, arith}
 use Rattle.std.proofs.lemmas.Bool.{not-true}
 use Rattle.markdown_content.specs.Codes.{Code}
 use Rattle.markdown_content.specs.Tree.{Forest, leaf, leaf_codes}
@@ -12,16 +12,16 @@ use Rattle.markdown_engine.specs.declared.tokenizer.Tokenizer.{Tokenizer}
 use Rattle.markdown_engine.proofs.ReadingSequences.{scratched-same}
 use Rattle.markdown_engine.proofs.SolidTrees.{IsSolid-group, IsSolid-leaf}
 use Rattle.markdown_engine.proofs.TreeEvents.{ahead-past, ops-past}
-use Rattle.markdown_label.specs.LabelEnd.{Ends, end_made, end_ops, end_tree, ended, is_on, kind_set, made, made_here, outcome_by, starts_set}
+use Rattle.markdown_label.specs.LabelEnd.{Ends, end_made, end_ops, end_tree, ended, is_on, kind_set, made, made_here, outcome_by}
 use Rattle.markdown_label_names.specs.LabelNames.{names_itself, place_at}
-use Rattle.markdown_label.specs.LabelFields.{bars, with_kind}
+use Rattle.markdown_label.specs.LabelFields.{bars}
 use Rattle.markdown_label_names.specs.LabelSetting.{setting_in}
 use Rattle.markdown_label.proofs.LabelEndLemmas.{ahead-made}
 use Rattle.markdown_label.proofs.LabelEndReadings.{outcome-tail}
 use Rattle.markdown_label.proofs.LabelEndStartLaw.{reading-at}
 use Rattle.markdown_model.specs.CodeTests.{is_value}
 use Rattle.markdown_model.specs.Grammar.{gives}
-use Rattle.markdown_model.specs.LabelEnd.{after_label, is_footnote, is_image, label_name, link_kind, names_definition, names_footnote}
+use Rattle.markdown_model.specs.LabelEnd.{after_label, is_footnote, is_image, label_name, link_kind, names_definition}
 use Rattle.markdown_model.specs.Setting.{Setting}
 use Rattle.markdown_model.specs.SingleConstructs.{outcome}
 use Rattle.markdown_model.proofs.GrammarSteps.{bind-some, switched-on}
@@ -44,9 +44,7 @@ pub record EndFollows (s : Setting) (asks : Bool) (read : Tokenizer → Tokenize
 -- where the last start keeps its kind
 kept-kind : (M : Tokenizer) (l : Kept.LabelStart) (ls : List Kept.LabelStart) → M.tokenize_state.label_starts ≡ l ∷ ls →
     link_kind l.kind ≡ l.kind → kind_set (link_kind l.kind) M ≡ M
-kept-kind M l ls e same =
-    ap (λ y. scratched (starts_set y M.tokenize_state) M) (ap (with_kind (link_kind l.kind)) e ∙ ap (λ q. record l { kind = q } ∷ ls) same ∙ sym e)
-    ∙ scratched-same M
+kept-kind M l ls e same = grind (arith, scratched-same M)
 
 -- such a start is not barred, and its label is a link's or an image's
 record TakesStart (l : Kept.LabelStart) : Type 0 where
@@ -56,10 +54,7 @@ record TakesStart (l : Kept.LabelStart) : Type 0 where
 
 takes-by : (kind : LabelKind) (inactive : Bool) → takes_resource kind inactive ≡ true →
     ((not (is_image kind) && inactive) ≡ false) × ((is_footnote kind ≡ false) × (link_kind kind ≡ kind))
-takes-by LabelKind.Image inactive h = (refl, (refl, refl))
-takes-by LabelKind.Link inactive h = (not-true inactive h, (refl, refl))
-takes-by LabelKind.GfmUndefinedFootnote inactive h = (not-true inactive h, (refl, refl))
-takes-by LabelKind.GfmFootnote inactive h = cc
+takes-by x1 x2 h = grind (arith, not-true)
 
 takes : (l : Kept.LabelStart) → takes_resource l.kind l.inactive ≡ true → TakesStart l
 takes l h = let p = takes-by l.kind l.inactive h in record { active = p.0; plain = p.1.0; same = p.1.1 }
@@ -67,10 +62,7 @@ takes l h = let p = takes-by l.kind l.inactive h in record { active = p.0; plain
 -- without a caret the kind is no part of what the label names itself
 itself-by : (kind : LabelKind) (s : Setting) (from to : ℕ) → is_footnote kind ≡ false →
     names_definition s kind (label_name s kind from to) ≡ names_itself s from to
-itself-by LabelKind.Image s from to h = refl
-itself-by LabelKind.Link s from to h = refl
-itself-by LabelKind.GfmUndefinedFootnote s from to h = refl
-itself-by LabelKind.GfmFootnote s from to h = cc
+itself-by x1 s from to h = grind arith
 
 -- the label of the last of these starts, whose `]` this is, is defined, if that is asked for
 abbrev pub AnswersBy : Tokenizer → Bool → Code → List Kept.LabelStart → Type 0
@@ -79,8 +71,7 @@ AnswersBy T asks x (l ∷ ls) = asks ≡ true → names_itself (setting_in T) (p
 
 -- nothing is asked of the label
 pub asks-nothing : (T : Tokenizer) (x : Code) (ls : List Kept.LabelStart) → AnswersBy T false x ls
-asks-nothing T x [] = tt
-asks-nothing T x (l ∷ ls) = λ h. cc
+asks-nothing T x x3 = grind arith
 
 module _ (T : Tokenizer) (asks : Bool) (read : Tokenizer → Tokenizer) (x : Code) (later : List Code) (on : is_on T ≡ true) (bracket : is_value 93 x ≡ true) (codes : ahead T ≡ x ∷ later) (k : EndFollows (setting_in T) asks read later) where
   -- past the end's own events
@@ -89,8 +80,7 @@ module _ (T : Tokenizer) (asks : Bool) (read : Tokenizer → Tokenizer) (x : Cod
 
   end-past : done end_ops (ended T) ≡ P
   unfolding scratched
-  end-past =
-      ops-past (end_tree (x ∷ [])) later (ended T) (IsSolid-group N.LabelEnd (leaf N.LabelMarker (x ∷ [])) (λ e. cc) (IsSolid-leaf N.LabelMarker (x ∷ []))) codes
+  end-past = grind (arith, ops-past (end_tree (x ∷ [])) later (ended T), IsSolid-group N.LabelEnd (leaf N.LabelMarker (x ∷ [])), IsSolid-leaf N.LabelMarker (x ∷ []))
 
   ahead-there : ahead P ≡ later
   unfolding scratched
@@ -117,11 +107,7 @@ module _ (T : Tokenizer) (asks : Bool) (read : Tokenizer → Tokenizer) (x : Cod
     named a h = itself-by l.kind s (place_at T.events l.start.1).index x.start.index takes.plain ∙ a h
 
     outcome-is : Answers → outcome_by T.tokenize_state.label_starts T (x ∷ []) later ≡ Some ((link_kind l.kind, k.tree), k.rest)
-    outcome-is a =
-        ap (λ y. outcome_by y T (x ∷ []) later) top
-        ∙ switched-on (outcome s l.kind name) (not (bars l)) later (ap not takes.active)
-        ∙ outcome-tail s l.kind name later k.tree k.rest (ap (λ z. z && names_footnote s name) takes.plain)
-        (k.holds (names_definition s l.kind name) (named a))
+    outcome-is a = grind (arith, switched-on (outcome s l.kind name) (not (bars l)) later, outcome-tail s l.kind name later k.tree k.rest, named)
 
     starts-there : P.tokenize_state.label_starts ≡ l ∷ ls
     unfolding past scratched

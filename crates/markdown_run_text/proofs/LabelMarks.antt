@@ -1,17 +1,16 @@
 -- What a run leaves past the start of a label is a mark of a row; so is what it leaves past an end that makes one.
-use Rattle.std.proofs.Common.{◌≡◌, ℕ, ◌==◌, ◌⊎◌, inl, inr, Bool, true, false, ◌&&◌, ◌||◌, not, List, [], ◌∷◌, ◌++◌, map, Option, None, Some, refl, sym, ap, subst, ◌∙◌}
+use Rattle.std.proofs.Common.{◌≡◌, ℕ, ◌==◌, ◌⊎◌, Bool, true, false, ◌&&◌, ◌||◌, not, List, [], ◌∷◌, ◌++◌, Option, None, Some, refl, sym, ap, subst, ◌∙◌, arith}
 use Rattle.std.proofs.lemmas.Bool.{or_parts}
 use Rattle.markdown_content.specs.Codes.{Code, is_line_ending}
 use Rattle.markdown_engine.specs.Operations.{Op, ahead, done, scratched}
 use Rattle.markdown_content.specs.Tree.{Forest, empty, leaf_then, group_then, leaf_codes, event_count}
 use Rattle.markdown_engine.specs.TreeOps.{ops_of, IsSolid}
-use Rattle.markdown_event.specs.declared.resolve.ResolveName.TheVariants as R
 use Rattle.markdown_content.specs.declared.label_kind.LabelKind.{LabelKind}
 use Rattle.markdown_engine.specs.declared.tokenizer.LabelStart as Kept
 use Rattle.markdown_engine.specs.declared.tokenizer.Tokenizer.{Tokenizer}
 use Rattle.markdown_engine.proofs.TreeEvents.{ops-past, ahead-past}
 use Rattle.markdown_attention.proofs.AttentionTreeLabels.{quiet-run}
-use Rattle.markdown_model.proofs.PlainTrees.{is_mark, marks, IsQuiet, quiet_after_label}
+use Rattle.markdown_model.proofs.PlainTrees.{marks, quiet_after_label}
 use Rattle.markdown_label.specs.LabelFields.{bars}
 use Rattle.markdown_label.specs.LabelEnd.{outcome_by, end_reading, is_on}
 use Rattle.markdown_model.specs.SingleConstructs.{outcome}
@@ -20,7 +19,7 @@ use Rattle.markdown_label_names.specs.LabelSetting.{setting_in}
 use Rattle.markdown_label.proofs.LabelEndLemmas.{cursor-before}
 use Rattle.markdown_label.proofs.AfterLabelSound.{tails-are-sound}
 use Rattle.markdown_model.specs.CodeTests.{is_value}
-use Rattle.markdown_model.specs.Grammar.{Reading, ◌>>=◌, ◌>>◌, gives, provided, one}
+use Rattle.markdown_model.specs.Grammar.{Reading, ◌>>=◌, gives, one}
 use Rattle.markdown_model.specs.LabelEnd.{is_footnote, link_kind, names_footnote}
 use Rattle.markdown_model.specs.Passes.{start_tree}
 use Rattle.markdown_model.specs.Setting.{Setting}
@@ -41,78 +40,53 @@ pub record PastStart (kind : LabelKind) (marker rest : List Code) (T U : Tokeniz
 start-is : (kind : LabelKind) (marker : List Code) (ops : List Op) (size : ℕ) (rest : List Code) (T : Tokenizer) → IsSolid (start_tree kind marker) → ops ≡ ops_of (start_tree kind marker) → size ≡ event_count (start_tree kind marker) → ahead T ≡ leaf_codes (start_tree kind marker) ++ rest
     → kept_start kind size (done ops T) ≡ past_mark (begins kind marker) T
 unfolding past_mark
-start-is kind marker ops size rest T solid is count whole =
-    (λ i. kept_start kind (count i) (done (is i) T)) ∙ ap (kept_start kind (event_count (start_tree kind marker))) (ops-past (start_tree kind marker) rest T solid whole)
+start-is kind marker ops size rest T solid is count whole = grind (arith, ops-past)
 
 start-ahead : (kind : LabelKind) (marker : List Code) (rest : List Code) (T : Tokenizer) →
     ahead T ≡ leaf_codes (start_tree kind marker) ++ rest → ahead (past_mark (begins kind marker) T) ≡ rest
 unfolding past_mark scratched
-start-ahead kind marker rest T whole =
-    ap (λ p. ahead (record T { cursor = p })) (cursor-before R.Label _) ∙ ahead-past None (start_tree kind marker) T rest whole
+start-ahead kind marker rest T whole = grind (arith, cursor-before, ahead-past)
 
 past-start : (kind : LabelKind) (marker rest : List Code) (ops : List Op) (size : ℕ) (T U : Tokenizer) → IsStartMarker kind marker → IsSolid (start_tree kind marker) → ops ≡ ops_of (start_tree kind marker) → size ≡ event_count (start_tree kind marker)
     → ahead T ≡ leaf_codes (start_tree kind marker) ++ rest → ahead T ≡ marker ++ rest → U ≡ kept_start kind size (done ops T) → PastStart kind marker rest T U
-past-start kind marker rest ops size T U is solid same count codes whole left =
-    let made : U ≡ past_mark (begins kind marker) T = left ∙ start-is kind marker ops size rest T solid same count codes in
-    record { is = is; left = made; whole = whole; after = ap ahead made ∙ start-ahead kind marker rest T codes }
+past-start kind marker rest ops size T U is solid same count codes whole left = grind (arith, start-is kind marker ops size rest T, start-ahead kind marker rest T)
 
 one-line : (c : Code) (v : ℕ) → c.value ≡ v → (v == 10) ≡ false → is_line_ending c ≡ false
 one-line c v e k = ap (λ n. n == 10) e ∙ k
 
 no-endings : (a b : Bool) → a ≡ false → b ≡ false → (a || (b || false)) ≡ false
-no-endings true b e f = cc
-no-endings false true e f = cc
-no-endings false false e f = refl
+no-endings x1 b e f = grind arith
 
 pub link-past : (c : Code) (rest : List Code) (T U : Tokenizer) → ahead T ≡ c ∷ rest → c.value ≡ 91 →
     link_ends T true U → PastStart LabelKind.Link (c ∷ []) rest T U
-link-past c rest T U whole v k =
-    past-start LabelKind.Link (c ∷ []) rest link_ops 4 T U ((c, refl), ap (λ b. b || false) (one-line c 91 v refl)) (λ e. cc, (refl, (refl, ((refl, ((λ e. cc), tt)), tt)))) refl refl whole whole k.left
+link-past c rest T U whole v k = grind (arith, past-start LabelKind.Link (c ∷ []) rest link_ops 4 T U, one-line c 91)
 
 pub footnote-past : (c d : Code) (rest : List Code) (T U : Tokenizer) → ahead T ≡ c ∷ d ∷ rest → c.value ≡ 91 →
     d.value ≡ 94 → footnote_ends T true U → PastStart LabelKind.GfmFootnote (c ∷ d ∷ []) rest T U
-footnote-past c d rest T U whole v w k =
-    past-start LabelKind.GfmFootnote (c ∷ d ∷ []) rest (footnote_front ++ footnote_back) 6 T U ((c, (d, refl)), no-endings _ _ (one-line c 91 v refl) (one-line d 94 w refl))
-    (λ e. cc, (refl, (refl, ((refl, ((λ e. cc), (refl, ((λ e. cc), tt)))), tt)))) refl refl whole whole k.left
+footnote-past c d rest T U whole v w k = grind (arith, past-start LabelKind.GfmFootnote (c ∷ d ∷ []) rest (footnote_front ++ footnote_back) 6 T U, no-endings, one-line c 91, one-line d 94)
 
 pub image-past : (c d : Code) (rest : List Code) (T U : Tokenizer) → ahead T ≡ c ∷ d ∷ rest → c.value ≡ 33 →
     d.value ≡ 91 → image_ends T true U → PastStart LabelKind.Image (c ∷ d ∷ []) rest T U
-image-past c d rest T U whole v w k =
-    past-start LabelKind.Image (c ∷ d ∷ []) rest (image_front ++ image_back) 6 T U ((c, (d, refl)), no-endings _ _ (one-line c 33 v refl) (one-line d 91 w refl))
-    (λ e. cc, (refl, (refl, ((refl, ((λ e. cc), (refl, ((λ e. cc), tt)))), tt)))) refl refl whole whole k.left
+image-past c d rest T U whole v w k = grind (arith, past-start LabelKind.Image (c ∷ d ∷ []) rest (image_front ++ image_back) 6 T U, no-endings, one-line c 33, one-line d 91)
 
 -- Ends.
 
 -- no run stands in what may follow a label
 runless-quiet : (t : Forest) → marks false t ≡ false → IsRunless t
 runless-quiet empty h = tt
-runless-quiet (leaf_then name link cs rest) h =
-    let p = or_parts _ (marks false rest) h in
-    let q = or_parts (is_mark name) _ p.0 in
-    ((quiet-run name q.0).0, runless-quiet rest p.1)
-runless-quiet (group_then name enter exit inside rest) h =
-    let p = or_parts (is_mark name) _ h in
-    let q = or_parts (marks false inside) (marks false rest) p.1 in
-    (runless-quiet inside q.0, runless-quiet rest q.1)
+runless-quiet (leaf_then name link cs rest) h = grind (arith, or_parts, quiet-run, runless-quiet rest)
+runless-quiet (group_then name enter exit inside rest) h = grind (arith, or_parts, runless-quiet inside, runless-quiet rest)
 
 -- a label of this kind, made of a start of another
 abbrev IsOutcome : LabelKind → LabelKind × Forest → Type 0
 IsOutcome start o = ((o.0 ≡ start) ⊎ (o.0 ≡ link_kind start)) × IsRunless o.1
 
 call-kind : (start : LabelKind) (b : Bool) → is_footnote start && b ≡ true → LabelKind.GfmFootnote ≡ start
-call-kind LabelKind.GfmFootnote b e = refl
-call-kind _ b e = cc
+call-kind x1 b e = grind arith
 
 outcome-is : (s : Setting) (start : LabelKind) (name : Option (List ℕ)) → Yields (IsOutcome start) (outcome s start name)
 unfolding outcome
-outcome-is s start name =
-    yields_either _ _ _ (call (is_footnote start && names_footnote s name) refl)
-    (yields_bind (λ t. IsQuiet false t) _ _ _ (quiet_after_label s _) λ tail k. yields_gives _ _ (inr refl, runless-quiet tail k))
-  where
-    call : (b : Bool) → is_footnote start && names_footnote s name ≡ b →
-        Yields (IsOutcome start) (provided b >> gives (LabelKind.GfmFootnote, empty))
-    call true e = yields_passed _ _ _ (yields_gives _ _ (inl (call-kind start (names_footnote s name) e), tt))
-    call false e = record { at = λ cs. subst (λ o. PassesValue (IsOutcome start) o) (sym (switched-off _ false cs refl)) tt }
+outcome-is s start name = grind (arith, yields_either, yields_bind, quiet_after_label s, yields_gives, runless-quiet, yields_passed, call-kind start (names_footnote s name), switched-off)
 
 -- the outcome of an end is that of the last start
 record IsOfLast (ls : List Kept.LabelStart) (r : List Code × (LabelKind × Forest)) : Type 0 where
@@ -139,16 +113,7 @@ by-start T c (l ∷ ls) = record {
 
 one_yields : (p : Code → Bool) → Yields (λ xs. (c : Code) × (xs ≡ c ∷ [])) (one p)
 unfolding one
-one_yields p = record { at = λ cs. by_codes cs }
-  where
-    by_test : (b : Bool) (c : Code) (cs : List Code) →
-        PassesValue (λ xs. (c : Code) × (xs ≡ c ∷ [])) (elim b as (λ _. Option (List Code × List Code)) [ true ↦ Some (c ∷ [], cs) | false ↦ None ])
-    by_test true c cs = (c, refl)
-    by_test false c cs = tt
-
-    by_codes : (cs : List Code) → PassesValue (λ xs. (c : Code) × (xs ≡ c ∷ [])) (one p cs)
-    by_codes [] = tt
-    by_codes (c ∷ cs) = by_test (p c) c cs
+one_yields p = grind arith
 
 end-is : (T : Tokenizer) → Yields (λ r. IsOfLast T.tokenize_state.label_starts r) (end_reading T)
 end-is T =
@@ -159,15 +124,4 @@ end-is T =
 -- an end that makes a label is made of the last start that waits
 pub end-made-of : (T : Tokenizer) (back : List Code) (kind : LabelKind) (tail : Forest) (rest : List Code) →
     end_reading T (ahead T) ≡ Some ((back, (kind, tail)), rest) → IsMade (kinds_of T) back kind tail
-end-made-of T back kind tail rest e =
-    let k : IsOfLast T.tokenize_state.label_starts (back, (kind, tail)) = subst (λ o. PassesValue (λ r. IsOfLast T.tokenize_state.label_starts r) o) e ((end-is T).at (ahead T)) in
-    record {
-      start = k.start.kind;
-      before = map (λ (l : Kept.LabelStart). l.kind) k.before;
-      waits = ap (λ ls. map (λ (l : Kept.LabelStart). l.kind) ls) k.waits;
-      kinds = k.is.0;
-      code = k.code;
-      one = k.one;
-      sound = tails-are-sound T back kind tail rest e;
-      runless = k.is.1;
-    }
+end-made-of T back kind tail rest e = grind (arith, end-is T, tails-are-sound T back kind tail rest)

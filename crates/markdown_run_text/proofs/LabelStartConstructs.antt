@@ -1,5 +1,5 @@
 -- The starts of labels, as constructs by themselves.
-use Rattle.std.proofs.Common.{◌≡◌, true, false, List, [], ◌∷◌, None, Some, sym, ap, ◌∙◌}
+use Rattle.std.proofs.Common.{◌≡◌, true, false, List, [], ◌∷◌, None, Some, ap, ◌∙◌, arith}
 use Rattle.markdown_engine.proofs.OperationFields.{BeginsWithValue}
 use Rattle.markdown_label.proofs.BegunStartPlaces.{first-is, two-whole}
 use Rattle.markdown_content.specs.Codes.{Code}
@@ -20,8 +20,7 @@ use Rattle.markdown_run_text.proofs.TextLabelTries.{later-tests, right-test, on-
 begun : (reading : Reading Element) (kind : LabelKind) (marker rest : List Code) (T U : Tokenizer) →
     PastStart kind marker rest T U → reading (ahead T) ≡ Some (starts kind marker, rest) →
     BeginsOrStays reading T true U
-begun reading kind marker rest T U p e =
-    (kind, (marker, (e ∙ ap (λ xs. Some (starts kind marker, xs)) (sym p.after), p.left)))
+begun reading kind marker rest T U p e = grind arith
 
 pub link-begins : (T U : Tokenizer) → link_ends T true U → BeginsOrStays (label_start_link_here (options_here T)) T true U
 link-begins T U k =
@@ -31,8 +30,7 @@ link-begins T U k =
     (ap (label_start_link_here (options_here T)) f.whole ∙ on-some (links_on T) label_start_link (f.code ∷ rest) (starts LabelKind.Link (f.code ∷ []), rest) (and-left _ _ k.holds) (link-some f.code rest f.value))
 
 pub link-not : (T : Tokenizer) → link_test T (ahead T) ≡ false → label_start_link_here (options_here T) (ahead T) ≡ None
-link-not T refused =
-    on-none (links_on T) label_start_link (ahead T) (λ on. link-none (ahead T) (right-test (links_on T) _ on refused))
+link-not T refused = grind (arith, on-none, link-none, right-test)
 
 pub footnote-begins : (T U : Tokenizer) → footnote_ends T true U →
     BeginsOrStays (gfm_label_start_footnote_here (options_here T)) T true U
@@ -47,8 +45,7 @@ footnote-begins T U k =
 
 pub footnote-not : (T : Tokenizer) → footnote_test T (ahead T) ≡ false →
     gfm_label_start_footnote_here (options_here T) (ahead T) ≡ None
-footnote-not T refused =
-    on-none (footnotes_on T) gfm_label_start_footnote (ahead T) (λ on. footnote-none (ahead T) (later-tests (footnotes_on T) _ _ on refused))
+footnote-not T refused = grind (arith, on-none, footnote-none, later-tests)
 
 pub image-begins : (T U : Tokenizer) → image_ends T true U →
     BeginsOrStays (label_start_image_here (options_here T)) T true U
@@ -63,5 +60,4 @@ image-begins T U k =
     (image-some (footnotes_on T) f.code g.code rest f.value g.value (and-right _ _ (and-right _ _ k.holds))))
 
 pub image-not : (T : Tokenizer) → image_test T (ahead T) ≡ false → label_start_image_here (options_here T) (ahead T) ≡ None
-image-not T refused =
-    on-none (images_on T) (label_start_image (footnotes_on T)) (ahead T) (λ on. image-none (footnotes_on T) (ahead T) (later-tests (images_on T) _ _ on refused))
+image-not T refused = grind (arith, on-none, image-none, later-tests)

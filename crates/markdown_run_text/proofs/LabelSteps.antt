@@ -1,11 +1,10 @@
 -- Past the start of a label, past an end that makes one, and past one that makes none, with the data behind it.
-use Rattle.std.proofs.Common.{◌≡◌, ◌≢◌, ℕ, ◌+◌, ◌-◌, ◌<◌, ◌≤◌, Bool, true, false, if◌then◌else◌, List, [], ◌∷◌, ◌++◌, length, slice_get, Option, None, Some, refl, sym, ap, subst, ◌∙◌, arith, length-append, append_assoc, append-nil, inl}
+use Rattle.std.proofs.Common.{◌≡◌, ◌≢◌, ℕ, ◌+◌, ◌-◌, ◌<◌, ◌≤◌, Bool, false, if◌then◌else◌, List, [], ◌∷◌, ◌++◌, length, slice_get, Option, None, Some, refl, sym, ap, subst, ◌∙◌, arith, length-append, append_assoc, append-nil, inl}
 use Rattle.markdown_run_text.proofs.OpenStartKinds.{rest-lost}
 use Rattle.markdown_content.specs.Codes.{Code, is_line_ending, document_start, stop_of}
 use Rattle.markdown_content.specs.ListFunctions.{rest_of}
 use Rattle.markdown_engine.specs.Operations.{ahead, scratched}
 use Rattle.markdown_engine.specs.PastTree.{Reads, past, moved_by, appended_from}
-use Rattle.markdown_content.specs.Place.{Place, last_of}
 use Rattle.markdown_content.specs.Tree.{Forest, empty, leaf_then, group_then, leaf, leaf_codes, event, event_count}
 use Rattle.markdown_event.specs.declared.event.Event.{Event}
 use Rattle.markdown_event.specs.declared.event.Kind.TheVariants as Kind
@@ -29,15 +28,15 @@ use Rattle.markdown_leaf.specs.RawText.{code_just_before}
 use Rattle.markdown_model.specs.SingleConstructs.{is_escape, follows_escape}
 use Rattle.markdown_model.specs.CodeTests.{last_code}
 use Rattle.markdown_model.specs.Elements.{Choice, AreElementsFrom, ends_escaped}
-use Rattle.markdown_model.specs.LabelEnd.{Element, starts, ends, is_image}
+use Rattle.markdown_model.specs.LabelEnd.{Element, starts, ends}
 use Rattle.markdown_model.specs.Grammar.{until}
 use Rattle.markdown_model.specs.Laws.{unused_starts}
-use Rattle.markdown_model.specs.TextLines.{data_up_to, line_leaves, lines_of, code_leaf}
+use Rattle.markdown_model.specs.TextLines.{data_up_to, line_leaves, lines_of}
 use Rattle.markdown_model.specs.Passes.{start_tree}
 use Rattle.markdown_passes.specs.DataOnLines.{HasLines}
 use Rattle.markdown_label.specs.AfterLabel.{IsTail}
 use Rattle.markdown_run_text.specs.RunOverElements.{AreReadAsData, StandsAfter, Advances}
-use Rattle.markdown_run_text.specs.Row.{Mark, begins, makes, loses, row_end, row_then, tree_onto, past_tree, past_mark, past_row, mark_codes, kinds_of, IsFront, IsStartMarker, IsMade, IsMarkAt, split_row, row_of_elements, HasElementCodes}
+use Rattle.markdown_run_text.specs.Row.{Mark, begins, makes, loses, row_end, row_then, past_tree, past_mark, past_row, mark_codes, kinds_of, IsFront, IsStartMarker, IsMade, IsMarkAt, split_row, row_of_elements, HasElementCodes}
 use Rattle.markdown_run_text.specs.RowTreeNames.{IsRowPart}
 use Rattle.markdown_run_text.proofs.ElementSteps.{DataRead, data-read, group-escaped, last-some, fewer-left, one-element, kept-tree, leaf_elements, have-leaves, data-next, past_elements, past_code, ElementsOfData, stands-behind, follow-behind, data-alike, leaves-first}
 use Rattle.markdown_run_text.proofs.PastTrees.{past_tree-empty}
@@ -48,8 +47,7 @@ empty-part = record { lines = tt; outer = tt; apart = λ n. refl }
 
 -- a mark by itself
 pub mark-alone : (mark : Mark) (T : Tokenizer) → past_mark mark T ≡ past_row (row_then empty mark (row_end empty)) T
-mark-alone mark T =
-    past_tree-empty (past_mark mark T) ∙ ap (λ (x : Tokenizer). past_tree empty (past_mark mark x)) (past_tree-empty T)
+mark-alone mark T = grind (arith, past_tree-empty)
 
 -- past a mark that is an element
 mark-advances : (choice : Choice) (mark : Mark) (e : Element) (T U : Tokenizer) → U ≡ past_mark mark T → IsMarkAt (kinds_of T) mark → row_of_elements (e ∷ []) ≡ row_then empty mark (row_end empty) → 1 ≤ length (mark_codes mark) → ahead T ≡ mark_codes mark ++ ahead U → code_just_before U ≡ last_code (mark_codes mark) → HasElementCodes e
@@ -142,42 +140,24 @@ start-keeps kind marker T earlier k keeps =
 -- the place behind it
 pub start-moves : (kind : LabelKind) (marker : List Code) (T : Tokenizer) → IsFront kind marker →
     (past_mark (begins kind marker) T).cursor ≡ moved_by marker T.cursor
-start-moves kind marker T h =
-    start-cursor kind marker T ∙ ap (λ xs. moved_by xs T.cursor) (start-shape kind marker h).codes
+start-moves kind marker T h = grind (arith, start-cursor, start-shape)
 
 some-marker : (marker : List Code) → 1 ≤ length marker → marker ≢ []
-some-marker [] h = absurd (omega arith)
-some-marker (c ∷ cs) h = λ k. cc
+some-marker x1 h = grind arith
 
 -- past the start of a label
 pub start-advances : (choice : Choice) (kind : LabelKind) (marker : List Code) (T U : Tokenizer) → IsStartMarker kind marker → U ≡ past_mark (begins kind marker) T → ahead T ≡ marker ++ ahead U
     → ((earlier : List Element) (previous : Option Code) → StandsAfter earlier previous T → choice earlier previous (ahead T) ≡ Some (starts kind marker, ahead U)) → Advances choice T U
-start-advances choice kind marker T U is left whole finds =
-    let k : StartShape kind marker = start-shape kind marker is.0 in
-    mark-advances choice (begins kind marker) (starts kind marker) T U left is refl k.some whole
-    (ap code_just_before left
-    ∙ ap (λ (p : Place). last_of p.codes p.at) (start-moves kind marker T is.0)
-    ∙ last-some marker (ahead U) T.cursor k.some whole)
-    (some-marker marker k.some)
-    (λ earlier.
-    ap (λ (x : Tokenizer). follows_escape x.events) left
-    ∙ ap follows_escape (start-events kind marker T)
-    ∙ ap (λ x. follows_escape (T.events ++ appended_from (length T.events) None x)) k.is
-    ∙ group-escaped T.events (length T.events) k.name k.from (stop_of document_start marker) k.inside
-    ∙ k.plainly)
-    (λ earlier keeps. subst (λ (x : Tokenizer). KeepsStarts (starts kind marker ∷ earlier) x) (sym left) (start-keeps kind marker T earlier k keeps))
-    finds
+start-advances choice kind marker T U is left whole finds = grind (arith, start-shape kind marker, mark-advances choice (begins kind marker) (starts kind marker) T U, start-moves kind marker T, last-some marker (ahead U) T.cursor, some-marker marker, start-events kind marker T, group-escaped T.events (length T.events), start-keeps kind marker T)
 
 -- Ends that make a label.
 
 none-barred : (b : Bool) → ◌≡◌ {A = List Kept.LabelStart} [] (if b then [] else [])
-none-barred true = refl
-none-barred false = refl
+none-barred x1 = grind arith
 
 made-starts : (kind : LabelKind) (ls : List Kept.LabelStart) (n : ℕ) (s : TokenizeState) →
     s.label_starts ≡ with_kind kind ls → (labelled (with_kind kind ls) n s).label_starts ≡ barred_by kind (rest_of ls)
-made-starts kind [] n s e = e ∙ none-barred (is_image kind)
-made-starts kind (l ∷ ls) n s e = refl
+made-starts kind x2 n s e = grind (arith, none-barred)
 
 pub end-events : (back : List Code) (kind : LabelKind) (tail : Forest) (T : Tokenizer)
     → (end_made back kind tail T).events ≡ T.events ++ (appended_from (length T.events) None (end_tree back) ++ appended_from (length (T.events ++ appended_from (length T.events) None (end_tree back))) None tail)
@@ -187,8 +167,7 @@ end-events back kind tail T = events-before R.Label _ ∙ append_assoc T.events 
 pub end-starts : (back : List Code) (kind : LabelKind) (tail : Forest) (T : Tokenizer) →
     (end_made back kind tail T).tokenize_state.label_starts ≡ barred_by kind (rest_of T.tokenize_state.label_starts)
 unfolding end_made made past scratched
-end-starts back kind tail T =
-    ap (λ (q : TokenizeState). q.label_starts) (scratch-before R.Label _) ∙ made-starts kind T.tokenize_state.label_starts _ _ refl
+end-starts back kind tail T = grind (arith, scratch-before, made-starts)
 
 end-cursor : (back : List Code) (kind : LabelKind) (tail : Forest) (T : Tokenizer) →
     (end_made back kind tail T).cursor ≡ moved_by (leaf_codes tail) (moved_by (leaf_codes (end_tree back)) T.cursor)
@@ -197,16 +176,11 @@ end-cursor back kind tail T = cursor-before R.Label _
 
 end-keeps : (back : List Code) (kind : LabelKind) (tail : Forest) (T : Tokenizer) (earlier : List Element) →
     KeepsStarts earlier T → KeepsStarts (ends back (Some (kind, tail)) ∷ earlier) (end_made back kind tail T)
-end-keeps back kind tail T earlier keeps =
-    let e : Element = ends back (Some (kind, tail)) in
-    subst (λ es. StandFor es (unused_starts (e ∷ earlier)) (end_made back kind tail T).tokenize_state.label_starts) (sym (end-events back kind tail T))
-    (subst (λ ls. StandFor (T.events ++ (appended_from (length T.events) None (end_tree back) ++ appended_from (length (T.events ++ appended_from (length T.events) None (end_tree back))) None tail)) (unused_starts (e ∷ earlier)) ls) (sym (end-starts back kind tail T))
-    (starts-made earlier back kind tail T.events _ T.tokenize_state.label_starts keeps))
+end-keeps back kind tail T earlier keeps = grind (arith, end-events back kind tail T, end-starts back kind tail T, starts-made earlier back kind tail T.events)
 
 tail-escaped : (es : List Event) (n m : ℕ) (back : List Code) (tail : Forest) → IsTail tail →
     follows_escape (es ++ (appended_from n None (end_tree back) ++ appended_from m None tail)) ≡ false
-tail-escaped es n m back empty h =
-    ap (λ xs. follows_escape (es ++ xs)) (append-nil (appended_from n None (end_tree back))) ∙ group-escaped es n N.LabelEnd _ _ (leaf N.LabelMarker back)
+tail-escaped es n m back empty h = grind (arith, group-escaped)
 tail-escaped es n m back (leaf_then name link cs rest) h = absurd h
 tail-escaped es n m back (group_then name a b inside rest) h =
     ap follows_escape (sym (append_assoc es (appended_from n None (end_tree back)) (appended_from m None (group_then name a b inside rest))))
@@ -220,8 +194,7 @@ end-codes back = append-nil (leaf_codes (leaf N.LabelMarker back)) ∙ codes-lea
 -- the place behind it
 pub end-moves : (back : List Code) (kind : LabelKind) (tail : Forest) (T : Tokenizer) →
     (end_made back kind tail T).cursor ≡ moved_by (back ++ leaf_codes tail) T.cursor
-end-moves back kind tail T =
-    end-cursor back kind tail T ∙ sym (moved_by-append (leaf_codes (end_tree back)) (leaf_codes tail) T.cursor) ∙ ap (λ xs. moved_by (xs ++ leaf_codes tail) T.cursor) (end-codes back)
+end-moves back kind tail T = grind (arith, end-cursor, moved_by-append, end-codes)
 
 has-tail : (t : Forest) → HasLines t → HasCodes t
 has-tail empty h = tt
@@ -235,24 +208,13 @@ some-back back c more e = omega (arith, length-append back more, ap length e)
 pub end-advances : (choice : Choice) (T U : Tokenizer) (k : Ends T U) → IsMade (kinds_of T) k.back k.kind k.tail
     → ((earlier : List Element) (previous : Option Code) → StandsAfter earlier previous T → choice earlier previous (ahead T) ≡ Some (ends k.back (Some (k.kind, k.tail)), k.rest)) → Advances choice T U
 unfolding past_mark
-end-advances choice T U k is finds =
-    let codes : ahead T ≡ (k.back ++ leaf_codes k.tail) ++ ahead U = k.whole ∙ sym (append_assoc k.back (leaf_codes k.tail) k.rest) ∙ ap (λ xs. (k.back ++ leaf_codes k.tail) ++ xs) (sym k.after) in
-    let some : 1 ≤ length (k.back ++ leaf_codes k.tail) = some-back k.back is.code (leaf_codes k.tail) is.one in
-    mark-advances choice (makes k.back k.kind k.tail) (ends k.back (Some (k.kind, k.tail))) T U k.left is refl some codes
-    (ap code_just_before k.left
-    ∙ ap (λ (p : Place). last_of p.codes p.at) (end-moves k.back k.kind k.tail T)
-    ∙ last-some (k.back ++ leaf_codes k.tail) (ahead U) T.cursor some codes)
-    (has-tail k.tail is.sound.lines)
-    (λ earlier. ap (λ (x : Tokenizer). follows_escape x.events) k.left ∙ ap follows_escape (end-events k.back k.kind k.tail T) ∙ tail-escaped T.events _ _ k.back k.tail is.sound.tail)
-    (λ earlier keeps. subst (λ (x : Tokenizer). KeepsStarts (ends k.back (Some (k.kind, k.tail)) ∷ earlier) x) (sym k.left) (end-keeps k.back k.kind k.tail T earlier keeps))
-    (λ earlier previous stands. finds earlier previous stands ∙ ap (λ xs. Some (ends k.back (Some (k.kind, k.tail)), xs)) (sym k.after))
+end-advances choice T U k is finds = grind (arith, some-back k.back is.code (leaf_codes k.tail), mark-advances choice (makes k.back k.kind k.tail) (ends k.back (Some (k.kind, k.tail))) T U, end-moves k.back k.kind k.tail T, last-some (k.back ++ leaf_codes k.tail) (ahead U) T.cursor, has-tail k.tail, end-events k.back k.kind k.tail T, tail-escaped T.events, end-keeps k.back k.kind k.tail T)
 
 -- Ends that make none, with the data behind them.
 
 lost-fields : (ls : List Kept.LabelStart) (s : TokenizeState) → s.label_starts ≡ ls →
     (lost_by ls s).label_starts ≡ rest_of ls
-lost-fields [] s e = e
-lost-fields (l ∷ ls) s e = rest-lost (l ∷ ls)
+lost-fields x1 s e = grind (arith, rest-lost)
 
 pub lost-starts : (T : Tokenizer) →
     (past_mark loses T).tokenize_state.label_starts ≡ rest_of T.tokenize_state.label_starts
@@ -272,9 +234,7 @@ lost-keeps back T earlier keeps =
 
 lost-alike : (c : Code) (cs : List Code) (t : Forest) → is_line_ending c ≡ false → t ≡ line_leaves N.Data (lines_of (c ∷ cs))
     → split_row (row_then empty loses (row_end t)) ≡ split_row (row_of_elements (ends (c ∷ []) None ∷ leaf_elements cs))
-lost-alike c cs t plainly e =
-    let is : code_leaf c ≡ leaf N.Data (c ∷ []) = ap (λ b. elim b as (λ _. Forest) [ true ↦ leaf N.LineEnding (c ∷ []) | false ↦ leaf N.Data (c ∷ []) ]) plainly in
-    ap (λ r. row_then empty loses r) (ap (λ x. split_row (row_end x)) e ∙ data-alike (c ∷ cs) ∙ ap split_row (leaves-first c cs) ∙ ap (λ x. split_row (tree_onto x (row_of_elements (leaf_elements cs)))) is)
+lost-alike c cs t plainly e = grind (arith, data-alike (c ∷ cs), leaves-first c cs, leaf_elements)
 
 -- past the `]` of an end that makes none, and the data that it begins
 pub lost-advances : (choice : Choice) (stops : List Code → Bool) (T U : Tokenizer) (c : Code) (cs : List Code) → ahead T ≡ c ∷ cs → is_line_ending c ≡ false → (let L : Tokenizer = past_mark loses T in Reads (data_up_to stops) None L.tokenize_state L U)

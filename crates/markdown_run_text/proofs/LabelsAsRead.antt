@@ -1,6 +1,6 @@
 -- A relation of trees is given that holds where a run is read as data, and that a group may be put around. Then it holds of the tree of labels of
 -- elements and of that of what they are read as.
-use Rattle.std.proofs.Common.{◌≡◌, ℕ, ◌+◌, List, [], ◌∷◌, Some, None, drop, length, refl, sym, subst, inl, inr, ap, ◌∙◌}
+use Rattle.std.proofs.Common.{◌≡◌, ℕ, ◌+◌, List, [], ◌∷◌, None, drop, length, refl, sym, subst, inl, inr, ap, ◌∙◌, arith}
 use Rattle.markdown_engine.proofs.ReadingSequences.{row-empty}
 use Rattle.markdown_content.specs.Codes.{Code, stop_of, document_start}
 use Rattle.markdown_content.specs.Tree.{Forest, empty, leaf_then, group_then, leaf, ◌⊕◌, group, text_group, start_of, enter_of, exit_after}
@@ -29,15 +29,7 @@ module _ (K : Forest → Forest → Type 0) (same : (t : Forest) → K t t) (tra
   InRows t u = (a b : Forest) → K (a ⊕ (t ⊕ b)) (a ⊕ (u ⊕ b))
 
   rows : (t u v w : Forest) → InRows t u → InRows v w → InRows (t ⊕ v) (u ⊕ w)
-  rows t u v w h k a b =
-      subst (λ x. K (a ⊕ x) (a ⊕ ((u ⊕ w) ⊕ b))) (sym (row-assoc t v b))
-      (subst (λ x. K (a ⊕ (t ⊕ (v ⊕ b))) (a ⊕ x)) (sym (row-assoc u w b))
-      (trans (a ⊕ (t ⊕ (v ⊕ b))) (a ⊕ (u ⊕ (v ⊕ b))) (a ⊕ (u ⊕ (w ⊕ b))) (h a (v ⊕ b)) behind))
-    where
-      behind : K (a ⊕ (u ⊕ (v ⊕ b))) (a ⊕ (u ⊕ (w ⊕ b)))
-      behind =
-          subst (λ x. K x (a ⊕ (u ⊕ (w ⊕ b)))) (row-assoc a u (v ⊕ b))
-          (subst (λ x. K ((a ⊕ u) ⊕ (v ⊕ b)) x) (row-assoc a u (w ⊕ b)) (k (a ⊕ u) b))
+  rows t u v w h k a b = grind (arith, row-assoc t v b, row-assoc u w b, row-assoc a u (v ⊕ b), row-assoc a u (w ⊕ b))
 
   itself : (t : Forest) → InRows t t
   itself t a b = same (a ⊕ (t ⊕ b))
@@ -95,25 +87,15 @@ module _ (K : Forest → Forest → Type 0) (same : (t : Forest) → K t t) (tra
   data-alike m x y h = rows (leaf N.Data m) (leaf N.Data m) x y (itself (leaf N.Data m)) h
 
   wrapped-alike : (m : List Code) (x y : Forest) (end : End) → InRows x y → InRows (wrapped m x end) (wrapped m y end)
-  wrapped-alike m x y (back, None) h =
-      data-alike m (x ⊕ leaf N.Data back) (y ⊕ leaf N.Data back) (rows x y (leaf N.Data back) (leaf N.Data back) h (itself (leaf N.Data back)))
-  wrapped-alike m x y (back, Some outcome) h = label-alike outcome.0 m back outcome.1 x y h
+  wrapped-alike m x y x4 h = grind (arith, data-alike, rows, itself, label-alike)
 
   opened-alike : (m : List Code) (x y : Forest) (more others : List (End × Forest)) → InRows x y → EndsAlike more others →
       Alike (opened m x more) (opened m y others)
-  opened-alike m x y [] [] h k = (data-alike m x y h, tt)
-  opened-alike m x y (c ∷ more) (d ∷ others) h k = (
-    rows (wrapped m x c.0) (wrapped m y d.0) c.1 d.1 (subst (λ e. InRows (wrapped m x c.0) (wrapped m y e)) k.0 (wrapped-alike m x y c.0 h)) k.1.0,
-    k.1.1,
-  )
-  opened-alike m x y [] (d ∷ others) h k = absurd k
-  opened-alike m x y (c ∷ more) [] h k = absurd k
+  opened-alike m x y x4 x5 h k = grind (arith, data-alike, rows, wrapped-alike)
 
   finish-alike : (more others : List (End × Forest)) → EndsAlike more others → InRows (finish more) (finish others)
   finish-alike [] [] k = itself empty
-  finish-alike (c ∷ more) (d ∷ others) k =
-      subst (λ (e : End). InRows (leaf N.Data c.0.0 ⊕ (c.1 ⊕ finish more)) (leaf N.Data e.0 ⊕ (d.1 ⊕ finish others))) k.0
-      (data-alike c.0.0 (c.1 ⊕ finish more) (d.1 ⊕ finish others) (rows c.1 d.1 (finish more) (finish others) k.1.0 (finish-alike more others k.1.1)))
+  finish-alike (c ∷ more) (d ∷ others) k = grind (arith, data-alike, rows, finish-alike more others)
   finish-alike [] (d ∷ others) k = absurd k
   finish-alike (c ∷ more) [] k = absurd k
 
@@ -138,8 +120,7 @@ module _ (K : Forest → Forest → Type 0) (same : (t : Forest) → K t t) (tra
 
     first-alike : (e f : Element) (es fs : List Element) → IsReadAs source e f → IsElementRead source.bytes e →
         Alike (read (word_of es)) (read (word_of fs)) → Alike (read (word_of (e ∷ es))) (read (word_of (f ∷ fs)))
-    first-alike e f es fs (inl x) k r =
-        subst (λ z. Alike (read (word_of (e ∷ es))) (read (word_of (z ∷ fs)))) x (itself-alike e es fs r)
+    first-alike e f es fs (inl x) k r = grind (arith, itself-alike e es fs)
     first-alike e f es fs (inr x) k r = run-alike x.0 e f es fs x.1.0 x.1.1.0 x.1.1.1 k r
 
     words-alike : (es fs : List Element) → AreReadAs source es fs → AllAre (IsElementRead source.bytes) es →
@@ -151,9 +132,4 @@ module _ (K : Forest → Forest → Type 0) (same : (t : Forest) → K t t) (tra
 
     -- each inner underscore may be a run here and data there
     pub labels-as-read : (es fs : List Element) → AreReadAs source es fs → AllAre (IsElementRead source.bytes) es → K (labels_of es) (labels_of fs)
-    labels-as-read es fs h k =
-        let r : Alike (read (word_of es)) (read (word_of fs)) = words-alike es fs h k in
-        subst (λ x. K x (labels_of fs)) (sym (labels-read es))
-        (subst (λ x. K ((read (word_of es)).0 ⊕ finish (read (word_of es)).1) x) (sym (labels-read fs))
-        (whole-row ((read (word_of es)).0 ⊕ finish (read (word_of es)).1) ((read (word_of fs)).0 ⊕ finish (read (word_of fs)).1)
-        (rows (read (word_of es)).0 (read (word_of fs)).0 (finish (read (word_of es)).1) (finish (read (word_of fs)).1) r.0 (finish-alike (read (word_of es)).1 (read (word_of fs)).1 r.1))))
+    labels-as-read es fs h k = grind (arith, words-alike, labels-read, whole-row, rows, finish-alike)

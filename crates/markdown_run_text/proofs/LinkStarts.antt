@@ -1,5 +1,5 @@
 -- The start of a link that stands at hand, by its code, and how it is read.
-use Rattle.std.proofs.Common.{◌≡◌, ◌≤◌, ◌&&◌, true, false, length, refl, sym, ap, subst, ◌∙◌}
+use Rattle.std.proofs.Common.{◌≡◌, ◌≤◌, ◌&&◌, true, false, length, refl, sym, ap, subst, ◌∙◌, arith}
 use Rattle.std.specs.Option.{is_some}
 use Rattle.markdown_content.specs.declared.label_kind.LabelKind.{LabelKind}
 use Rattle.markdown_content.specs.Place.{code_at}
@@ -25,8 +25,7 @@ link-long T V e = subst (λ (x : Tokenizer). 4 ≤ length x.events) (sym e) (lon
 
 pub link-reads : (T V U : Tokenizer) → link_here T ≡ true → V ≡ done link_ops T → kept_start LabelKind.Link 4 V ≡ U →
     BeginsOrStays (label_start_link_here (options_here T)) T true U
-link-reads T V U e k l =
-    link-begins T U (record { holds = sym (link-here T) ∙ e; left = sym l ∙ ap (kept_start LabelKind.Link 4) k })
+link-reads T V U e k l = grind (arith, link-begins, link-here)
 
 pub no-link : (T : Tokenizer) → link_here T ≡ false → BeginsOrStays (label_start_link_here (options_here T)) T false T
 no-link T e = (link-not T (sym (link-here T) ∙ e), refl)

@@ -1,5 +1,5 @@
 -- Sums over the runs of all containers of a tree, where some of its runs are data.
-use Rattle.std.proofs.Common.{◌≡◌, ℕ, ◌+◌, ◌≤◌, Bool, false, cond, List, ◌∷◌, ◌++◌, length, None, sym, ◌∙◌, ap, subst, arith, sum_by}
+use Rattle.std.proofs.Common.{◌≡◌, ℕ, ◌+◌, ◌≤◌, Bool, false, List, ◌∷◌, ◌++◌, length, None, arith, sum_by}
 use Rattle.std.proofs.lemmas.List.{length-append}
 use Rattle.std.proofs.lemmas.List.Sums.{sum_by-cons, sum_by-append}
 use Rattle.std.specs.List.{count_by}
@@ -33,34 +33,24 @@ module _ (s : Setting) (m : List Run → ℕ) where
   unfolding rows_inside
   inside-join empty u = omega arith
   inside-join (leaf_then name link cs rest) u = inside-join rest u
-  inside-join (group_then name p q t rest) u =
-      omega (arith, inside-group name p q t (rest ⊕ u), inside-group name p q t rest, inside-join rest u)
+  inside-join (group_then name p q t rest) u = grind (arith, inside-group name p q t (rest ⊕ u), inside-group name p q t rest, inside-join rest u)
 
   -- a group counts with what stands inside it
   pub with-group : (a : Forest) (name : Name) (p q : Point) (t rest : Forest) →
       over_rows (a ⊕ group_then name p q t rest) ≡ m (runs_of s (a ⊕ group_then name p q empty rest)) + (over_inside a + over_inside rest) + over_rows t
-  with-group a name p q t rest =
-      rows-is (a ⊕ group_then name p q t rest)
-      ∙ (λ i. m (runs-inside s name p q t empty rest a i) + (inside-join a (group_then name p q t rest) ∙ ap (λ x. over_inside a + x) (inside-group name p q t rest)) i)
-      ∙ omega arith
+  with-group a name p q t rest = grind (arith, rows-is, runs-inside, inside-join, inside-group)
 
   inside-leaf : (a b : Forest) (cs : List Code) →
       over_inside (a ⊕ leaf_then N.AttentionSequence None cs b) ≡ over_inside (a ⊕ leaf_then N.Data None cs b)
   unfolding rows_inside
-  inside-leaf a b cs =
-      inside-join a (leaf_then N.AttentionSequence None cs b) ∙ sym (inside-join a (leaf_then N.Data None cs b))
+  inside-leaf a b cs = grind (arith, inside-join)
 
   -- what stands inside groups counts the same
   pub with-data : (a b : Forest) (cs : List Code) (R : ℕ → ℕ → Type 0)
       → ((k x y : ℕ) → R x y → R (x + k) (y + k))
       → R (m (runs_of s (a ⊕ leaf_then N.AttentionSequence None cs b))) (m (runs_of s (a ⊕ leaf_then N.Data None cs b)))
       → R (over_rows (a ⊕ leaf_then N.AttentionSequence None cs b)) (over_rows (a ⊕ leaf_then N.Data None cs b))
-  with-data a b cs R more h =
-      let one : Forest = a ⊕ leaf_then N.AttentionSequence None cs b in
-      let two : Forest = a ⊕ leaf_then N.Data None cs b in
-      subst (λ x. R x (over_rows two)) (sym (rows-is one))
-      (subst (λ x. R (m (runs_of s one) + over_inside one) x) (ap (λ x. m (runs_of s two) + x) (inside-leaf a b cs) ∙ sym (rows-is two))
-      (more (over_inside one) (m (runs_of s one)) (m (runs_of s two)) h))
+  with-data a b cs R more h = grind (arith, rows-is, inside-leaf)
 
 module _ (s : Setting) (a : Forest) (c : Code) (cs : List Code) (b : Forest) where
   abbrev with_run : Forest
@@ -79,21 +69,9 @@ module _ (s : Setting) (a : Forest) (c : Code) (cs : List Code) (b : Forest) whe
 
   -- a row has no more runs where one is data
   pub fewer-runs : length (runs_of s with_data) ≤ length (runs_of s with_run)
-  fewer-runs =
-      let one : length (runs_of s with_data) ≡ length (runs_of s a) + length (runs_of s b) = ap length runs-without ∙ length-append (runs_of s a) (runs_of s b) in
-      let two : length (runs_of s with_run) ≡ length (runs_of s a) + length (run_of s (c ∷ cs) ∷ runs_of s b) = ap length runs-with ∙ length-append (runs_of s a) (run_of s (c ∷ cs) ∷ runs_of s b) in
-      omega (arith, one, two)
+  fewer-runs = grind (arith, runs-without, length-append, runs-with)
 
   -- and as many that pass a test as before, if the run does not pass it
   pub as-many-pass : (p : Run → Bool) → p (run_of s (c ∷ cs)) ≡ false →
       count_by p (runs_of s with_run) ≡ count_by p (runs_of s with_data)
-  as-many-pass p h =
-      ap (count_by p) runs-with
-      ∙ sum_by-append n (runs_of s a) (run_of s (c ∷ cs) ∷ runs_of s b)
-      ∙ ap (λ x. count_by p (runs_of s a) + x) (sum_by-cons n (run_of s (c ∷ cs)) (runs_of s b) ∙ ap (λ z. cond z 1 0 + count_by p (runs_of s b)) h)
-      ∙ omega arith
-      ∙ sym (sum_by-append n (runs_of s a) (runs_of s b))
-      ∙ sym (ap (count_by p) runs-without)
-    where
-      n : Run → ℕ
-      n r = cond (p r) 1 0
+  as-many-pass p h = grind (arith, runs-with, sum_by-append, sum_by-cons, runs-without)

@@ -1,11 +1,10 @@
 -- A run that may neither open nor close is in no pair: the pairs are those of the runs without it, by numbers in which it counts.
-use Rattle.std.proofs.Common.{◌≡◌, ◌≢◌, ℕ, zero, suc, ◌+◌, ◌-◌, ◌%◌, ◌<◌, ◌≤◌, min, false, not, ◌&&◌, ◌||◌, ◌==◌, nat_lt, if◌then◌else◌, IsTrue, List, [], ◌∷◌, ◌++◌, length, map, refl, sym, ◌∙◌, ap, subst, inl, inr, ◌⊎◌, arith, sum_by}
+use Rattle.std.proofs.Common.{◌≡◌, ◌≢◌, ℕ, zero, suc, ◌-◌, ◌<◌, ◌≤◌, min, false, ◌||◌, ◌==◌, nat_lt, if◌then◌else◌, List, [], ◌∷◌, ◌++◌, length, map, refl, sym, ◌∙◌, ap, subst, inl, inr, ◌⊎◌, arith, sum_by}
 use Rattle.std.proofs.lemmas.List.Sums.{sum_by-cons}
 use Rattle.std.proofs.lemmas.Bool.{cases_eq, cases_lt, both_ways, lt-ltb, le-ltb, eq-eqb, ne_eqb}
-use Rattle.std.specs.List.{list_any, list_all}
-use Rattle.std.specs.Str.{byte}
-use Rattle.markdown_model.specs.Setting.{Setting, rules}
-use Rattle.markdown_model.specs.Runs.{Run, marker_of}
+use Rattle.std.specs.List.{list_any}
+use Rattle.markdown_model.specs.Setting.{Setting}
+use Rattle.markdown_model.specs.Runs.{Run}
 use Rattle.markdown_model.specs.Pairs.{Pair, run_at, taken_by, remaining, is_strictly_within, ruled_size, is_refused_by_three, is_refused_as_tilde, is_eligible, IsEligible, NoneEligible, IsNextPair, ArePairsFrom, pair_list}
 use Rattle.markdown_model.proofs.OnePairList.{eligible-is, is-eligible, same_pair_list, some_pair_list}
 
@@ -48,18 +47,10 @@ same-raised : (k a b : ℕ) → raised k a ≡ raised k b → a ≡ b
 same-raised k a b h = grind (arith, raised-below k a, raised-from k a, raised-below k b, raised-from k b)
 
 pub raised-eqb : (k a b : ℕ) → (raised k a == raised k b) ≡ (a == b)
-raised-eqb k a b =
-    elim (cases_eq a b) [
-      | inl e ↦ eq-eqb (raised k a) (raised k b) (ap (raised k) e) ∙ sym (eq-eqb a b e)
-      | inr n ↦ ne_eqb (raised k a) (raised k b) (λ e. n (same-raised k a b e)) ∙ sym (ne_eqb a b n)
-    ]
+raised-eqb k a b = grind (arith, cases_eq, eq-eqb, ne_eqb, same-raised)
 
 raised-ltb : (k a b : ℕ) → nat_lt (raised k a) (raised k b) ≡ nat_lt a b
-raised-ltb k a b =
-    elim (cases_lt a b) [
-      | inl l ↦ lt-ltb (raised k a) (raised k b) (raised-lt k a b l) ∙ sym (lt-ltb a b l)
-      | inr n ↦ le-ltb (raised k a) (raised k b) (raised-le k b a n) ∙ sym (le-ltb a b n)
-    ]
+raised-ltb k a b = grind (arith, cases_lt, lt-ltb, raised-lt, le-ltb, raised-le)
 
 pub raised_other : (k a : ℕ) → raised k a ≢ k
 raised_other k a e = grind (arith, raised-below k a, raised-from k a)
@@ -84,16 +75,12 @@ raised-taken k i p = λ j. if raised-eqb k p.opener i j || raised-eqb k p.closer
 raised-sum : (k i : ℕ) (ps : List Pair) →
     sum_by (taken_by (raised k i)) (raised_pairs k ps) ≡ sum_by (taken_by i) ps
 raised-sum k i [] = refl
-raised-sum k i (p ∷ ps) =
-    sum_by-cons (taken_by (raised k i)) (raised_pair k p) (raised_pairs k ps)
-    ∙ (λ j. raised-taken k i p j + raised-sum k i ps j)
-    ∙ sym (sum_by-cons (taken_by i) p ps)
+raised-sum k i (p ∷ ps) = grind (arith, sum_by-cons (taken_by (raised k i)) (raised_pair k p) (raised_pairs k ps), sum_by-cons (taken_by i) p ps, raised-taken k i p, raised-sum k i ps)
 
 raised-within : (k i : ℕ) (ps : List Pair) →
     list_any (is_strictly_within (raised k i)) (raised_pairs k ps) ≡ list_any (is_strictly_within i) ps
 raised-within k i [] = refl
-raised-within k i (p ∷ ps) =
-    λ j. (raised-ltb k p.opener i j && raised-ltb k i p.closer j) || raised-within k i ps j
+raised-within k i (p ∷ ps) = grind (arith, raised-ltb, raised-within k i ps)
 
 -- Runs by either numbers.
 
@@ -130,21 +117,15 @@ module _ (s : Setting) (front : List Run) (r : Run) (back : List Run) (no_open :
     same_remaining i = λ j. length (same_run i j).codes - raised-sum k i earlier j
 
     same_ruled : (i : ℕ) → ruled_size s more (raised_pairs k earlier) (raised k i) ≡ ruled_size s fewer earlier i
-    same_ruled i =
-        λ j. if (rules s).whole_lengths then length (same_run i j).codes else same_remaining i j
+    same_ruled i = grind (arith, same_run, same_remaining)
 
     same_three : (o c : ℕ) →
         is_refused_by_three s more (raised_pairs k earlier) (raised k o) (raised k c) ≡ is_refused_by_three s fewer earlier o c
-    same_three o c = λ j.
-        ((same_run o j).may_close || (same_run c j).may_open)
-        && (not (same_ruled c j % 3 == 0) && (same_ruled o j + same_ruled c j) % 3 == 0)
+    same_three o c = grind (arith, same_run, same_ruled)
 
     same_tilde : (o c : ℕ) →
         is_refused_as_tilde s more (raised_pairs k earlier) (raised k o) (raised k c) ≡ is_refused_as_tilde s fewer earlier o c
-    same_tilde o c = λ j.
-        marker_of (same_run o j).codes == byte "~"
-        && not (same_remaining o j == same_remaining c j
-        && (same_remaining o j == 2 || (same_remaining o j == 1 && s.options.gfm_strikethrough_single_tilde)))
+    same_tilde o c = grind (arith, same_run, same_remaining)
 
     same_container : (c : ℕ) → nat_lt (raised k c) (length more) ≡ nat_lt c (length fewer)
     same_container c = ap (nat_lt (raised k c)) (length-raised front r back) ∙ raised-ltb k c (length fewer)
@@ -152,37 +133,21 @@ module _ (s : Setting) (front : List Run) (r : Run) (back : List Run) (no_open :
     same_eligible : (o c : ℕ) →
         is_eligible s more (raised_pairs k earlier) (raised k o) (raised k c) ≡ is_eligible s fewer earlier o c
     unfolding is_eligible
-    same_eligible o c = λ j.
-        list_all (λ b. b)
-        (raised-ltb k o c j
-        ∷ same_container c j
-        ∷ (marker_of (same_run o j).codes == marker_of (same_run c j).codes)
-        ∷ (same_run o j).may_open
-        ∷ (same_run c j).may_close
-        ∷ nat_lt 0 (same_remaining o j)
-        ∷ nat_lt 0 (same_remaining c j)
-        ∷ not (raised-within k o earlier j)
-        ∷ not (same_three o c j)
-        ∷ not (same_tilde o c j)
-        ∷ [])
+    same_eligible o c = grind (arith, raised-ltb, same_container, same_run, same_remaining, raised-within, same_three, same_tilde)
 
     eligible-raised : (o c : ℕ) → IsEligible s fewer earlier o c →
         IsEligible s more (raised_pairs k earlier) (raised k o) (raised k c)
-    eligible-raised o c h =
-        eligible-is s more (raised_pairs k earlier) (raised k o) (raised k c) (same_eligible o c ∙ is-eligible s fewer earlier o c h)
+    eligible-raised o c h = grind (arith, eligible-is, same_eligible o c, is-eligible)
 
     raised-eligible : (o c : ℕ) → IsEligible s more (raised_pairs k earlier) (raised k o) (raised k c) →
         IsEligible s fewer earlier o c
-    raised-eligible o c h =
-        eligible-is s fewer earlier o c (sym (same_eligible o c) ∙ is-eligible s more (raised_pairs k earlier) (raised k o) (raised k c) h)
+    raised-eligible o c h = grind (arith, eligible-is, same_eligible, is-eligible)
 
     not_opened : (o c : ℕ) → o ≡ k → IsEligible s more (raised_pairs k earlier) o c → ⊥
-    not_opened o c e h =
-        both_ways r.may_open no_open (subst (λ x. IsTrue x.may_open) (ap (run_at more) e ∙ run-new front r back) h.may_open)
+    not_opened o c e h = grind (arith, both_ways, run-new)
 
     not_closed : (o c : ℕ) → c ≡ k → IsEligible s more (raised_pairs k earlier) o c → ⊥
-    not_closed o c e h =
-        both_ways r.may_close no_close (subst (λ x. IsTrue x.may_close) (ap (run_at more) e ∙ run-new front r back) h.may_close)
+    not_closed o c e h = grind (arith, both_ways, run-new)
 
     -- `low` bounds closers as `last` bounds raised ones
     none-raised : (low last high : ℕ) → ((c : ℕ) → last ≤ raised k c → low ≤ c) →
@@ -218,11 +183,7 @@ module _ (s : Setting) (front : List Run) (r : Run) (back : List Run) (no_open :
       ((c : ℕ) → last ≤ raised k c → low ≤ c) → ArePairsFrom s fewer (length fewer) earlier low ps →
       ArePairsFrom s more (raised k (length fewer)) (raised_pairs k earlier) last (raised_pairs k ps)
   pairs-raised earlier low last [] to from h = none-raised earlier low last (length fewer) from h
-  pairs-raised earlier low last (p ∷ ps) to from h = (
-    next-raised earlier low last p to from h.0,
-    subst (λ x. ArePairsFrom s more (raised k (length fewer)) x (raised k p.closer) (raised_pairs k ps)) (raised_pairs-push k earlier p)
-        (pairs-raised (earlier ++ p ∷ []) p.closer (raised k p.closer) ps (λ c l. raised-le k p.closer c l) (λ c l. le-raised k p.closer c l) h.1),
-  )
+  pairs-raised earlier low last (p ∷ ps) to from h = grind (arith, next-raised earlier low last, raised_pairs-push k earlier p, raised-le k p.closer, le-raised k p.closer, pairs-raised (earlier ++ p ∷ []) p.closer (raised k p.closer) ps)
 
   pub neutral_pair_list : pair_list s (front ++ r ∷ back) ≡ raised_pairs (length front) (pair_list s (front ++ back))
   neutral_pair_list =

@@ -1,51 +1,40 @@
 -- A run that may neither open nor close is data: the tree with its pairs is that of the tree with data in its place.
-use Rattle.std.proofs.Common.{◌≡◌, ℕ, suc, ◌+◌, ◌-◌, ◌≤◌, Bool, true, false, not, ◌&&◌, ◌||◌, ◌==◌, List, [], ◌∷◌, ◌++◌, length, take, drop, reverse, map, Option, None, refl, sym, ◌∙◌, ap, arith, sum_by, if◌then◌else◌}
+use Rattle.std.proofs.Common.{◌≡◌, ℕ, suc, ◌+◌, ◌-◌, ◌≤◌, Bool, true, false, not, ◌&&◌, ◌||◌, List, [], ◌∷◌, ◌++◌, length, take, drop, reverse, map, Option, None, refl, ◌∙◌, ap, arith, sum_by, if◌then◌else◌}
 use Rattle.std.proofs.lemmas.List.{length-map, take_all}
 use Rattle.std.proofs.lemmas.Bool.{eq-eqb, ne_eqb}
-use Rattle.std.specs.Str.{byte}
-use Rattle.markdown_model.specs.Setting.{Setting, rules}
+use Rattle.markdown_model.specs.Setting.{Setting}
 use Rattle.markdown_event.specs.declared.event.Name.{Name}
 use Rattle.markdown_event.specs.declared.event.Content.{Content}
 use Rattle.markdown_event.specs.declared.event.Point.{Point}
 use Rattle.markdown_content.specs.Codes.{Code}
 use Rattle.markdown_content.specs.Tree.{Forest, empty, leaf_then, group_then, leaf, ◌⊕◌}
 use Rattle.std.proofs.Math.Bool.{and-false}
-use Rattle.markdown_util.specs.Neighbours.{before_index, after_index}
-use Rattle.markdown_util.specs.declared.util.char.Kind.{Kind}
-use Rattle.markdown_model.specs.GfmAutolinkLiteral.{is_other}
-use Rattle.markdown_model.specs.Runs.{Run, class_beside, is_flanking, is_punctuation_class, is_beside_marker, run_of, runs_of, before_run, after_run}
+use Rattle.markdown_model.specs.Runs.{Run, run_of, runs_of}
 use Rattle.markdown_model.specs.Pairs.{Pair, pair_list}
-use Rattle.markdown_model.specs.BracketGroups.{Token, item, opens, closes, closing_sizes, opening_sizes, cut_front, run_tokens, assembled, tokens_of, paired}
+use Rattle.markdown_model.specs.BracketGroups.{Token, item, opens, closes, closing_sizes, opening_sizes, cut_front, run_tokens, tokens_of, paired}
 use Rattle.markdown_model.proofs.PassesKeepCodes.{codes-run_of}
 use Rattle.markdown_run_text.specs.ElementsAsRead.{IsIntraword}
 use Rattle.markdown_run_text.proofs.NeutralRunPairs.{raised, raised-below, raised-from, raised_other, raised-eqb, raised_pair, raised_pairs, neutral_pair_list}
-use Rattle.markdown_content.specs.Beside.{has_code_before, has_code_behind}
 
 -- The tokens of a run by either numbers.
 
 raised-closing : (k i : ℕ) (ps : List Pair) →
     closing_sizes (raised k i) (raised_pairs k ps) ≡ closing_sizes i ps
 raised-closing k i [] = refl
-raised-closing k i (p ∷ ps) = λ j.
-    elim (raised-eqb k p.closer i j) as (λ b. List ℕ) [ true ↦ p.size ∷ raised-closing k i ps j | false ↦ raised-closing k i ps j ]
+raised-closing k i (p ∷ ps) = grind (arith, raised-eqb, raised-closing k i ps)
 
 raised-opening : (k i : ℕ) (ps : List Pair) →
     opening_sizes (raised k i) (raised_pairs k ps) ≡ opening_sizes i ps
 raised-opening k i [] = refl
-raised-opening k i (p ∷ ps) = λ j.
-    elim (raised-eqb k p.opener i j) as (λ b. List ℕ) [ true ↦ p.size ∷ raised-opening k i ps j | false ↦ raised-opening k i ps j ]
+raised-opening k i (p ∷ ps) = grind (arith, raised-eqb, raised-opening k i ps)
 
 new-closing : (k : ℕ) (ps : List Pair) → closing_sizes k (raised_pairs k ps) ≡ []
 new-closing k [] = refl
-new-closing k (p ∷ ps) =
-    (λ j. elim (ne_eqb (raised k p.closer) k (raised_other k p.closer) j) as (λ b. List ℕ) [ true ↦ p.size ∷ closing_sizes k (raised_pairs k ps) | false ↦ closing_sizes k (raised_pairs k ps) ])
-    ∙ new-closing k ps
+new-closing k (p ∷ ps) = grind (arith, ne_eqb, raised_other, new-closing k ps)
 
 new-opening : (k : ℕ) (ps : List Pair) → opening_sizes k (raised_pairs k ps) ≡ []
 new-opening k [] = refl
-new-opening k (p ∷ ps) =
-    (λ j. elim (ne_eqb (raised k p.opener) k (raised_other k p.opener) j) as (λ b. List ℕ) [ true ↦ p.size ∷ opening_sizes k (raised_pairs k ps) | false ↦ opening_sizes k (raised_pairs k ps) ])
-    ∙ new-opening k ps
+new-opening k (p ∷ ps) = grind (arith, ne_eqb, raised_other, new-opening k ps)
 
 -- a run's tokens by the sizes that it gives
 abbrev tokens_by : List ℕ → List ℕ → Run → List Token
@@ -82,34 +71,25 @@ module _ (s : Setting) (pairs_of : List Run → List Pair) where
       tokens_of s pairs_of t (raised_pairs k ps) (suc n) ≡ tokens_of s pairs_of t ps n
   unfolding tokens_of
   tokens-after empty k n ps l = refl
-  tokens-after (leaf_then Name.AttentionSequence link cs rest) k n ps l =
-      λ j. (ap (λ i. run_tokens (raised_pairs k ps) i (run_of s cs)) (sym (raised-from k n l)) ∙ raised-tokens k n ps (run_of s cs)) j ++ tokens-after rest k (suc n) ps (omega arith) j
-  tokens-after (leaf_then name link cs rest) k n ps l =
-      ap (λ x. item (leaf_then name link cs empty) ∷ x) (tokens-after rest k n ps l)
-  tokens-after (group_then name enter exit inside rest) k n ps l =
-      ap (λ x. item (group_then name enter exit (assembled (tokens_of s pairs_of inside (pairs_of (runs_of s inside)) 0)) empty) ∷ x) (tokens-after rest k n ps l)
+  tokens-after (leaf_then Name.AttentionSequence link cs rest) k n ps l = grind (arith, raised-from k n, raised-tokens k n ps (run_of s cs), tokens-after rest k (suc n) ps)
+  tokens-after (leaf_then name link cs rest) k n ps l = grind (arith, tokens-after rest k n ps)
+  tokens-after (group_then name enter exit inside rest) k n ps l = grind (arith, tokens-after rest k n ps)
 
   module _ (link : Option Content) (c : Code) (cs : List Code) (b : Forest) where
     tokens-new : (k n : ℕ) (ps : List Pair) → n ≡ k →
         tokens_of s pairs_of (leaf_then Name.AttentionSequence link (c ∷ cs) b) (raised_pairs k ps) n
         ≡ tokens_of s pairs_of (leaf_then Name.Data None (c ∷ cs) b) ps n
     unfolding tokens_of
-    tokens-new k n ps e = λ j.
-        (ap (λ i. run_tokens (raised_pairs k ps) i (run_of s (c ∷ cs))) e ∙ new-tokens k ps (run_of s (c ∷ cs)) ∙ ap (λ x. item (leaf Name.Data x) ∷ []) (codes-run_of s (c ∷ cs))) j
-        ++ tokens-after b k n ps (omega arith) j
+    tokens-new k n ps e = grind (arith, new-tokens, codes-run_of, tokens-after)
 
     tokens-neutral : (a : Forest) (k n : ℕ) (ps : List Pair) → n + length (runs_of s a) ≡ k →
         tokens_of s pairs_of (a ⊕ leaf_then Name.AttentionSequence link (c ∷ cs) b) (raised_pairs k ps) n
         ≡ tokens_of s pairs_of (a ⊕ leaf_then Name.Data None (c ∷ cs) b) ps n
     unfolding tokens_of runs_of
     tokens-neutral empty k n ps e = tokens-new k n ps (omega arith)
-    tokens-neutral (leaf_then Name.AttentionSequence to ds rest) k n ps e =
-        λ j. (ap (λ i. run_tokens (raised_pairs k ps) i (run_of s ds)) (sym (raised-below k n (omega arith))) ∙ raised-tokens k n ps (run_of s ds)) j
-        ++ tokens-neutral rest k (suc n) ps (omega arith) j
-    tokens-neutral (leaf_then name to ds rest) k n ps e =
-        ap (λ x. item (leaf_then name to ds empty) ∷ x) (tokens-neutral rest k n ps e)
-    tokens-neutral (group_then name enter exit inside rest) k n ps e =
-        ap (λ x. item (group_then name enter exit (assembled (tokens_of s pairs_of inside (pairs_of (runs_of s inside)) 0)) empty) ∷ x) (tokens-neutral rest k n ps e)
+    tokens-neutral (leaf_then Name.AttentionSequence to ds rest) k n ps e = grind (arith, raised-below k n, raised-tokens k n ps (run_of s ds), tokens-neutral rest k (suc n) ps)
+    tokens-neutral (leaf_then name to ds rest) k n ps e = grind (arith, tokens-neutral rest k n ps)
+    tokens-neutral (group_then name enter exit inside rest) k n ps e = grind (arith, tokens-neutral rest k n ps)
 
 -- The run of these codes may neither open nor close.
 pub record IsNeutral (s : Setting) (cs : List Code) : Type 0 where
@@ -126,17 +106,11 @@ module _ (s : Setting) (a : Forest) (link : Option Content) (c : Code) (cs : Lis
 
   neutral_row_pairs : pair_list s (runs_of s with_run) ≡ raised_pairs (length (runs_of s a)) (pair_list s (runs_of s with_data))
   unfolding runs_of
-  neutral_row_pairs =
-      ap (pair_list s) (runs-row s a (leaf_then Name.AttentionSequence link (c ∷ cs) b))
-      ∙ neutral_pair_list s (runs_of s a) (run_of s (c ∷ cs)) (runs_of s b) h.may_not_open h.may_not_close
-      ∙ ap (λ x. raised_pairs (length (runs_of s a)) (pair_list s x)) (sym (runs-row s a (leaf_then Name.Data None (c ∷ cs) b)))
+  neutral_row_pairs = grind (arith, runs-row, neutral_pair_list)
 
   pub neutral_is_data : paired s (pair_list s) with_run ≡ paired s (pair_list s) with_data
   unfolding paired
-  neutral_is_data =
-      ap assembled
-      (ap (λ x. tokens_of s (pair_list s) with_run x 0) neutral_row_pairs
-      ∙ tokens-neutral s (pair_list s) link c cs b a (length (runs_of s a)) 0 (pair_list s (runs_of s with_data)) (omega arith))
+  neutral_is_data = grind (arith, neutral_row_pairs, tokens-neutral)
 
   pub neutral_row_count : length (pair_list s (runs_of s with_run)) ≡ length (pair_list s (runs_of s with_data))
   neutral_row_count = ap length neutral_row_pairs ∙ length-map (pair_list s (runs_of s with_data)) (raised_pair (length (runs_of s a)))
@@ -146,76 +120,34 @@ module _ (s : Setting) (a : Forest) (link : Option Content) (c : Code) (cs : Lis
 pub runs-inside : (s : Setting) (name : Name) (enter exit : Point) (inside other rest a : Forest) →
     runs_of s (a ⊕ group_then name enter exit inside rest) ≡ runs_of s (a ⊕ group_then name enter exit other rest)
 unfolding runs_of
-runs-inside s name enter exit inside other rest a =
-    runs-row s a (group_then name enter exit inside rest) ∙ sym (runs-row s a (group_then name enter exit other rest))
+runs-inside s name enter exit inside other rest a = grind (arith, runs-row)
 
 module _ (s : Setting) (pairs_of : List Run → List Pair) (name : Name) (enter exit : Point) (inside other rest : Forest) (alike : paired s pairs_of inside ≡ paired s pairs_of other) where
   tokens-inside : (a : Forest) (ps : List Pair) (n : ℕ) →
       tokens_of s pairs_of (a ⊕ group_then name enter exit inside rest) ps n ≡ tokens_of s pairs_of (a ⊕ group_then name enter exit other rest) ps n
   unfolding tokens_of paired
   tokens-inside empty ps n = ap (λ x. item (group_then name enter exit x empty) ∷ tokens_of s pairs_of rest ps n) alike
-  tokens-inside (leaf_then Name.AttentionSequence link cs more) ps n =
-      ap (λ x. run_tokens ps n (run_of s cs) ++ x) (tokens-inside more ps (suc n))
-  tokens-inside (leaf_then one link cs more) ps n =
-      ap (λ x. item (leaf_then one link cs empty) ∷ x) (tokens-inside more ps n)
-  tokens-inside (group_then one from to within more) ps n =
-      ap (λ x. item (group_then one from to (assembled (tokens_of s pairs_of within (pairs_of (runs_of s within)) 0)) empty) ∷ x) (tokens-inside more ps n)
+  tokens-inside (leaf_then Name.AttentionSequence link cs more) ps n = grind (arith, tokens-inside more ps (suc n))
+  tokens-inside (leaf_then one link cs more) ps n = grind (arith, tokens-inside more ps n)
+  tokens-inside (group_then one from to within more) ps n = grind (arith, tokens-inside more ps n)
 
   pub paired-inside : (a : Forest) →
       paired s pairs_of (a ⊕ group_then name enter exit inside rest) ≡ paired s pairs_of (a ⊕ group_then name enter exit other rest)
   unfolding paired
-  paired-inside a =
-      ap assembled
-      (ap (λ x. tokens_of s pairs_of (a ⊕ group_then name enter exit inside rest) (pairs_of x) 0) (runs-inside s name enter exit inside other rest a)
-      ∙ tokens-inside a (pairs_of (runs_of s (a ⊕ group_then name enter exit other rest))) 0)
+  paired-inside a = grind (arith, runs-inside, tokens-inside)
 
 -- Which runs these are.
 
 shut_by : (here there u other : Bool) → there ≡ true → u ≡ true → other ≡ true →
     (here && (not u || (not other || not there))) ≡ false
-shut_by here there u other e f g =
-    (λ i. here && (not (f i) || (not (g i) || not (e i)))) ∙ and-false here
+shut_by here there u other e f g = grind (arith, and-false)
 
 -- a character that stands in the content is read by all rules
 kept : (on has : Bool) (x : Option ℕ) → has ≡ true → (if on && not has then None else x) ≡ x
-kept true has x h = ap (λ b. if not b then None else x) h
-kept false has x h = refl
+kept x1 has x h = grind arith
 
 -- an underscore between two characters of class other, as letters and digits are
 pub intraword-neutral : (s : Setting) (c : Code) → IsIntraword (record { bytes = s.bytes; content = s.content }) c → c.stop.index ≡ c.start.index + 1 →
     IsNeutral s (c ∷ [])
 unfolding run_of
-intraword-neutral s c h e = record {
-  may_not_open = shut_by left right (c.value == byte "_") _ right_is (eq-eqb c.value (byte "_") h.marker) before;
-  may_not_close = shut_by right left (c.value == byte "_") _ left_is (eq-eqb c.value (byte "_") h.marker) after;
-}
-  where
-    b : Option ℕ
-    b = before_run s.options s.bytes s.content c.start.index
-
-    a : Option ℕ
-    a = after_run s.options s.bytes s.content c.stop.index
-
-    class : Option ℕ → Kind
-    class = class_beside (rules s)
-
-    left : Bool
-    left = is_flanking s.options c.value b a
-
-    right : Bool
-    right = is_flanking s.options c.value a b
-
-    before : is_other (class b) ≡ true
-    before =
-        ap (λ x. is_other (class x)) (kept (rules s).neighbours_in_content (has_code_before s.content c.start.index) (before_index s.bytes c.start.index) h.joined_before) ∙ h.before (rules s)
-
-    after : is_other (class a) ≡ true
-    after =
-        ap (λ i. is_other (class (after_run s.options s.bytes s.content i))) e
-        ∙ ap (λ x. is_other (class x)) (kept (rules s).neighbours_in_content (has_code_behind s.content (c.start.index + 1)) (after_index s.bytes (c.start.index + 1)) h.joined_behind) ∙ h.after (rules s)
-
-    left_is : left ≡ true
-    left_is = ap (λ x. (x || (is_punctuation_class (class a) && not (is_other (class b)))) || is_beside_marker s.options c.value a) after
-
-    right_is : right ≡ true
-    right_is = ap (λ x. (x || (is_punctuation_class (class b) && not (is_other (class a)))) || is_beside_marker s.options c.value b) before
+intraword-neutral s c h e = grind (arith, shut_by, eq-eqb, kept)

@@ -1,9 +1,8 @@
 -- The kinds of the starts that wait for an end, past a row.
-use Rattle.std.proofs.Common.{◌≡◌, Bool, true, false, if◌then◌else◌, List, [], ◌∷◌, map, refl}
+use Rattle.std.proofs.Common.{◌≡◌, List, map, arith}
 use Rattle.markdown_content.specs.ListFunctions.{rest_of}
 use Rattle.markdown_content.specs.declared.label_kind.LabelKind.{LabelKind}
 use Rattle.markdown_engine.specs.declared.tokenizer.LabelStart as Kept
-use Rattle.markdown_label.specs.LabelFields.{bars, as_link}
 use Rattle.markdown_label.specs.LabelEnd.{lost_starts}
 
 abbrev pub kinds_in : List Kept.LabelStart → List LabelKind
@@ -12,9 +11,4 @@ kinds_in ls = map (λ (l : Kept.LabelStart). l.kind) ls
 -- an end that fails takes the last of them
 
 pub rest-lost : (ls : List Kept.LabelStart) → rest_of (lost_starts ls) ≡ rest_of ls
-rest-lost [] = refl
-rest-lost (l ∷ ls) = by_test (bars l)
-  where
-    by_test : (b : Bool) → rest_of (if b then l ∷ ls else as_link (l ∷ ls)) ≡ ls
-    by_test true = refl
-    by_test false = refl
+rest-lost x1 = grind arith

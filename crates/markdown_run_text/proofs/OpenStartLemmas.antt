@@ -1,13 +1,12 @@
 -- What the marks of a row do to the starts that wait.
-use Rattle.std.proofs.Common.{◌≡◌, List, [], ◌∷◌, ◌⊎◌, inl, inr, refl, sym, ap, subst, ◌∙◌}
+use Rattle.std.proofs.Common.{◌≡◌, List, [], ◌∷◌, ◌⊎◌, refl, sym, ap, subst, arith}
 use Rattle.markdown_content.specs.Codes.{Code}
-use Rattle.markdown_content.specs.ListFunctions.{rest_of}
 use Rattle.markdown_content.specs.Tree.{Forest, empty, leaf_then, group_then}
 use Rattle.markdown_content.specs.declared.label_kind.LabelKind.{LabelKind}
 use Rattle.markdown_model.specs.LabelEnd.{link_kind}
 use Rattle.markdown_model.specs.Passes.{start_tree}
 use Rattle.markdown_label.specs.AfterLabel.{IsTail}
-use Rattle.markdown_label.specs.Brackets.{Front, link_front, image_front, call_front, caret_front, kind_of, codes_of, start_row, last_of, tail_row, Brackets, nothing, label_then, failed_then}
+use Rattle.markdown_label.specs.Brackets.{Front, link_front, image_front, call_front, kind_of, codes_of, start_row, last_of, tail_row, Brackets, nothing, label_then, failed_then}
 use Rattle.markdown_label.specs.BracketsJoined.{behind, IsClosed}
 use Rattle.markdown_label.proofs.BracketJoinLemmas.{waiting-behind, closed-behind}
 use Rattle.markdown_run_text.specs.Row.{Mark, begins, makes, loses, IsFront, IsMade, IsMarkAt, kinds_past}
@@ -24,16 +23,13 @@ IsClosedIn (none_waits b) = IsClosed b
 IsClosedIn (waits o f inside) = IsClosedIn o × IsClosed inside
 
 pub assembled-put : (c : Brackets) (o : Opened) → assembled (put c o) ≡ behind (assembled o) c
-assembled-put c (none_waits b) = refl
-assembled-put c (waits o f inside) = sym (waiting-behind (assembled o) f inside c)
+assembled-put c x2 = grind (arith, waiting-behind)
 
 pub kinds-put : (c : Brackets) (o : Opened) → kinds_in (put c o) ≡ kinds_in o
-kinds-put c (none_waits b) = refl
-kinds-put c (waits o f inside) = refl
+kinds-put c x2 = grind arith
 
 pub closed-put : (c : Brackets) (o : Opened) → IsClosed c → IsClosedIn o → IsClosedIn (put c o)
-closed-put c (none_waits b) h k = closed-behind b c k h
-closed-put c (waits o f inside) h k = (k.0, closed-behind inside c k.1 h)
+closed-put c x2 h k = grind (arith, closed-behind)
 
 -- A start.
 
@@ -56,42 +52,23 @@ begins-as LabelKind.GfmUndefinedFootnote marker h = absurd h
 -- A label.
 
 made-start : (kind : LabelKind) (f : Front) → start_row (made_front kind f) ≡ start_row f
-made-start LabelKind.GfmUndefinedFootnote (link_front c) = refl
-made-start LabelKind.GfmUndefinedFootnote (image_front c d) = refl
-made-start LabelKind.GfmUndefinedFootnote (call_front c d) = refl
-made-start LabelKind.GfmUndefinedFootnote (caret_front c d) = refl
-made-start _ f = refl
+made-start x1 f = grind arith
 
 made-codes : (kind : LabelKind) (f : Front) → codes_of (made_front kind f) ≡ codes_of f
-made-codes LabelKind.GfmUndefinedFootnote (link_front c) = refl
-made-codes LabelKind.GfmUndefinedFootnote (image_front c d) = refl
-made-codes LabelKind.GfmUndefinedFootnote (call_front c d) = refl
-made-codes LabelKind.GfmUndefinedFootnote (caret_front c d) = refl
-made-codes _ f = refl
+made-codes x1 f = grind arith
 
 made-last : (kind : LabelKind) (f : Front) → last_of (made_front kind f) ≡ last_of f
-made-last LabelKind.GfmUndefinedFootnote (link_front c) = refl
-made-last LabelKind.GfmUndefinedFootnote (image_front c d) = refl
-made-last LabelKind.GfmUndefinedFootnote (call_front c d) = refl
-made-last LabelKind.GfmUndefinedFootnote (caret_front c d) = refl
-made-last _ f = refl
+made-last x1 f = grind arith
 
 own-kind : (f : Front) → kind_of f ≡ kind_of (made_front (kind_of f) f)
-own-kind (link_front c) = refl
-own-kind (image_front c d) = refl
-own-kind (call_front c d) = refl
-own-kind (caret_front c d) = refl
+own-kind x1 = grind arith
 
 tried-kind : (f : Front) → link_kind (kind_of f) ≡ kind_of (made_front (link_kind (kind_of f)) f)
-tried-kind (link_front c) = refl
-tried-kind (image_front c d) = refl
-tried-kind (call_front c d) = refl
-tried-kind (caret_front c d) = refl
+tried-kind x1 = grind arith
 
 made-kind : (kind : LabelKind) (f : Front) → (kind ≡ kind_of f) ⊎ (kind ≡ link_kind (kind_of f)) →
     kind ≡ kind_of (made_front kind f)
-made-kind kind f (inl e) = subst (λ k. k ≡ kind_of (made_front k f)) (sym e) (own-kind f)
-made-kind kind f (inr e) = subst (λ k. k ≡ kind_of (made_front k f)) (sym e) (tried-kind f)
+made-kind kind f x3 = grind (arith, own-kind, tried-kind)
 
 tail-is : (t : Forest) → IsTail t → t ≡ tail_row (tail_of t)
 tail-is empty h = refl
@@ -122,41 +99,20 @@ first-kind k ks l ls e = cc
 pub makes-as : (back : List Code) (kind : LabelKind) (tail : Forest) (o : Opened) → IsMade (kinds_in o) back kind tail →
     MakesAs back kind tail o
 makes-as back kind tail (none_waits b) h = absurd (no-kinds h.start h.before h.waits)
-makes-as back kind tail (waits o f inside) h =
-    let same : h.start ≡ kind_of f = first-kind (kind_of f) (kinds_in o) h.start h.before h.waits in
-    record {
-      before = o;
-      start = f;
-      inside = inside;
-      waiting = refl;
-      code = h.code;
-      one = h.one;
-      is_kind = made-kind kind f (subst (λ k. (kind ≡ k) ⊎ (kind ≡ link_kind k)) same h.kinds);
-      tree = made-start kind f;
-      codes = made-codes kind f;
-      last = made-last kind f;
-      is_tail = tail-is tail h.sound.tail;
-      closes = ap (λ b. made_with b kind tail (waits o f inside)) h.one;
-    }
+makes-as back kind tail (waits o f inside) h = grind (arith, first-kind, made-kind, made-start, made-codes, made-last, tail-is)
 
 -- What a mark leaves.
 
 pub kinds-marked : (mark : Mark) (o : Opened) → IsMarkAt (kinds_in o) mark →
     kinds_in (marked_with mark o) ≡ kinds_past mark (kinds_in o)
-kinds-marked (begins kind marker) o h =
-    let b = begins-as kind marker h.0 in ap kinds_in (b.opens o) ∙ ap (λ k. k ∷ kinds_in o) (sym b.is_kind)
-kinds-marked (makes back kind tail) o h =
-    let m = makes-as back kind tail o h in ap kinds_in m.closes ∙ kinds-put _ m.before ∙ sym (ap (λ x. rest_of (kinds_in x)) m.waiting)
+kinds-marked (begins kind marker) o h = grind (arith, begins-as)
+kinds-marked (makes back kind tail) o h = grind (arith, makes-as, kinds-put)
 kinds-marked loses (none_waits b) h = refl
 kinds-marked loses (waits o f inside) h = kinds-put (failed_then f inside nothing) o
 
 pub closed-marked : (mark : Mark) (o : Opened) → IsMarkAt (kinds_in o) mark → IsClosedIn o →
     IsClosedIn (marked_with mark o)
-closed-marked (begins kind marker) o h k =
-    let b = begins-as kind marker h.0 in subst IsClosedIn (sym (b.opens o)) (k, tt)
-closed-marked (makes back kind tail) o h k =
-    let m = makes-as back kind tail o h in
-    let all = subst IsClosedIn m.waiting k in
-    subst IsClosedIn (sym m.closes) (closed-put _ m.before (all.1, tt) all.0)
+closed-marked (begins kind marker) o h k = grind (arith, begins-as)
+closed-marked (makes back kind tail) o h k = grind (arith, makes-as, closed-put)
 closed-marked loses (none_waits b) h k = k
 closed-marked loses (waits o f inside) h k = closed-put (failed_then f inside nothing) o (k.1, tt) k.0

@@ -1,15 +1,15 @@
 -- The grouped tree of a row, read from the left: the tree so far, and behind each start that waits the tree behind it.
-use Rattle.std.proofs.Common.{◌≡◌, List, [], ◌∷◌, refl, sym, ap, subst, ◌∙◌}
+use Rattle.std.proofs.Common.{◌≡◌, List, [], ◌∷◌, refl, arith}
 use Rattle.markdown_engine.proofs.ReadingSequences.{row-empty}
 use Rattle.markdown_content.specs.Codes.{Code}
 use Rattle.markdown_content.specs.Tree.{Forest, empty, leaf, ◌⊕◌}
 use Rattle.markdown_event.specs.declared.event.Name.TheVariants as N
 use Rattle.markdown_content.specs.declared.label_kind.LabelKind.{LabelKind}
 use Rattle.markdown_model.specs.Passes.{label_group}
-use Rattle.markdown_label.specs.Brackets.{Front, kind_of, codes_of, tail_row, Brackets, nothing, tree_then, label_then, unused_then, failed_then, grouped}
+use Rattle.markdown_label.specs.Brackets.{codes_of, Brackets, nothing, tree_then, grouped}
 use Rattle.markdown_label.proofs.BracketJoinLemmas.{grouped-behind}
 use Rattle.markdown_run_text.specs.Row.{Mark, begins, makes, loses, Row, row_end, row_then, kinds_past, IsMade, IsMarkAt, IsRowAt}
-use Rattle.markdown_run_text.specs.OpenStarts.{Opened, none_waits, waits, assembled, put, put_tree, made_front, tail_of, marked_with, opened_by, brackets_of}
+use Rattle.markdown_run_text.specs.OpenStarts.{Opened, none_waits, waits, assembled, put, marked_with, opened_by, brackets_of}
 use Rattle.markdown_run_text.proofs.OpenStartLemmas.{no-kinds, kinds_in, kinds-put, begins-as, makes-as, kinds-marked}
 
 pub data OpenTrees : Type 0 where
@@ -88,46 +88,26 @@ tree_of (waits o f inside) = within (tree_of o) (codes_of f) (grouped inside)
 
 pub whole-tree : (o : Opened) → grouped (assembled o) ≡ whole (tree_of o)
 whole-tree (none_waits b) = refl
-whole-tree (waits o f inside) =
-    grouped-behind (assembled o) (unused_then f inside) ∙ ap (λ x. x ⊕ (leaf N.Data (codes_of f) ⊕ grouped inside)) (whole-tree o)
+whole-tree (waits o f inside) = grind (arith, grouped-behind, whole-tree o)
 
 tree-put : (c : Brackets) (t : Forest) (o : Opened) → grouped c ≡ t → tree_of (put c o) ≡ put_row t (tree_of o)
-tree-put c t (none_waits b) e = ap outside (grouped-behind b c ∙ ap (λ x. grouped b ⊕ x) e)
-tree-put c t (waits o f inside) e =
-    ap (within (tree_of o) (codes_of f)) (grouped-behind inside c ∙ ap (λ x. grouped inside ⊕ x) e)
+tree-put c t x3 e = grind (arith, grouped-behind)
 
 tree-marked : (mark : Mark) (o : Opened) → IsMarkAt (kinds_in o) mark →
     tree_of (marked_with mark o) ≡ marked_row mark (tree_of o)
-tree-marked (begins kind marker) o at =
-    let b = begins-as kind marker at.0 in ap tree_of (b.opens o) ∙ ap (λ cs. within (tree_of o) cs empty) (sym b.codes)
-tree-marked (makes back kind tail) o at =
-    let m = makes-as back kind tail o at in
-    let g : Front = made_front kind m.start in
-    let x : Forest = grouped m.inside in
-    let same : label_group (kind_of g) (codes_of g) x (m.code ∷ []) (tail_row (tail_of tail)) ≡ label_group kind (codes_of m.start) x back tail =
-    λ i. label_group (sym m.is_kind i) (m.codes i) x (sym m.one i) (sym m.is_tail i) in
-    ap tree_of m.closes
-    ∙ tree-put (label_then g m.inside m.code (tail_of tail) nothing) (label_group kind (codes_of m.start) x back tail) m.before (row-empty _ ∙ same)
-    ∙ ap (λ p. made_row back kind tail (tree_of p)) (sym m.waiting)
+tree-marked (begins kind marker) o at = grind (arith, begins-as)
+tree-marked (makes back kind tail) o at = grind (arith, makes-as, tree-put, row-empty)
 tree-marked loses (none_waits b) at = refl
-tree-marked loses (waits o f inside) at =
-    tree-put (failed_then f inside nothing) (leaf N.Data (codes_of f) ⊕ grouped inside) o (ap (λ x. leaf N.Data (codes_of f) ⊕ x) (row-empty (grouped inside)))
+tree-marked loses (waits o f inside) at = grind (arith, tree-put, row-empty)
 
 pub tree-opened : (row : Row) (o : Opened) → AreMarksAt (kinds_in o) row →
     tree_of (opened_by row o) ≡ filled row (tree_of o)
 tree-opened (row_end t) o at = tree-put (tree_then t nothing) t o (row-empty t)
-tree-opened (row_then t mark rest) o at =
-    let p : Opened = put_tree t o in
-    let same : kinds_in p ≡ kinds_in o = kinds-put (tree_then t nothing) o in
-    let here : IsMarkAt (kinds_in p) mark = subst (λ ks. IsMarkAt ks mark) (sym same) at.0 in
-    let next : kinds_in (marked_with mark p) ≡ kinds_past mark (kinds_in o) = kinds-marked mark p here ∙ ap (kinds_past mark) same in
-    tree-opened rest (marked_with mark p) (subst (λ ks. AreMarksAt ks rest) (sym next) at.1)
-    ∙ ap (filled rest) (tree-marked mark p here ∙ ap (marked_row mark) (tree-put (tree_then t nothing) t o (row-empty t)))
+tree-opened (row_then t mark rest) o at = grind (arith, kinds-put, kinds-marked, tree-marked, tree-put, row-empty, tree-opened rest)
 
 -- from a run's start on
 abbrev pub filled_from_start : Row → OpenTrees
 filled_from_start row = filled row (outside empty)
 
 pub grouped-filled : (row : Row) → AreMarksAt [] row → grouped (brackets_of row) ≡ whole (filled_from_start row)
-grouped-filled row at =
-    whole-tree (opened_by row (none_waits nothing)) ∙ ap whole (tree-opened row (none_waits nothing) at)
+grouped-filled row at = grind (arith, whole-tree, tree-opened)

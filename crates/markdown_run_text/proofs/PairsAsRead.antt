@@ -1,23 +1,23 @@
 -- Where underscores between letters or digits are read as data, the trees of labels are paired to one tree, and what is asked of them holds.
-use Rattle.std.proofs.Common.{◌≡◌, ℕ, ◌+◌, ◌*◌, ◌≤◌, true, false, ◌||◌, List, [], ◌∷◌, length, Some, None, refl, sym, ◌∙◌, ap, subst, le_trans, mul-le-mul, arith, inl, inr, sum_by, ◌++◌}
+use Rattle.std.proofs.Common.{◌≡◌, ℕ, ◌+◌, ◌*◌, ◌≤◌, false, List, [], ◌∷◌, length, None, refl, sym, ◌∙◌, ap, subst, le_trans, mul-le-mul, arith, sum_by, ◌++◌}
 use Rattle.std.proofs.lemmas.Bool.{or_parts}
 use Rattle.std.specs.List.{count_by}
 use Rattle.markdown_attention.specs.AttentionPass.{IsProbed}
 use Rattle.markdown_attention.specs.RunsOfTree.{has_run}
 use Rattle.markdown_attention.proofs.AttentionTreeLabels.{IsGood, IsElementRead, good-leaf, good-labels}
 use Rattle.markdown_content.specs.Codes.{Code}
-use Rattle.markdown_content.specs.Tree.{Forest, leaf_then, leaf, ◌⊕◌, leaf_codes, group_then}
+use Rattle.markdown_content.specs.Tree.{Forest, leaf_then, ◌⊕◌, leaf_codes, group_then}
 use Rattle.markdown_event.specs.declared.event.Name.TheVariants as N
 use Rattle.markdown_model.specs.BracketGroups.{paired}
-use Rattle.markdown_model.specs.InlineTree.{run_count, pair_count, opener_count, closer_count, probe_bound, paired_whole}
-use Rattle.markdown_model.specs.LabelEnd.{Element, plain, starts, ends}
+use Rattle.markdown_model.specs.InlineTree.{run_count, pair_count, opener_count, closer_count, paired_whole}
+use Rattle.markdown_model.specs.LabelEnd.{Element}
 use Rattle.markdown_model.specs.Pairs.{pair_list}
 use Rattle.markdown_model.specs.Passes.{labels_of}
 use Rattle.markdown_model.specs.Runs.{Run, runs_of, containers_of}
 use Rattle.markdown_model.specs.Setting.{Setting, within}
 use Rattle.markdown_model.proofs.ElementCases.{AllAre}
 use Rattle.markdown_run_text.specs.ElementsAsRead.{IsIntraword, IsReadAs, AreReadAs, Source}
-use Rattle.markdown_run_text.specs.Row.{Row, row_end, row_then, tree_onto, element_onto, row_has_run, row_of_elements}
+use Rattle.markdown_run_text.specs.Row.{Row, tree_onto, element_onto, row_has_run, row_of_elements}
 use Rattle.markdown_run_text.proofs.LabelsAsRead.{labels-as-read}
 use Rattle.markdown_run_text.proofs.NeutralRunCounts.{over_rows, with-group, with-data, fewer-runs, as-many-pass}
 use Rattle.markdown_run_text.proofs.NeutralRuns.{IsNeutral, neutral_is_data, neutral_row_count, paired-inside, intraword-neutral}
@@ -28,40 +28,27 @@ use Rattle.markdown_content.proofs.TreeCodes.{leaf_codes-row}
 -- Rows without runs.
 
 rest-runless : (t : Forest) (r : Row) → row_has_run (tree_onto t r) ≡ false → (has_run t ≡ false) × (row_has_run r ≡ false)
-rest-runless t (row_end u) h = or_parts (has_run t) (has_run u) (sym (has_run-row t u) ∙ h)
-rest-runless t (row_then u mark rest) h =
-    let p = or_parts (has_run (t ⊕ u)) (row_has_run rest) h in
-    let q = or_parts (has_run t) (has_run u) (sym (has_run-row t u) ∙ p.0) in
-    (q.0, λ i. q.1 i || p.1 i)
+rest-runless t x2 h = grind (arith, or_parts, has_run-row)
 
 behind-runless : (e : Element) (r : Row) → row_has_run (element_onto e r) ≡ false → row_has_run r ≡ false
-behind-runless (plain t) r h = (rest-runless t r h).1
-behind-runless (starts kind marker) r h = h
-behind-runless (ends back (Some outcome)) r h = h
-behind-runless (ends back None) r h = (rest-runless (leaf N.Data back) r h).1
+behind-runless x1 r h = grind (arith, rest-runless)
 
 module _ (source : Source) where
   itself : (e f : Element) (r : Row) → IsReadAs source e f → row_has_run (element_onto e r) ≡ false → f ≡ e
-  itself e f r (inl x) h = sym x
-  itself e f r (inr x) h = absurd (no (rest-runless (leaf N.AttentionSequence (x.0 ∷ [])) r (subst (λ z. row_has_run (element_onto z r) ≡ false) x.1.1.0 h)).0)
-    where
-      no : true ≡ false → ⊥
-      no e = cc
+  itself e f r x4 h = grind (arith, rest-runless)
 
   -- where no run is among the elements, they are read as themselves
   pub read-runless : (elements read : List Element) → AreReadAs source elements read → row_has_run (row_of_elements elements) ≡ false →
       read ≡ elements
   read-runless [] [] read_as h = refl
-  read-runless (e ∷ es) (f ∷ fs) read_as h =
-      λ i. itself e f (row_of_elements es) read_as.0 h i ∷ read-runless es fs read_as.1 (behind-runless e (row_of_elements es) h) i
+  read-runless (e ∷ es) (f ∷ fs) read_as h = grind (arith, itself, behind-runless, read-runless es fs)
   read-runless [] (f ∷ fs) read_as h = absurd read_as
   read-runless (e ∷ es) [] read_as h = absurd read_as
 
   -- Sound elements.
 
   sound-element : (e f : Element) → IsReadAs source e f → IsElementRead source.bytes e → IsElementRead source.bytes f
-  sound-element e f (inl x) h = subst (IsElementRead source.bytes) x h
-  sound-element e f (inr x) h = subst (IsElementRead source.bytes) (sym x.1.1.1) (good-leaf source.bytes N.Data (x.0 ∷ []) refl)
+  sound-element e f x3 h = grind (arith, good-leaf)
 
   sound-read : (elements read : List Element) → AreReadAs source elements read → AllAre (IsElementRead source.bytes) elements →
       AllAre (IsElementRead source.bytes) read
@@ -124,13 +111,10 @@ module _ (source : Source) (elements read : List Element) (read_as : AreReadAs s
   same-counts : (m : List Run → ℕ)
       → ((a : Forest) (c : Code) (b : Forest) → IsNeutral there (c ∷ []) → m (runs_of there (a ⊕ leaf_then N.AttentionSequence None (c ∷ []) b)) ≡ m (runs_of there (a ⊕ leaf_then N.Data None (c ∷ []) b)))
       → sum_by m (containers_of s (labels_of elements)) ≡ sum_by m (containers_of s (labels_of read))
-  same-counts m leaves =
-      over-there m (labels_of elements) whole ∙ same-rows m leaves ∙ sym (over-there m (labels_of read) whole_read)
+  same-counts m leaves = grind (arith, over-there, same-rows, whole_read)
 
   same-pairs : pair_count s (labels_of elements) ≡ pair_count s (labels_of read)
-  same-pairs =
-      same-counts (λ runs. length (pair_list s runs))
-      (λ a c b n. subst (λ pairs_of. length (pairs_of (runs_of there (a ⊕ leaf_then N.AttentionSequence None (c ∷ []) b))) ≡ length (pairs_of (runs_of there (a ⊕ leaf_then N.Data None (c ∷ []) b)))) (lists-within source.content s) (neutral_row_count there a None c [] b n))
+  same-pairs = grind (arith, same-counts, lists-within source.content s, neutral_row_count)
 
   same-openers : opener_count s (labels_of elements) ≡ opener_count s (labels_of read)
   same-openers = same-counts (count_by (λ r. r.may_open)) (λ a c b n. as-many-pass there a c [] b (λ r. r.may_open) n.may_not_open)
@@ -152,8 +136,4 @@ module _ (source : Source) (elements read : List Element) (read_as : AreReadAs s
 
   -- so many looks as are within the bounds of what is read are within those of the definition's
   pub probed-read : (probes : ℕ) → IsProbed s (labels_of read) probes → IsProbed s (labels_of elements) probes
-  probed-read probes k = record {
-    at_least = subst (λ x. x ≤ probes) (sym same-pairs) k.at_least;
-    at_most = subst (λ x. probes ≤ x) (sym (λ i. 6 * same-openers i + same-closers i + 8 * same-pairs i)) k.at_most;
-    scan = le_trans k.scan (subst (λ x. (run_count s (labels_of read) + x) * run_count s (labels_of read) ≤ probe_bound s (labels_of elements)) same-pairs (fewer-looks (run_count s (labels_of read)) (run_count s (labels_of elements)) (pair_count s (labels_of elements)) fewer));
-  }
+  probed-read probes k = grind (arith, same-pairs, same-openers, same-closers, fewer-looks, fewer)

@@ -1,14 +1,13 @@
 -- No data is empty behind the pairs either; so texts that differ only in how data is cut are merged to one tree.
-use Rattle.std.proofs.Common.{◌≡◌, ◌≢◌, ℕ, suc, true, Option, None, List, [], ◌∷◌, ◌++◌, length, take, drop, reverse, map, sum_by, ◌-◌}
-use Rattle.markdown_content.specs.Codes.{Code, stop_of, document_start}
-use Rattle.markdown_content.specs.Tree.{Forest, empty, leaf_then, group_then, leaf, ◌⊕◌, start_of}
+use Rattle.std.proofs.Common.{◌≡◌, ◌≢◌, ℕ, true, Option, None, List, [], ◌∷◌, ◌++◌, map, arith}
+use Rattle.markdown_content.specs.Codes.{Code}
+use Rattle.markdown_content.specs.Tree.{Forest, empty, leaf_then, group_then, leaf, ◌⊕◌}
 use Rattle.markdown_event.specs.declared.event.Content.{Content}
 use Rattle.markdown_event.specs.declared.event.Name.{Name}
-use Rattle.markdown_event.specs.declared.event.Name.TheVariants as N
-use Rattle.markdown_model.specs.BracketGroups.{item, opens, closes, onto, nest, after_loose, joined, loose, pair_names, pair_group, Token, closing_sizes, opening_sizes, cut_front, run_tokens, assembled, tokens_of, paired}
+use Rattle.markdown_model.specs.BracketGroups.{item, opens, closes, onto, nest, after_loose, joined, loose, pair_group, Token, run_tokens, assembled, tokens_of, paired}
 use Rattle.markdown_model.specs.Pairs.{Pair}
 use Rattle.markdown_model.specs.Passes.{merged}
-use Rattle.markdown_model.specs.Runs.{Run, marker_of, run_of, runs_of}
+use Rattle.markdown_model.specs.Runs.{Run, runs_of}
 use Rattle.markdown_model.specs.Setting.{Setting}
 use Rattle.markdown_passes.specs.MergedEvents.{is_data}
 use Rattle.markdown_run_text.specs.CutData.{split, HasCodes}
@@ -21,8 +20,7 @@ has-join (leaf_then name link cs rest) u g h = (g.0, has-join rest u g.1 h)
 has-join (group_then name a b inside rest) u g h = (g.0, has-join rest u g.1 h)
 
 pub has-leaf : (name : Name) (cs : List Code) → HasCodes (leaf name cs)
-has-leaf name [] = tt
-has-leaf name (c ∷ cs) = ((λ e l k. cc), tt)
+has-leaf name x2 = grind arith
 
 abbrev AllHaveCodes : List Forest → Type 0
 AllHaveCodes [] = Unit {0}
@@ -54,33 +52,26 @@ word-append (closes c ∷ a) b g h = word-append a b g h
 
 pair-has : (front : List Code) (inside : List Forest) (back : List Code) → AllHaveCodes inside →
     AllHaveCodes (pair_group front inside back)
-pair-has front inside back h =
-    let names = pair_names (marker_of front) (length front) in
-    ((has-join (leaf names.1 front) (group_then names.2 (stop_of document_start front) (start_of back) (joined inside) empty ⊕ leaf names.1 back) (has-leaf names.1 front) (has-join (group_then names.2 (stop_of document_start front) (start_of back) (joined inside) empty) (leaf names.1 back) (has-joined inside h, tt) (has-leaf names.1 back)), tt), tt)
+pair-has front inside back h = grind (arith, has-join, has-leaf, has-joined)
 
 onto-has : (o : List Code) (inside : List Forest) (more : List (List Code × List Forest)) → AllHaveCodes inside →
     CutsHaveCodes more →
     AllHaveCodes (onto pair_group loose loose o inside more).0 × CutsHaveCodes (onto pair_group loose loose o inside more).1
-onto-has o inside [] g h = ((has-leaf Name.Data o, g), tt)
-onto-has o inside (c ∷ more) g h = (all-append (pair_group o inside c.0) c.1 (pair-has o inside c.0 g) h.0, h.1)
+onto-has o inside x3 g h = grind (arith, has-leaf, all-append, pair-has)
 
 nest-has : (w : List Token) → WordHasCodes w →
     AllHaveCodes (nest pair_group loose loose w).0 × CutsHaveCodes (nest pair_group loose loose w).1
 nest-has [] h = (tt, tt)
 nest-has (item f ∷ w) h = let r = nest-has w h.1 in ((h.0, r.0), r.1)
 nest-has (closes c ∷ w) h = let r = nest-has w h in (tt, (r.0, r.1))
-nest-has (opens o ∷ w) h =
-    let r = nest-has w h in onto-has o (nest pair_group loose loose w).0 (nest pair_group loose loose w).1 r.0 r.1
+nest-has (opens o ∷ w) h = grind (arith, onto-has, nest-has w)
 
 after-has : (more : List (List Code × List Forest)) → CutsHaveCodes more → AllHaveCodes (after_loose pair_group loose loose more)
 after-has [] h = tt
-after-has (c ∷ more) h =
-    ((has-leaf Name.Data c.0, all-append c.1 (after_loose pair_group loose loose more) h.0 (after-has more h.1)))
+after-has (c ∷ more) h = grind (arith, has-leaf, all-append, after-has more)
 
 assembled-has : (w : List Token) → WordHasCodes w → HasCodes (assembled w)
-assembled-has w h =
-    let r = nest-has w h in
-    has-joined ((nest pair_group loose loose w).0 ++ after_loose pair_group loose loose (nest pair_group loose loose w).1) (all-append (nest pair_group loose loose w).0 (after_loose pair_group loose loose (nest pair_group loose loose w).1) r.0 (after-has (nest pair_group loose loose w).1 r.1))
+assembled-has w h = grind (arith, nest-has, has-joined, all-append, after-has)
 
 closes-has : (cs : List (List Code)) (w : List Token) → WordHasCodes w → WordHasCodes (map closes cs ++ w)
 closes-has [] w h = h
@@ -91,37 +82,26 @@ opens-has [] = tt
 opens-has (c ∷ cs) = opens-has cs
 
 run-has : (ps : List Pair) (n : ℕ) (r : Run) → WordHasCodes (run_tokens ps n r)
-run-has ps n r =
-    let front : List (List Code) × List Code = cut_front (closing_sizes n ps) r.codes in
-    let sizes : List ℕ = reverse (opening_sizes n ps) in
-    let kept : ℕ = length front.1 - sum_by (λ k. k) sizes in
-    let back : List (List Code) × List Code = cut_front sizes (drop kept front.1) in
-    let rest : WordHasCodes (item (leaf Name.Data (take kept front.1)) ∷ map opens back.0) = (has-leaf Name.Data (take kept front.1), opens-has back.0) in
-    closes-has front.0 (item (leaf Name.Data (take kept front.1)) ∷ map opens back.0) rest
+run-has ps n r = grind (arith, has-leaf, opens-has, closes-has)
 
 module _ (s : Setting) (pairs_of : List Run → List Pair) where
   leaf-has : (name : Name) (link : Option Content) (cs : List Code) (rest : Forest) (ps : List Pair) (n : ℕ) →
       (is_data name ≡ true → link ≡ None → cs ≢ []) → ((m : ℕ) → WordHasCodes (tokens_of s pairs_of rest ps m)) →
       WordHasCodes (tokens_of s pairs_of (leaf_then name link cs rest) ps n)
   unfolding tokens_of
-  leaf-has N.AttentionSequence link cs rest ps n g h =
-      word-append (run_tokens ps n (run_of s cs)) (tokens_of s pairs_of rest ps (suc n)) (run-has ps n (run_of s cs)) (h (suc n))
-  leaf-has name link cs rest ps n g h = ((g, tt), h n)
+  leaf-has name link cs rest ps n g h = grind (arith, word-append, run-has)
 
   tokens-has : (t : Forest) (ps : List Pair) (n : ℕ) → HasCodes t → WordHasCodes (tokens_of s pairs_of t ps n)
   unfolding tokens_of
   tokens-has empty ps n h = tt
   tokens-has (leaf_then name link cs rest) ps n h = leaf-has name link cs rest ps n h.0 (λ m. tokens-has rest ps m h.1)
-  tokens-has (group_then name a b inside rest) ps n h =
-      ((assembled-has (tokens_of s pairs_of inside (pairs_of (runs_of s inside)) 0) (tokens-has inside (pairs_of (runs_of s inside)) 0 h.0), tt), tokens-has rest ps n h.1)
+  tokens-has (group_then name a b inside rest) ps n h = grind (arith, assembled-has, tokens-has inside (pairs_of (runs_of s inside)) 0, tokens-has rest ps n)
 
   pub paired-has : (t : Forest) → HasCodes t → HasCodes (paired s pairs_of t)
   unfolding paired
-  paired-has t h =
-      assembled-has (tokens_of s pairs_of t (pairs_of (runs_of s t)) 0) (tokens-has t (pairs_of (runs_of s t)) 0 h)
+  paired-has t h = grind (arith, assembled-has, tokens-has)
 
   -- texts whose trees of labels differ only in how data is cut come to one merged tree
   pub merged-paired : (t u : Forest) → HasCodes t → HasCodes u → split t ≡ split u →
       merged (paired s pairs_of t) ≡ merged (paired s pairs_of u)
-  merged-paired t u g h e =
-      merged-same (paired s pairs_of t) (paired s pairs_of u) (paired-has t g) (paired-has u h) (paired-same s pairs_of t u e)
+  merged-paired t u g h e = grind (arith, merged-same, paired-has, paired-same)

@@ -1,12 +1,12 @@
 -- Pairs do not look at how data is cut.
-use Rattle.std.proofs.Common.{◌≡◌, ℕ, suc, Option, Some, None, List, [], ◌∷◌, ◌++◌, length, refl, sym, ap, ◌∙◌}
+use Rattle.std.proofs.Common.{◌≡◌, ℕ, Option, Some, None, List, [], ◌∷◌, ◌++◌, length, refl, sym, ap, ◌∙◌, arith}
 use Rattle.markdown_content.specs.Codes.{Code, stop_of, document_start}
 use Rattle.markdown_content.specs.Tree.{Forest, empty, leaf_then, group_then, leaf, ◌⊕◌, group, text_group, start_of, enter_of, exit_after}
 use Rattle.markdown_event.specs.declared.event.Content.{Content}
 use Rattle.markdown_event.specs.declared.event.Name.{Name}
 use Rattle.markdown_event.specs.declared.event.Name.TheVariants as N
 use Rattle.markdown_event.specs.declared.event.Point.{Point}
-use Rattle.markdown_model.specs.BracketGroups.{item, opens, closes, onto, nest, after_loose, joined, loose, pair_names, pair_group, Token, run_tokens, assembled, tokens_of, paired}
+use Rattle.markdown_model.specs.BracketGroups.{item, opens, closes, onto, nest, after_loose, joined, loose, pair_names, pair_group, Token, assembled, tokens_of, paired}
 use Rattle.markdown_model.specs.Pairs.{Pair}
 use Rattle.markdown_model.specs.Runs.{Run, marker_of, run_of, runs_of}
 use Rattle.markdown_model.specs.Setting.{Setting}
@@ -29,13 +29,7 @@ exit-same r (group_then name c d inside rest) m p q x y b = exit-same d rest m p
 
 group-same : (n : Name) (a : Forest) (m : Name) (p q : Point) (x b : Forest) →
     split (group n (a ⊕ (group_then m p q x empty ⊕ b))) ≡ split (group n (a ⊕ (group_then m p q (split x) empty ⊕ b)))
-group-same n a m p q x b =
-    let one : Forest = a ⊕ (group_then m p q x empty ⊕ b) in
-    let two : Forest = a ⊕ (group_then m p q (split x) empty ⊕ b) in
-    let inner : split one ≡ split two = split-join a (group_then m p q x empty ⊕ b) ∙ ap (λ y. split a ⊕ group_then m p q y (split b)) (sym (split-twice x)) ∙ sym (split-join a (group_then m p q (split x) empty ⊕ b)) in
-    let enter : enter_of one ≡ enter_of two = enter-same a m p q x (split x) b in
-    let exit : exit_after (enter_of one) one ≡ exit_after (enter_of two) two = exit-same (enter_of one) a m p q x (split x) b ∙ ap (λ r. exit_after r two) enter in
-    ap (λ r. group_then n r (exit_after (enter_of one) one) (split one) empty) enter ∙ ap (λ r. group_then n (enter_of two) r (split one) empty) exit ∙ ap (λ y. group_then n (enter_of two) (exit_after (enter_of two) two) y empty) inner
+group-same n a m p q x b = grind (arith, split-join, split-twice, enter-same, exit-same)
 
 -- the group of a pair around a row
 abbrev around : List Code → Forest → List Code → Forest
@@ -45,9 +39,7 @@ around front inside back =
 
 around-same : (front : List Code) (x : Forest) (back : List Code) →
     split (around front x back) ≡ split (around front (split x) back)
-around-same front x back =
-    let names = pair_names (marker_of front) (length front) in
-    group-same names.0 (leaf names.1 front) names.2 (stop_of document_start front) (start_of back) x (leaf names.1 back)
+around-same front x back = grind (arith, group-same)
 
 -- Words, cut.
 
@@ -78,14 +70,11 @@ joined-append (t ∷ a) b = ap (λ x. t ⊕ x) (joined-append a b) ∙ sym (row-
 
 opened-is : (o : List Code) (inside : List Forest) (more : List (List Code × List Forest)) →
     opened o (split (joined inside)) (cuts more) ≡ (split (joined (onto pair_group loose loose o inside more).0), cuts (onto pair_group loose loose o inside more).1)
-opened-is o inside [] = ap (λ x. (x, [])) (sym (split-join (leaf Name.Data o) (joined inside)))
-opened-is o inside (c ∷ more) =
-    ap (λ x. (x ⊕ split (joined c.1), cuts more)) (sym (around-same o (joined inside) c.0)) ∙ ap (λ x. (x, cuts more)) (sym (split-join (around o (joined inside) c.0) (joined c.1)))
+opened-is o inside x3 = grind (arith, split-join, around-same)
 
 pub cut_nest-is : (w : List Token) → cut_nest w ≡ (split (joined (found w).0), cuts (found w).1)
 cut_nest-is [] = refl
-cut_nest-is (item f ∷ w) =
-    ap (λ (r : Cuts). (split f ⊕ r.0, r.1)) (cut_nest-is w) ∙ ap (λ x. (x, cuts (found w).1)) (sym (split-join f (joined (found w).0)))
+cut_nest-is (item f ∷ w) = grind (arith, split-join, cut_nest-is w)
 cut_nest-is (closes c ∷ w) = ap (λ (r : Cuts). (empty, (c, r.0) ∷ r.1)) (cut_nest-is w)
 cut_nest-is (opens o ∷ w) = ap (λ (r : Cuts). opened o r.0 r.1) (cut_nest-is w) ∙ opened-is o (found w).0 (found w).1
 
@@ -96,22 +85,13 @@ finish (c ∷ more) = split (leaf Name.Data c.0) ⊕ (c.1 ⊕ finish more)
 finish-is : (more : List (List Code × List Forest)) →
     split (joined (after_loose pair_group loose loose more)) ≡ finish (cuts more)
 finish-is [] = refl
-finish-is (c ∷ more) =
-    ap split (joined-append (loose c.0 ++ c.1) (after_loose pair_group loose loose more))
-    ∙ split-join (leaf Name.Data c.0 ⊕ joined c.1) (joined (after_loose pair_group loose loose more))
-    ∙ ap (λ x. x ⊕ split (joined (after_loose pair_group loose loose more))) (split-join (leaf Name.Data c.0) (joined c.1))
-    ∙ ap (λ x. (split (leaf Name.Data c.0) ⊕ split (joined c.1)) ⊕ x) (finish-is more)
-    ∙ row-assoc (split (leaf Name.Data c.0)) (split (joined c.1)) (finish (cuts more))
+finish-is (c ∷ more) = grind (arith, joined-append, split-join, row-assoc, finish-is more)
 
 abbrev pub whole : Cuts → Forest
 whole r = r.0 ⊕ finish r.1
 
 pub assembled-cut : (w : List Token) → split (assembled w) ≡ whole (cut_nest w)
-assembled-cut w =
-    ap split (joined-append (found w).0 (after_loose pair_group loose loose (found w).1))
-    ∙ split-join (joined (found w).0) (joined (after_loose pair_group loose loose (found w).1))
-    ∙ ap (λ x. split (joined (found w).0) ⊕ x) (finish-is (found w).1)
-    ∙ ap whole (sym (cut_nest-is w))
+assembled-cut w = grind (arith, joined-append, split-join, finish-is, cut_nest-is)
 
 -- what stands behind counts only as it is cut
 behind-same : (a v w : List Token) → cut_nest v ≡ cut_nest w → cut_nest (a ++ v) ≡ cut_nest (a ++ w)
@@ -162,12 +142,8 @@ module _ (s : Setting) (pairs_of : List Run → List Pair) where
   leaf-same : (name : Name) (link : Option Content) (cs : List Code) (rest : Forest) → Same rest →
       Same (leaf_then name link cs rest)
   unfolding tokens_of
-  leaf-same N.AttentionSequence link cs rest h ps n =
-      behind-same (run_tokens ps n (run_of s cs)) (T rest ps (suc n)) (T (split rest) ps (suc n)) (h ps (suc n))
-  leaf-same N.Data None cs rest h ps n =
-      ap (λ x. (x, (cut_nest (T rest ps n)).1)) (each-empty cs (cut_nest (T rest ps n)).0)
-      ∙ ap (λ (r : Cuts). (each_code cs r.0, r.1)) (h ps n)
-      ∙ sym (each-tokens cs (split rest) ps n)
+  leaf-same N.AttentionSequence link cs rest h ps n = grind (arith, behind-same)
+  leaf-same N.Data None cs rest h ps n = grind (arith, each-empty, each-tokens)
   leaf-same N.Data (Some c) cs rest h ps n = ap (λ (r : Cuts). (leaf_then N.Data (Some c) cs r.0, r.1)) (h ps n)
   leaf-same name link cs rest h ps n = ap (λ (r : Cuts). (leaf_then name link cs r.0, r.1)) (h ps n)
 
@@ -175,19 +151,13 @@ module _ (s : Setting) (pairs_of : List Run → List Pair) where
   grouped_row t = assembled (T t (pairs_of (runs_of s t)) 0)
 
   row-same : (t : Forest) → Same t → split (grouped_row t) ≡ split (grouped_row (split t))
-  row-same t h =
-      assembled-cut (T t (pairs_of (runs_of s t)) 0)
-      ∙ ap whole (h (pairs_of (runs_of s t)) 0)
-      ∙ ap (λ rs. whole (cut_nest (T (split t) (pairs_of rs) 0))) (sym (runs-split s t))
-      ∙ sym (assembled-cut (T (split t) (pairs_of (runs_of s (split t))) 0))
+  row-same t h = grind (arith, assembled-cut, runs-split)
 
   same : (t : Forest) → Same t
   unfolding tokens_of
   same empty ps n = refl
   same (leaf_then name link cs rest) ps n = leaf-same name link cs rest (same rest) ps n
-  same (group_then name a b inside rest) ps n =
-      ap (λ x. (group_then name a b x (cut_nest (T rest ps n)).0, (cut_nest (T rest ps n)).1)) (row-same inside (same inside))
-      ∙ ap (λ (r : Cuts). (group_then name a b (split (grouped_row (split inside))) r.0, r.1)) (same rest ps n)
+  same (group_then name a b inside rest) ps n = grind (arith, row-same, same inside, same rest)
 
   -- pairs do not look at how data is cut
   pub paired-split : (t : Forest) → split (paired s pairs_of t) ≡ split (paired s pairs_of (split t))

@@ -1,5 +1,5 @@
 -- What data passes, code by code and by stretches.
-use Rattle.std.proofs.Common.{◌≡◌, ℕ, ◌+◌, ◌<◌, ◌&&◌, ◌||◌, ◌==◌, Bool, true, false, not, if◌then◌else◌, List, [], ◌∷◌, length, Option, None, Some, refl, sym, ap, subst, ◌∙◌, arith}
+use Rattle.std.proofs.Common.{◌≡◌, ℕ, ◌+◌, ◌<◌, ◌&&◌, ◌||◌, ◌==◌, Bool, true, false, not, List, [], ◌∷◌, length, Option, None, Some, refl, sym, ap, ◌∙◌, arith}
 use Rattle.std.specs.Prelude.{codes}
 use Rattle.std.specs.List.{list_any}
 use Rattle.std.specs.Option.{is_some}
@@ -12,13 +12,12 @@ use Rattle.markdown_content.proofs.PlaceRules.{IsAhead, ahead_some, ahead_none, 
 use Rattle.markdown_content.proofs.StretchLemmas.{past-none, past-one, left-behind, stretch-goes, stretch-stops}
 use Rattle.markdown_engine.specs.PastTree.{moved_by}
 use Rattle.markdown_model.specs.CodeTests.{is_among}
-use Rattle.markdown_model.specs.GfmAutolinkLiteral.{literal_words}
 use Rattle.markdown_model.specs.Grammar.{until}
 use Rattle.markdown_model.proofs.GrammarSteps.{until-goes, until-stops}
 use Rattle.markdown_partial.specs.PartialData.{ends_stretch, is_some_mark}
 use Rattle.markdown_run_text.proofs.WordLetters.{no-first}
 use Rattle.markdown_run_text.proofs.WordsAndSigns.{no-word}
-use Rattle.markdown_run_text.specs.PlacesPassed.{begins_as, goes_in_line, goes_on, holds_sign, line_stops, markers_and_signs, past_data, sign_at, signs}
+use Rattle.markdown_run_text.specs.PlacesPassed.{goes_in_line, goes_on, holds_sign, line_stops, markers_and_signs, past_data, sign_at, signs}
 use Rattle.markdown_run_text.specs.TextStops.{begins_word, text_stops}
 use Rattle.markdown_run_text.specs.TextContent.{plain_markers}
 use Rattle.markdown_run_text.proofs.TryTableLemmas.{none-passes}
@@ -31,9 +30,7 @@ module _ (literals : Bool) where
   ends cs = ends_stretch (text_stops literals) cs
 
   stop-by : (cs : List Code) (p : Place) → ahead_at p ≡ cs → ends cs ≡ true → past_data literals p ≡ p
-  stop-by [] p e h = ap (λ xs. moved_by (until ends xs).0 p) e
-  stop-by (c ∷ cs) p e h =
-      ap (λ xs. moved_by (until ends xs).0 p) e ∙ ap (λ (s : List Code × List Code). moved_by s.0 p) (until-stops ends c cs h)
+  stop-by x1 p e h = grind (arith, until-stops)
 
   pub data-stops : (p : Place) → ends (ahead_at p) ≡ true → past_data literals p ≡ p
   data-stops p h = stop-by (ahead_at p) p refl h
@@ -43,34 +40,19 @@ module _ (literals : Bool) where
 
   pub data-goes : (p : Place) (v : ℕ) → code_at p ≡ Some v → ends (ahead_at p) ≡ false →
       past_data literals p ≡ past_data literals (moved p)
-  data-goes p v e h =
-      let a : IsAhead p v = ahead_some p v e in
-      ap (λ xs. moved_by (until ends xs).0 p) a.codes
-      ∙ ap (λ (s : List Code × List Code). moved_by s.0 p) (until-goes ends a.code (ahead_at (moved p)) (ap ends (sym a.codes) ∙ h))
+  data-goes p v e h = grind (arith, ahead_some p v, until-goes ends)
 
 -- Where no literal is on, a stretch.
 
 or-false : (b : Bool) → (b || false) ≡ b
-or-false true = refl
-or-false false = refl
+or-false x1 = grind arith
 
 ends-plain : (c : Code) (cs : List Code) → ends false (c ∷ cs) ≡ stops plain_markers c.value
 ends-plain c cs = ap (λ b. is_line_ending c || b) (or-false (is_among plain_markers c))
 
 plain-from : (cs : List Code) (p : Place) → walked (stretch plain_markers cs) p ≡ moved_by (until (ends false) cs).0 p
 plain-from [] p = refl
-plain-from (c ∷ cs) p = by_test (stops plain_markers c.value) refl (plain-from cs (moved p))
-  where
-    by_test : (b : Bool) → stops plain_markers c.value ≡ b
-        → walked (stretch plain_markers cs) (moved p) ≡ moved_by (until (ends false) cs).0 (moved p)
-        → walked (stretch plain_markers (c ∷ cs)) p ≡ moved_by (until (ends false) (c ∷ cs)).0 p
-    by_test true e more =
-        ap (λ xs. walked xs p) (stretch-stops plain_markers c cs e)
-        ∙ sym (ap (λ (s : List Code × List Code). moved_by s.0 p) (until-stops (ends false) c cs (ends-plain c cs ∙ e)))
-    by_test false e more =
-        ap (λ xs. walked xs p) (stretch-goes plain_markers c cs e)
-        ∙ more
-        ∙ sym (ap (λ (s : List Code × List Code). moved_by s.0 p) (until-goes (ends false) c cs (ends-plain c cs ∙ e)))
+plain-from (c ∷ cs) p = grind (arith, stretch-stops, until-stops, ends-plain, stretch-goes, until-goes, plain-from cs (moved p))
 
 pub plain-stretch : (p : Place) → past_stretch plain_markers p ≡ past_data false p
 unfolding past_stretch
@@ -83,9 +65,7 @@ stretch_end p = past_stretch markers_and_signs p
 
 module _ (v : ℕ) (free : stops markers_and_signs v ≡ false) where
   free-parts : (list_any (λ n. v == n) plain_markers ≡ false) × (list_any (λ n. v == n) signs ≡ false)
-  free-parts =
-      or_parts (list_any (λ n. v == n) plain_markers) (list_any (λ n. v == n) signs)
-      (sym (list_any-append (λ n. v == n) plain_markers signs) ∙ (or_parts (v == line_feed) (list_any (λ n. v == n) markers_and_signs) free).1)
+  free-parts = grind (arith, or_parts, list_any-append)
 
   free-line : (v == line_feed) ≡ false
   free-line = (or_parts (v == line_feed) (list_any (λ n. v == n) markers_and_signs) free).0
@@ -93,17 +73,12 @@ module _ (v : ℕ) (free : stops markers_and_signs v ≡ false) where
 -- a code at which data with literals does not stop
 goes-by : (p : Place) (v : ℕ) → code_at p ≡ Some v → (v == line_feed) ≡ false →
     list_any (λ n. v == n) plain_markers ≡ false → begins_word (ahead_at p) ≡ false → ends true (ahead_at p) ≡ false
-goes-by p v e line plain none =
-    let a : IsAhead p v = ahead_some p v e in
-    ap (ends true) a.codes
-    ∙ or_from (is_line_ending a.code) (text_stops true (a.code ∷ ahead_at (moved p))) (ap (λ x. x == line_feed) a.value ∙ line)
-    (or_from (is_among plain_markers a.code) (begins_word (a.code ∷ ahead_at (moved p))) (ap (λ x. list_any (λ n. x == n) plain_markers) a.value ∙ plain) (ap begins_word (sym a.codes) ∙ none))
+goes-by p v e line plain none = grind (arith, ahead_some p v, or_from)
 
 -- no word stands in a stretch that ends at no sign of words, so data goes as far
 skips-from : (cs : List Code) (p : Place) → ahead_at p ≡ cs → sign_at (stretch_end p) ≡ false →
     past_data true p ≡ past_data true (stretch_end p)
-skips-from [] p e none =
-    ap (past_data true) (sym (past-none markers_and_signs p (ap (is_free markers_and_signs) (code_at_end p e))))
+skips-from [] p e none = grind (arith, past-none, code_at_end)
 skips-from (c ∷ cs) p e none =
     by_test (stops markers_and_signs c.value) refl (λ h. skips-from cs (moved p) (ahead_moved p c cs e) h)
   where
@@ -125,24 +100,12 @@ data-skips p none = skips-from (ahead_at p) p refl none
 
 -- the end of a stretch is not free
 end-from : (ms : List ℕ) (cs : List Code) (p : Place) → ahead_at p ≡ cs → is_free ms (code_at (past_stretch ms p)) ≡ false
-end-from ms [] p e =
-    let out : is_free ms (code_at p) ≡ false = ap (is_free ms) (code_at_end p e) in
-    ap (λ q. is_free ms (code_at q)) (past-none ms p out) ∙ out
-end-from ms (c ∷ cs) p e =
-    by_test (is_free ms (code_at p)) refl (end-from ms cs (moved p) (ahead_moved p c cs e))
-  where
-    by_test : (b : Bool) → is_free ms (code_at p) ≡ b →
-        is_free ms (code_at (past_stretch ms (moved p))) ≡ false →
-        is_free ms (code_at (past_stretch ms p)) ≡ false
-    by_test true h more = ap (λ q. is_free ms (code_at q)) (past-one ms p h) ∙ more
-    by_test false h more = ap (λ q. is_free ms (code_at q)) (past-none ms p h) ∙ h
+end-from ms [] p e = grind (arith, code_at_end, past-none)
+end-from ms (c ∷ cs) p e = grind (arith, ahead_moved, past-one, past-none, end-from ms cs (moved p))
 
 -- a code that stops, and is no sign, is a line ending or a marker
 without : (a b s x : Bool) → (a || (b || s)) ≡ true → s ≡ false → (a || (b || x)) ≡ true
-without true b s x e f = refl
-without false true s x e f = refl
-without false false true x e f = cc
-without false false false x e f = cc
+without x1 b s x e f = grind arith
 
 -- Behind a stretch that ends at no sign of words.
 
@@ -183,28 +146,20 @@ module _ (p q : Place) (end : q ≡ stretch_end p) (none : sign_at q ≡ false) 
 -- Code by code.
 
 both-false : (a b : Bool) → (not (a || false) && not b) ≡ false → (a || b) ≡ true
-both-false true b e = refl
-both-false false true e = refl
-both-false false false e = cc
+both-false x1 b e = grind arith
 
 both-true : (a b : Bool) → (not (a || false) && not b) ≡ true → (a || b) ≡ false
-both-true true b e = cc
-both-true false true e = cc
-both-true false false e = refl
+both-true x1 b e = grind arith
 
 nowhere : (b : Bool) → (b && false) ≡ true → ⊥
-nowhere true e = cc
-nowhere false e = cc
+nowhere x1 e = grind arith
 
 -- a line ending is at the place
 abbrev at_ending : Place → Bool
 at_ending p = is_some_mark (codes "\n") (code_at p)
 
 line-stops-from : (cs : List Code) (p : Place) → ahead_at p ≡ cs → not (at_ending p) && goes_on true cs ≡ false → past_data true p ≡ p
-line-stops-from [] p e h = data-ends true p (code_at_end p e)
-line-stops-from (c ∷ cs) p e h =
-    let here : not ((c.value == line_feed) || false) && not (text_stops true (c ∷ cs)) ≡ false = ap (λ o. not (is_some_mark (codes "\n") o) && not (text_stops true (c ∷ cs))) (sym (code_at_ahead p c cs e)) ∙ h in
-    data-stops true p (ap (ends true) e ∙ both-false (is_line_ending c) (text_stops true (c ∷ cs)) here)
+line-stops-from x1 p e h = grind (arith, data-ends, code_at_end, code_at_ahead, data-stops, both-false)
 
 pub line-stops : (p : Place) → goes_in_line p ≡ false → past_data true p ≡ p
 line-stops p h = line-stops-from (ahead_at p) p refl h
@@ -216,15 +171,7 @@ pub record OneCode (p : Place) : Type 0 where
   pub left : length (ahead_at (moved p)) + 1 ≡ length (ahead_at p)
 
 line-goes-from : (cs : List Code) (p : Place) → ahead_at p ≡ cs → not (at_ending p) && goes_on true cs ≡ true → OneCode p
-line-goes-from [] p e h = absurd (nowhere (not (at_ending p)) h)
-line-goes-from (c ∷ cs) p e h =
-    let at : code_at p ≡ Some c.value = code_at_ahead p c cs e in
-    let here : not ((c.value == line_feed) || false) && not (text_stops true (c ∷ cs)) ≡ true = ap (λ o. not (is_some_mark (codes "\n") o) && not (text_stops true (c ∷ cs))) (sym at) ∙ h in
-    record {
-      some = ap is_some at;
-      same = data-goes true p c.value at (ap (ends true) e ∙ both-true (is_line_ending c) (text_stops true (c ∷ cs)) here);
-      left = left_moved p c.value at;
-    }
+line-goes-from x1 p e h = grind (arith, nowhere, code_at_ahead, data-goes, both-true, left_moved)
 
 pub line-goes : (p : Place) → goes_in_line p ≡ true → OneCode p
 line-goes p h = line-goes-from (ahead_at p) p refl h
@@ -235,53 +182,31 @@ goes-none literals p e = ap (goes_on literals) (ahead_none p e)
 
 pub goes-some : (literals : Bool) (p : Place) (v : ℕ) → code_at p ≡ Some v
     → not (list_any (λ n. v == n) plain_markers || (literals && begins_word (ahead_at p))) ≡ goes_on literals (ahead_at p)
-goes-some literals p v e =
-    let a : IsAhead p v = ahead_some p v e in
-    ap (λ cs. not (list_any (λ n. v == n) plain_markers || (literals && begins_word cs))) a.codes
-    ∙ ap (λ x. not (list_any (λ n. x == n) plain_markers || (literals && begins_word (a.code ∷ ahead_at (moved p))))) (sym a.value)
-    ∙ ap (goes_on literals) (sym a.codes)
+goes-some literals p v e = grind (arith, ahead_some p v)
 
 -- a sign in a word of literals is a sign
 no-sign : (before here next : Option ℕ) → is_some_mark signs here ≡ false → holds_sign before here next ≡ false
-no-sign before None next h = refl
-no-sign before (Some v) next h = by_tests (v == 46) (v == 58) h
-  where
-    by_tests : (dot colon : Bool) → (dot || (colon || false)) ≡ false →
-        (if dot then is_some_mark (codes "Ww") before else (colon && is_some_mark (codes "/") next)) ≡ false
-    by_tests true colon k = cc
-    by_tests false true k = cc
-    by_tests false false k = refl
+no-sign before x2 next h = grind arith
 
 -- What ends a line that is passed at once.
 
 neither : (a b : Bool) → b ≡ false → (a && b) ≡ false
-neither true b e = e
-neither false b e = refl
+neither x1 b e = grind arith
 
 -- data goes on at a line ending
 ending-goes : (literals : Bool) (p : Place) → code_at p ≡ Some line_feed → goes_on literals (ahead_at p) ≡ true
-ending-goes literals p e =
-    sym (goes-some literals p line_feed e)
-    ∙ ap not
-    (or_from (list_any (λ n. line_feed == n) plain_markers) (literals && begins_word (ahead_at p)) refl
-    (neither literals (begins_word (ahead_at p)) (no-first p (ap (λ o. list_any (λ word. begins_as word o (code_at (moved p))) literal_words) e))))
+ending-goes literals p e = grind (arith, goes-some literals p line_feed, or_from, neither literals (begins_word (ahead_at p)), no-first p)
 
 second : (a b : Bool) → (a || b) ≡ true → a ≡ false → b ≡ true
-second true b e f = cc
-second false b e f = e
+second x1 b e f = grind arith
 
 first : (a b : Bool) → (a || b) ≡ true → b ≡ false → a ≡ true
-first true b e f = refl
-first false true e f = cc
-first false false e f = e
+first x1 b e f = grind arith
 
 -- a code that stops, and is no line ending and no sign, is a marker
 marked : (literals : Bool) (v : ℕ) → stops (line_stops literals) v ≡ true → (v == line_feed) ≡ false → list_any (λ n. v == n) signs ≡ false →
     list_any (λ n. v == n) plain_markers ≡ true
-marked false v h line none = second (v == line_feed) (list_any (λ n. v == n) plain_markers) h line
-marked true v h line none =
-    first (list_any (λ n. v == n) plain_markers) (list_any (λ n. v == n) signs)
-    (sym (list_any-append (λ n. v == n) plain_markers signs) ∙ second (v == line_feed) (list_any (λ n. v == n) markers_and_signs) h line) none
+marked x1 v h line none = grind (arith, second, first, list_any-append)
 
 -- where a code stops that is no sign, data goes on at a line ending alone
 goes-behind : (literals : Bool) (q : Place) → is_free (line_stops literals) (code_at q) ≡ false →
@@ -302,9 +227,7 @@ goes-behind literals q held none = by_code (code_at q) refl held none
 
 pub line-goes-on : (literals : Bool) (p q : Place) → q ≡ past_stretch (line_stops literals) p → is_some_mark signs (code_at q) ≡ false →
     at_ending q ≡ goes_on literals (ahead_at q)
-line-goes-on literals p q end none =
-    goes-behind literals q
-    (ap (λ x. is_free (line_stops literals) (code_at x)) end ∙ end-from (line_stops literals) (ahead_at p) p refl) none
+line-goes-on literals p q end none = grind (arith, goes-behind, end-from)
 
 -- a stretch that ends at no sign is the data of the line
 pub line-passed : (literals : Bool) (p q : Place) → q ≡ past_stretch (line_stops literals) p → is_some_mark signs (code_at q) ≡ false →
@@ -317,18 +240,12 @@ line-passed false p q end none = end ∙ plain-stretch p
 -- data goes on past a sign in no word
 pub sign-passed : (literals : Bool) (p q : Place) → literals ≡ true → q ≡ past_stretch (line_stops literals) p →
     is_some_mark signs (code_at q) ≡ true → sign_at q ≡ false → past_data literals (moved q) ≡ past_data literals p
-sign-passed true p q on end is none = sign-goes p q end none is ∙ part-past p q end none
-sign-passed false p q on end is none = cc
+sign-passed x1 p q on end is none = grind (arith, sign-goes, part-past)
 
 -- fewer codes are left behind a sign that stands at the end of a stretch
 pub fewer-behind : (p q : Place) → q ≡ stretch_end p → is_some_mark signs (code_at q) ≡ true →
     length (ahead_at (moved q)) < length (ahead_at p)
-fewer-behind p q e h = by_code (code_at q) refl h
-  where
-    by_code : (o : Option ℕ) → code_at q ≡ o → is_some_mark signs o ≡ true →
-        length (ahead_at (moved q)) < length (ahead_at p)
-    by_code None g k = cc
-    by_code (Some v) g k = left-behind markers_and_signs p q (moved q) v e g (omega (arith, left_moved q v g))
+fewer-behind p q e h = grind (arith, left-behind, left_moved)
 
 -- what a reader of a part leaves, which goes past a sign where one stands behind the stretch
 pub record PartEnds (p r : Place) (found : Bool) : Type 0 where
@@ -338,25 +255,11 @@ pub record PartEnds (p r : Place) (found : Bool) : Type 0 where
 
 pub part-ends : (p q r : Place) (found : Bool) → q ≡ stretch_end p → sign_at q ≡ false → found ≡ is_some_mark signs (code_at q) →
     (found ≡ true → r ≡ moved q) → (found ≡ false → r ≡ q) → PartEnds p r found
-part-ends p q r true end none is goes stays =
-    let past : r ≡ moved q = goes refl in
-    record {
-      past = ap (past_data true) past ∙ sign-goes p q end none (sym is) ∙ part-past p q end none;
-      stops = λ e. cc;
-      on = λ e. subst (λ x. length (ahead_at x) < length (ahead_at p)) (sym past) (fewer-behind p q end (sym is));
-    }
-part-ends p q r false end none is goes stays =
-    let here : r ≡ q = stays refl in
-    record {
-      past = ap (past_data true) here ∙ part-past p q end none;
-      stops = λ e. subst (λ x. past_data true x ≡ x) (sym here) (other-stops p q end none (sym is));
-      on = λ e. cc;
-    }
+part-ends p q r x4 end none is goes stays = grind (arith, sign-goes, part-past, fewer-behind, other-stops)
 
 -- a reader of a part that finds no sign behind the stretch, and one that goes past a sign in no word
 pub part-stops : (p q : Place) → q ≡ stretch_end p → is_some_mark signs (code_at q) ≡ false → PartEnds p q false
-part-stops p q end none =
-    part-ends p q q false end (no-sign (code_before q) (code_at q) (code_at (moved q)) none) (sym none) (λ e. cc) (λ _. refl)
+part-stops p q end none = grind (arith, part-ends p q q false, no-sign (code_before q) (code_at q) (code_at (moved q)))
 
 pub part-goes : (p q r : Place) → q ≡ stretch_end p → is_some_mark signs (code_at q) ≡ true → sign_at q ≡ false → r ≡ moved q → PartEnds p r true
 part-goes p q r end is none goes = part-ends p q r true end none (sym is) (λ _. goes) (λ e. cc)

@@ -1,8 +1,8 @@
 -- Past one tree and then another, and past a tree of which it is known whether a run of markers stands in it.
-use Rattle.std.proofs.Common.{◌≡◌, Bool, true, false, ◌||◌, ◌==◌, if◌then◌else◌, List, [], ◌∷◌, ◌++◌, length, None, refl, sym, ap, ◌∙◌}
+use Rattle.std.proofs.Common.{◌≡◌, Bool, true, false, ◌||◌, if◌then◌else◌, List, [], ◌∷◌, ◌++◌, length, None, refl, sym, ap, ◌∙◌, arith}
 use Rattle.std.proofs.lemmas.Bool.{or_parts, or_right}
 use Rattle.markdown_content.specs.Codes.{Code}
-use Rattle.markdown_engine.specs.Operations.{ahead, is_registered, registered, resolver_number}
+use Rattle.markdown_engine.specs.Operations.{ahead, is_registered, registered}
 use Rattle.markdown_engine.specs.PastTree.{past, last_link}
 use Rattle.markdown_content.specs.Tree.{Forest, empty, leaf_then, group_then, leaf, ◌⊕◌}
 use Rattle.markdown_event.specs.declared.event.Name.{Name}
@@ -18,13 +18,11 @@ use Rattle.markdown_run_text.specs.Row.{passes_after, past_tree}
 -- Whether a run stands in a row.
 
 pub or-apart : (a b c : Bool) → (a || (b || c)) ≡ ((a || b) || c)
-or-apart true b c = refl
-or-apart false b c = refl
+or-apart x1 b c = grind arith
 
 pub has_run-row : (t u : Forest) → has_run (t ⊕ u) ≡ (has_run t || has_run u)
 has_run-row empty u = refl
-has_run-row (leaf_then name link cs rest) u =
-    ap (λ b. is_run name || b) (has_run-row rest u) ∙ or-apart (is_run name) (has_run rest) (has_run u)
+has_run-row (leaf_then name link cs rest) u = grind (arith, or-apart, has_run-row rest u)
 has_run-row (group_then name a b inside rest) u = has_run-row rest u
 
 pub quiet-runless : (t : Forest) → HasNoDataOrRuns t → IsRunless t
@@ -33,8 +31,7 @@ quiet-runless (leaf_then name link cs rest) h = (h.1.0, quiet-runless rest h.1.1
 quiet-runless (group_then name enter exit inside rest) h = (quiet-runless inside h.1.0, quiet-runless rest h.1.1)
 
 pub leaf-runless : (name : Name) (cs : List Code) → is_run name ≡ false → IsRunless (leaf name cs)
-leaf-runless name [] e = tt
-leaf-runless name (c ∷ cs) e = (e, tt)
+leaf-runless name x2 e = grind arith
 
 pub runless-no-run : (t : Forest) → IsRunless t → has_run t ≡ false
 runless-no-run empty h = refl
@@ -60,29 +57,24 @@ outer-row (group_then name a b inside rest) u h k = (h.0, outer-row rest u h.1 k
 -- a row whose groups have no run has none where none stands in it
 pub outer-runless : (t : Forest) → HasOuterRuns t → has_run t ≡ false → IsRunless t
 outer-runless empty h e = tt
-outer-runless (leaf_then name link cs rest) h e =
-    let p = or_parts (is_run name) (has_run rest) e in (p.0, outer-runless rest h p.1)
+outer-runless (leaf_then name link cs rest) h e = grind (arith, or_parts, outer-runless rest)
 outer-runless (group_then name a b inside rest) h e = (h.0, outer-runless rest h.1 e)
 
 -- The passes registered.
 
 registered-last : (ns : List ResolveName) → is_registered R.Attention (ns ++ R.Attention ∷ []) ≡ true
 registered-last [] = refl
-registered-last (n ∷ ns) =
-    or_right (resolver_number n == resolver_number R.Attention) (is_registered R.Attention (ns ++ R.Attention ∷ [])) (registered-last ns)
+registered-last (n ∷ ns) = grind (arith, or_right, registered-last ns)
 
 once : (b : Bool) (ns : List ResolveName) → is_registered R.Attention ns ≡ b →
     is_registered R.Attention (if b then ns else ns ++ R.Attention ∷ []) ≡ true
-once true ns e = e
-once false ns e = registered-last ns
+once x1 ns e = grind (arith, registered-last)
 
 stays : (ns : List ResolveName) → is_registered R.Attention ns ≡ true → passes_after true ns ≡ ns
 stays ns e = ap (λ b. if b then ns else ns ++ R.Attention ∷ []) e
 
 passes-both : (a b : Bool) (ns : List ResolveName) → passes_after b (passes_after a ns) ≡ passes_after (a || b) ns
-passes-both true true ns = stays (passes_after true ns) (once (is_registered R.Attention ns) ns refl)
-passes-both true false ns = refl
-passes-both false b ns = refl
+passes-both x1 b ns = grind (arith, stays, once)
 
 -- Past a tree.
 
@@ -90,11 +82,7 @@ passes-both false b ns = refl
 pub past-both : (t u : Forest) (T : Tokenizer) → last_link (length T.events) None t ≡ None →
     past_tree u (past_tree t T) ≡ past_tree (t ⊕ u) T
 unfolding past past_tree
-past-both t u T e =
-    let events : past None u (past None t T) ≡ past None (t ⊕ u) T = ap (λ q. past q u (past None t T)) (sym e) ∙ past-past None t u T in
-    let passes : passes_after (has_run u) (passes_after (has_run t) T.resolvers) ≡ passes_after (has_run (t ⊕ u)) T.resolvers =
-    passes-both (has_run t) (has_run u) T.resolvers ∙ ap (λ b. passes_after b T.resolvers) (sym (has_run-row t u)) in
-    λ i. record (events i) { resolvers = passes i }
+past-both t u T e = grind (arith, past-past, passes-both, has_run-row)
 
 pub past_tree-without : (t : Forest) (T : Tokenizer) → has_run t ≡ false → past None t T ≡ past_tree t T
 unfolding past past_tree
@@ -106,20 +94,16 @@ past_tree-empty T = sym (past-empty None T) ∙ past_tree-without empty T refl
 -- the pass of runs is registered past a run
 registers : (b : Bool) (T : Tokenizer) (ns : List ResolveName) →
     (if b then T else record T { resolvers = T.resolvers ++ R.Attention ∷ [] }) ≡ record T { resolvers = if b then T.resolvers else T.resolvers ++ R.Attention ∷ [] }
-registers true T ns = refl
-registers false T ns = refl
+registers x1 T ns = grind arith
 
 pub past_tree-with : (t : Forest) (T : Tokenizer) → has_run t ≡ true →
     registered R.Attention (past None t T) ≡ past_tree t T
 unfolding past past_tree registered
-past_tree-with t T e =
-    registers (is_registered R.Attention T.resolvers) (past None t T) [] ∙ (λ i. record (past None t T) { resolvers = passes_after (sym e i) T.resolvers })
+past_tree-with t T e = grind (arith, registers)
 
 registered-ahead : (b : Bool) (T U : Tokenizer) → ahead U ≡ ahead T → ahead (if b then T else U) ≡ ahead T
-registered-ahead true T U e = refl
-registered-ahead false T U e = e
+registered-ahead x1 T U e = grind arith
 
 pub ahead-registered : (n : ResolveName) (T : Tokenizer) → ahead (registered n T) ≡ ahead T
 unfolding registered
-ahead-registered n T =
-    registered-ahead (is_registered n T.resolvers) T (record T { resolvers = T.resolvers ++ n ∷ [] }) refl
+ahead-registered n T = grind (arith, registered-ahead)

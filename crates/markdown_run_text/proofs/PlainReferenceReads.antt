@@ -1,5 +1,5 @@
 -- The end of a label with a plain reference is read as the definitions read it.
-use Rattle.std.proofs.Common.{inl, inr, ◌≡◌, ◌≤◌, ℕ, suc, ◌+◌, ◌-◌, ◌==◌, ◌&&◌, ◌||◌, not, Bool, true, false, if◌then◌else◌, List, [], ◌∷◌, ◌++◌, Option, None, Some, length, slice_range, take, drop, nat_le, refl, sym, ap, subst, ◌∙◌, arith, append_assoc}
+use Rattle.std.proofs.Common.{◌≡◌, ◌≤◌, ℕ, suc, ◌+◌, ◌-◌, ◌==◌, ◌&&◌, ◌||◌, not, Bool, true, false, if◌then◌else◌, List, [], ◌∷◌, ◌++◌, Option, Some, length, nat_le, refl, sym, ap, subst, ◌∙◌, arith, append_assoc}
 use Rattle.std.specs.Prelude.{max, nat_lt, IsUtf8, ◌<◌, is_some, IsTrue}
 use Rattle.std.specs.List.{list_any}
 use Rattle.std.specs.Str.{IsCharBoundary}
@@ -14,7 +14,7 @@ use Rattle.markdown_content.specs.Codes.{Code, document_start, is_blank, is_line
 use Rattle.markdown_content.specs.Content.{has_no_blank_line}
 use Rattle.markdown_content.specs.Place.{Place, ahead_at, code_at, exit_point, moved, point_of}
 use Rattle.markdown_content.specs.Stretch.{is_free, stops, stretch}
-use Rattle.markdown_content.specs.Tree.{Forest, empty, leaf, group, ◌⊕◌}
+use Rattle.markdown_content.specs.Tree.{Forest, leaf, group, ◌⊕◌}
 use Rattle.markdown_content.specs.declared.label_kind.LabelKind.{LabelKind}
 use Rattle.markdown_event.specs.declared.event.Name.TheVariants as N
 use Rattle.markdown_event.specs.declared.event.Point.{Point}
@@ -41,7 +41,7 @@ use Rattle.markdown_plan.proofs.CharacterPlaces.{code-begins, text-places}
 use Rattle.markdown_plan.proofs.CharactersAlongContent.{text-moved}
 use Rattle.markdown_run_text.specs.PlacesPassed.{is_some_value}
 use Rattle.markdown_run_text.specs.PlainReference.{ends_here, front_stops, is_named, label_stops, name_at, names_at, past_text, reference_here, reference_read, refers_by, text_at}
-use Rattle.markdown_run_text.specs.PlainResource.{between_read, has_markers, may_make, plain_here}
+use Rattle.markdown_run_text.specs.PlainResource.{has_markers, may_make, plain_here}
 use Rattle.markdown_run_text.proofs.AttentionReads.{at-moved}
 use Rattle.markdown_run_text.proofs.ImageStarts.{first-at, some-value}
 use Rattle.markdown_run_text.proofs.LabelEndReads.{AnswersBy, EndFollows, asks-nothing, ends-where}
@@ -53,21 +53,11 @@ use Rattle.markdown_run_text.proofs.TextsBetween.{label-between, name-between}
 
 label-free : (c : Code) → stops label_stops c.value ≡ false →
     (is_value 93 c ≡ false) × ((is_value 91 c ≡ false) × ((c.value == 92) ≡ false))
-label-free c h =
-    let v : ℕ = c.value in
-    let line = or_parts (v == 10) _ h in
-    let front = or_parts (v == 91) _ line.1 in
-    let slash = or_parts (v == 92) _ front.1 in
-    let back = or_parts (v == 93) _ slash.1 in
-    (back.0, (front.0, slash.0))
+label-free c h = grind (arith, or_parts)
 
 -- what no plain text begins with, is no part of one or whitespace
 front-free : (v : ℕ) → stops front_stops v ≡ false → (stops label_stops v ≡ false) × (((v == 32 || v == 9) || v == 10) ≡ false)
-front-free v h =
-    let line = or_parts (v == 10) _ h in
-    let tab = or_parts (v == 9) _ line.1 in
-    let space = or_parts (v == 32) _ tab.1 in
-    (rw (line.0, space.1) refl, rw (space.0, tab.0, line.0) refl)
+front-free v h = grind (arith, or_parts)
 
 -- each code counts once at most
 counted-most : (characters indent : Bool) (cs : List Code) → counted characters indent cs ≤ length cs
@@ -138,15 +128,7 @@ module _ (f t : Code) (ts : List Code) (b : Code) (rest : List Code) (k : IsText
 shortcut-follows : (s : Setting) (cs : List Code) → next_is (is_value 40) cs ≡ false → next_is (is_value 91) cs ≡ false →
     EndFollows s true reference_read cs
 unfolding shortcut gives
-shortcut-follows s cs paren bracket = record {
-  tree = empty;
-  codes = [];
-  rest = cs;
-  whole = refl;
-  holds = λ (d : Bool) asked. after-other s d cs paren bracket ∙ switched-on (gives empty) d cs (asked refl);
-  covers = (tt, refl);
-  reads = λ (T : Tokenizer) (e : ahead T ≡ cs). if-false (is_some_value 91 (current_of T)) _ T (first-at 91 T.cursor ∙ ap (next_is (is_value 91)) e ∙ bracket);
-}
+shortcut-follows s cs paren bracket = grind (arith, after-other, switched-on, if-false, first-at)
 
 -- The text at a place.
 
@@ -192,10 +174,7 @@ text-of p h =
 
 -- both are between characters
 cuts-of : (bs : List ℕ) (i j : ℕ) → IsUtf8 bs → IsCharBoundary bs i → IsCharBoundary bs j → (start end : ℕ) → start ≡ i → end ≡ max j start → AreCuts bs start end
-cuts-of bs i j text from to start end e h =
-    subst (λ n. AreCuts bs n end) (sym e)
-    (subst (AreCuts bs i) (sym (h ∙ ap (max j) e))
-    (record { text = text; in_order = le-max_right j i; first = from; last = max-between bs i j from to }))
+cuts-of bs i j text from to start end e h = grind (arith, le-max_right, max-between)
 
 module _ (T : Tokenizer) (text : ReadsText T) (front : is_some_value 91 (code_at (moved T.cursor)) ≡ true) (there : text_at (moved (moved T.cursor)) ≡ true) (start end : ℕ) (from : start ≡ (point_of (moved (moved T.cursor))).index) (to : end ≡ max (exit_point (past_text (moved (moved T.cursor)))).index start) where
   pub full-cuts : AreCuts (bytes_of T) start end
@@ -242,15 +221,11 @@ module _ (T : Tokenizer) (ready : LabelEndStartReady T) (here : is_some_value 93
 
 refers-full : (T : Tokenizer) (o : Option ℕ) → is_some_value 91 o ≡ true → refers_by o T ≡ true →
     names_at (setting_in T) (moved (moved T.cursor)) ≡ true
-refers-full T None h k = cc
-refers-full T (Some v) h k = sym (if-true (v == 91) _ _ h) ∙ k
+refers-full T x2 h k = grind (arith, if-true)
 
 refers-own : (T : Tokenizer) (o : Option ℕ) → is_some_value 91 o ≡ false → refers_by o T ≡ true →
     (is_some_value 40 o ≡ false) × (is_named T.tokenize_state.label_starts T ≡ true)
-refers-own T None h k = (refl, k)
-refers-own T (Some v) h k =
-    let own : not (v == 40) && is_named T.tokenize_state.label_starts T ≡ true = sym (if-false (v == 91) _ _ h) ∙ k in
-    (not-true (v == 40) (and-left _ _ own), and-right (not (v == 40)) _ own)
+refers-own T x2 h k = grind (arith, if-false, not-true, and-left, and-right)
 
 full-here : (T : Tokenizer) → is_some_value 91 (code_at (moved T.cursor)) ≡ true → names_at (setting_in T) (moved (moved T.cursor)) ≡ true →
     EndFollows (setting_in T) false reference_read (ahead_at (moved T.cursor))
@@ -265,9 +240,7 @@ full-here T front h =
     (sym (λ i. defines s (name_between s (k.from i).index (k.to i).index)) ∙ defined))
 
 own-answers : (T : Tokenizer) (x : Code) → point_of T.cursor ≡ x.start → (ls : List Kept.LabelStart) → is_named ls T ≡ true → AnswersBy T true x ls
-own-answers T x e [] h = tt
-own-answers T x e (l ∷ ls) h = λ asked.
-    sym (ap (λ (q : Point). names_itself (setting_in T) (place_at T.events l.start.1).index q.index) e) ∙ h
+own-answers T x e x4 h = grind arith
 
 -- where one stands, it is read
 pub reference-ends : (T U : Tokenizer) → reference_here T ≡ true → U ≡ made_here (reference_read (done end_ops (ended T))) → Ends T U
@@ -302,35 +275,17 @@ reference-ends T U h left = by_test (is_some_value 91 (code_at (moved T.cursor))
 pub markers-there : (T U : Tokenizer) → reference_here T ≡ true → U ≡ done end_ops (ended T) → IsTrue (is_some_value 91 (code_at U.cursor)) →
     has_markers label_stops U.cursor ≡ true
 unfolding applied scratched
-markers-there T U h e k =
-    let p : Place = moved T.cursor in
-    let there : U.cursor ≡ p = ap (λ (x : Tokenizer). x.cursor) e in
-    let front : is_some_value 91 (code_at p) ≡ true = ap (λ q. is_some_value 91 (code_at q)) (sym there) ∙ k in
-    let named : names_at (setting_in T) (moved p) ≡ true = refers-full T (code_at p) front (and-right (ends_here T) _ h) in
-    let text : text_at (moved p) ≡ true = and-left _ _ named in
-    let back : is_some_value 93 (code_at (past_text (moved p))) ≡ true = and-left _ _ (and-right (is_free front_stops (code_at (moved p))) _ text) in
-    let first : is_some (code_at p) ≡ true = some-value 91 (code_at p) front in
-    let last : is_some (code_at (past_text (moved p))) ≡ true = some-value 93 (code_at (past_text (moved p))) back in
-    ap (has_markers label_stops) there ∙ (λ i. first i && last i)
+markers-there T U h e k = grind (arith, refers-full, and-right, and-left, some-value)
 
 -- Which of the two stands where one does, by the code behind the `]`.
 
 -- a `(` there begins no reference
 no-reference : (T : Tokenizer) → is_some_value 40 (code_at (moved T.cursor)) ≡ true → reference_here T ≡ true → ⊥
-no-reference T h k =
-    let o : Option ℕ = code_at (moved T.cursor) in
-    both_ways (is_some_value 40 o) (refers-own T o (other o h) (and-right (ends_here T) _ k)).0 h
-  where
-    other : (o : Option ℕ) → is_some_value 40 o ≡ true → is_some_value 91 o ≡ false
-    other None h = cc
-    other (Some v) h = same-value v 40 h (λ w. w == 91)
+no-reference T h k = grind (arith, both_ways, refers-own, and-right, same-value)
 
 -- a code is there
 pub bracket-here : (T : Tokenizer) → plain_here T || reference_here T ≡ true → is_some (current_of T) ≡ true
-bracket-here T h = some-value 93 (current_of T) (elim (or_cases (plain_here T) (reference_here T) h) [
-  | inl e ↦ and-left _ _ (and-right (may_make T.tokenize_state.label_starts) _ (and-right (is_on T) _ e))
-  | inr e ↦ and-right (may_make T.tokenize_state.label_starts) _ (and-right (is_on T) _ (and-left (ends_here T) _ e))
-])
+bracket-here T h = grind (arith, some-value, or_cases, and-left, and-right)
 
 module _ (T U : Tokenizer) (here : plain_here T || reference_here T ≡ true) (read : U ≡ done end_ops (ended T)) where
   next-is : is_some_value 40 (current_of U) ≡ is_some_value 40 (code_at (moved T.cursor))
@@ -338,20 +293,13 @@ module _ (T U : Tokenizer) (here : plain_here T || reference_here T ≡ true) (r
   next-is = ap (λ (x : Tokenizer). is_some_value 40 (code_at x.cursor)) read
 
   pub plain-there : is_some_value 40 (current_of U) ≡ true → plain_here T ≡ true
-  plain-there k = elim (or_cases (plain_here T) (reference_here T) here) [
-    | inl e ↦ e
-    | inr e ↦ absurd (no-reference T (sym next-is ∙ k) e)
-  ]
+  plain-there k = grind (arith, or_cases, no-reference, next-is)
 
   pub reference-there : is_some_value 40 (current_of U) ≡ false → reference_here T ≡ true
-  reference-there k = elim (or_cases (plain_here T) (reference_here T) here) [
-    | inl e ↦ absurd (both_ways (is_some_value 40 (current_of U)) k (next-is ∙ and-left (is_some_value 40 (code_at (moved T.cursor))) _ (closes-there T e)))
-    | inr e ↦ e
-  ]
+  reference-there k = grind (arith, or_cases, both_ways, next-is, and-left, closes-there)
 
 -- The scratch fields are kept.
 
 pub reference-state : (T : Tokenizer) → (reference_read T).tokenize_state ≡ T.tokenize_state
 unfolding applied
-reference-state T =
-    elim (is_some_value 91 (current_of T)) as (λ b. (if b then between_read N.Reference N.ReferenceMarker N.ReferenceString label_stops T else T).tokenize_state ≡ T.tokenize_state) [ true ↦ refl | false ↦ refl ]
+reference-state T = grind arith

@@ -1,5 +1,5 @@
 -- The end of a label with a plain resource is read as the definitions read it.
-use Rattle.std.proofs.Common.{◌≡◌, ◌≢◌, ℕ, ◌==◌, ◌&&◌, ◌||◌, not, Bool, true, false, if◌then◌else◌, List, [], ◌∷◌, ◌++◌, Option, None, Some, refl, sym, ap, subst, ◌∙◌, append_assoc, length}
+use Rattle.std.proofs.Common.{◌≡◌, ◌≢◌, ℕ, ◌==◌, ◌&&◌, ◌||◌, Bool, true, false, List, [], ◌∷◌, ◌++◌, Option, None, Some, refl, sym, ap, subst, ◌∙◌, append_assoc, length, arith}
 use Rattle.std.specs.Option.{is_some}
 use Rattle.std.proofs.lemmas.Bool.{both_ways, eq-eqb, eqb-true, not-true, or_parts}
 use Rattle.markdown_event.proofs.AndParts.{and-left, and-right}
@@ -15,28 +15,26 @@ use Rattle.markdown_event.specs.declared.event.Name.TheVariants as N
 use Rattle.markdown_content.proofs.PlaceRules.{IsAhead, ahead_some, code_at_ahead}
 use Rattle.markdown_content.proofs.StretchLemmas.{stretch-goes, stretch-stops}
 use Rattle.markdown_engine.specs.Operations.{Op, Enter, EnterLink, Exit, ahead, applied, current_of, done, scratched}
-use Rattle.markdown_engine.specs.PastTree.{behind, moved_by, passed, past}
+use Rattle.markdown_engine.specs.PastTree.{moved_by, passed, past}
 use Rattle.markdown_engine.specs.TreeOps.{consumes}
-use Rattle.markdown_engine.specs.declared.tokenizer.TokenizeState.{TokenizeState}
 use Rattle.markdown_engine.specs.declared.tokenizer.Tokenizer.{Tokenizer}
 use Rattle.markdown_engine.proofs.OperationLemmas.{ahead-done}
 use Rattle.markdown_engine.proofs.TreeEvents.{ahead-past, done-append, done-consumes}
 use Rattle.markdown_label.specs.LabelEnd.{Ends, end_ops, ended, is_on, made_here}
 use Rattle.markdown_label.specs.LabelFields.{AreOrdered}
 use Rattle.markdown_label_names.specs.LabelSetting.{setting_in}
-use Rattle.markdown_label.specs.Resource.{after_destination, after_destination_of, after_title, and_then, closes, inside, opened, or_without}
+use Rattle.markdown_label.specs.Resource.{after_destination, after_destination_of, closes, inside}
 use Rattle.markdown_label.proofs.LabelEndReadings.{after-paren}
 use Rattle.markdown_label.proofs.ResourceReadings.{grouped, resource-inside}
 use Rattle.markdown_model.specs.CodeTests.{is_among, is_between, is_control, is_value, is_whitespace_code, next_is}
-use Rattle.markdown_model.specs.Grammar.{escaped_from, gives, one, span, up_to, with_first}
+use Rattle.markdown_model.specs.Grammar.{escaped_from, gives, one, up_to}
 use Rattle.markdown_model.specs.LabelEnd.{shortcut}
-use Rattle.markdown_model.specs.Resource.{begins_title, escaped_between, is_bare_opener, destination, literal_destination, raw_destination, raw_from, resource, resource_names, string_group, title, title_between, title_names}
+use Rattle.markdown_model.specs.Resource.{escaped_between, is_bare_opener, destination, literal_destination, raw_destination, raw_from, resource, resource_names, string_group, title, title_between, title_names}
 use Rattle.markdown_model.specs.Setting.{Setting, rules}
-use Rattle.markdown_model.specs.TextLines.{linked_leaf, lines}
+use Rattle.markdown_model.specs.TextLines.{lines}
 use Rattle.markdown_model.specs.Whitespace.{space_or_tab_eol}
 use Rattle.markdown_model.proofs.GrammarSteps.{after-some, bind-none, bind-some, either-second, either-some, if-false, if-true, one-here, one-other, provided-true, span-none, span-takes}
 use Rattle.markdown_partial.proofs.WhitespaceReadings.{ending-none, spacing-none, spacing-then}
-use Rattle.markdown_partial.specs.PartialSpaceOrTabEol.{at_ending}
 use Rattle.markdown_partial.specs.LinkedText.{line_of, string}
 use Rattle.markdown_partial.specs.LinkedTreeOps.{linked_ops}
 use Rattle.markdown_partial.specs.PartialDestination.{enclosed_stops, raw_stops}
@@ -55,14 +53,7 @@ use Rattle.markdown_run_text.proofs.LabelEndReads.{EndFollows, asks-nothing, end
 -- all of it stands on one line
 on-line : (ms : List ℕ) (cs : List Code) → line_of (stretch ms cs) ≡ (stretch ms cs, [])
 on-line ms [] = refl
-on-line ms (c ∷ cs) = by_test (stops ms c.value) refl (on-line ms cs)
-  where
-    by_test : (b : Bool) → stops ms c.value ≡ b → line_of (stretch ms cs) ≡ (stretch ms cs, []) → line_of (stretch ms (c ∷ cs)) ≡ (stretch ms (c ∷ cs), [])
-    by_test true e more = subst (λ xs. line_of xs ≡ (xs, [])) (sym (stretch-stops ms c cs e)) refl
-    by_test false e more =
-        let ending : is_line_ending c ≡ false = (or_parts (c.value == 10) _ e).0 in
-        subst (λ xs. line_of xs ≡ (xs, [])) (sym (stretch-goes ms c cs e))
-        (span-takes (λ x. not (is_line_ending x)) c (stretch ms cs) (ap not ending) ∙ ap (λ (s : List Code × List Code). (c ∷ s.0, s.1)) more)
+on-line ms (c ∷ cs) = grind (arith, stretch-stops, or_parts, stretch-goes, span-takes, on-line ms cs)
 
 line-filled : (d : Code) → is_line_ending d ≡ false → has_no_blank_line true (d ∷ []) ≡ true
 line-filled d h = ap (λ b. elim b as (λ _. Bool) [ true ↦ has_no_blank_line false [] | false ↦ has_no_blank_line true [] ]) h
@@ -70,14 +61,7 @@ line-filled d h = ap (λ b. elim b as (λ _. Bool) [ true ↦ has_no_blank_line 
 pub no-blank-line : (ms : List ℕ) (cs : List Code) (d : Code) → is_line_ending d ≡ false →
     has_no_blank_line true (stretch ms cs ++ d ∷ []) ≡ true
 no-blank-line ms [] d h = line-filled d h
-no-blank-line ms (c ∷ cs) d h = by_test (stops ms c.value) refl (line-filled d h) (no-blank-line ms cs d h)
-  where
-    by_test : (b : Bool) → stops ms c.value ≡ b → has_no_blank_line true (d ∷ []) ≡ true → has_no_blank_line true (stretch ms cs ++ d ∷ []) ≡ true → has_no_blank_line true (stretch ms (c ∷ cs) ++ d ∷ []) ≡ true
-    by_test true e here more = ap (λ xs. has_no_blank_line true (xs ++ d ∷ [])) (stretch-stops ms c cs e) ∙ here
-    by_test false e here more =
-        ap (λ xs. has_no_blank_line true (xs ++ d ∷ [])) (stretch-goes ms c cs e)
-        ∙ ap (λ b. elim b as (λ _. Bool) [ true ↦ has_no_blank_line false (stretch ms cs ++ d ∷ []) | false ↦ has_no_blank_line true (stretch ms cs ++ d ∷ []) ]) (or_parts (c.value == 10) _ e).0
-        ∙ more
+no-blank-line ms (c ∷ cs) d h = grind (arith, line-filled, stretch-stops, stretch-goes, or_parts, no-blank-line ms cs d)
 
 -- A text that these bytes stop, its first code, and the codes behind it.
 
@@ -88,12 +72,7 @@ pub record IsTextStretch (ms : List ℕ) (t : Code) (ts rest : List Code) : Type
 -- its leaf is data
 pub one-line : (ms : List ℕ) (t : Code) (ts rest : List Code) → IsTextStretch ms t ts rest →
     lines N.Data string (t ∷ ts) ≡ linked N.Data (t ∷ ts)
-one-line ms t ts rest k =
-    let line : line_of (t ∷ ts) ≡ (t ∷ ts, []) = subst (λ xs. line_of xs ≡ (xs, [])) k.text (on-line ms ((t ∷ ts) ++ rest)) in
-    let ending : is_line_ending t ≡ false = (or_parts (t.value == 10) _ k.first).0 in
-    let more : line_of ts ≡ (ts, []) = ap (λ (s : List Code × List Code). (rest_of s.0, s.1)) (sym (span-takes (λ x. not (is_line_ending x)) t ts (ap not ending)) ∙ line) in
-    lines-data t ts ending
-    ∙ ap (λ (s : List Code × List Code). linked_leaf N.Data string (t ∷ s.0) ⊕ lines N.Data string s.1) more
+one-line ms t ts rest k = grind (arith, on-line, or_parts, span-takes, lines-data)
 
 -- A text with escapes, in which none stands.
 
@@ -101,30 +80,12 @@ module _ (stop takes refuses : Code → Bool) (ms : List ℕ) (free : (c : Code)
   plain-text : (cs rest : List Code) (b : Code) → cs ≡ stretch ms cs ++ b ∷ rest → stop b ≡ true →
       escaped_from stop takes refuses false cs ≡ Some (stretch ms cs, b ∷ rest)
   plain-text [] rest b e h = cc
-  plain-text (c ∷ cs) rest b e h = by_test (stops ms c.value) refl (λ k. plain-text cs rest b k h)
-    where
-      by_test : (t : Bool) → stops ms c.value ≡ t → (cs ≡ stretch ms cs ++ b ∷ rest → escaped_from stop takes refuses false cs ≡ Some (stretch ms cs, b ∷ rest))
-          → escaped_from stop takes refuses false (c ∷ cs) ≡ Some (stretch ms (c ∷ cs), b ∷ rest)
-      by_test true k more =
-          let none : stretch ms (c ∷ cs) ≡ [] = stretch-stops ms c cs k in
-          let here : c ∷ cs ≡ b ∷ rest = e ∙ ap (λ xs. xs ++ b ∷ rest) none in
-          ap (escaped_from stop takes refuses false) here
-          ∙ text-stops stop takes refuses false b rest refl h
-          ∙ ap (λ xs. Some (xs, b ∷ rest)) (sym none)
-      by_test false k more =
-          let p = free c k in
-          let goes : stretch ms (c ∷ cs) ≡ c ∷ stretch ms cs = stretch-goes ms c cs k in
-          let tail : cs ≡ stretch ms cs ++ b ∷ rest = ap rest_of (e ∙ ap (λ xs. xs ++ b ∷ rest) goes) in
-          text-next stop takes refuses false c cs refl p.0 p.1.0
-          ∙ ap (λ x. with_first c (escaped_from stop takes refuses x cs)) p.1.1
-          ∙ ap (with_first c) (more tail)
-          ∙ ap (λ xs. Some (xs, b ∷ rest)) (sym goes)
+  plain-text (c ∷ cs) rest b e h = grind (arith, stretch-stops, text-stops, stretch-goes, text-next, plain-text cs rest b)
 
   pub text-is : (t : Code) (ts : List Code) (b : Code) (rest : List Code) → IsTextStretch ms t ts (b ∷ rest) → stop b ≡ true →
       up_to stop takes refuses ((t ∷ ts) ++ b ∷ rest) ≡ Some (t ∷ ts, b ∷ rest)
   unfolding up_to
-  text-is t ts b rest k h =
-      plain-text ((t ∷ ts) ++ b ∷ rest) rest b (ap (λ xs. xs ++ b ∷ rest) (sym k.text)) h ∙ ap (λ xs. Some (xs, b ∷ rest)) k.text
+  text-is t ts b rest k h = grind (arith, plain-text ((t ∷ ts) ++ b ∷ rest) rest b)
 
 -- The trees, and the operations that pass them.
 
@@ -145,14 +106,11 @@ title_tree f w b = between_tree N.ResourceTitle N.ResourceTitleMarker N.Resource
 
 between-row : (marker text : Name) (f t : Code) (ts : List Code) (b : Code) →
     CoversRow (between_row marker text f (t ∷ ts) b) (f ∷ ((t ∷ ts) ++ b ∷ []))
-between-row marker text f t ts b =
-    Row-leaf marker (f ∷ []) (f ∷ []) ((t ∷ ts) ++ b ∷ []) (group text (linked N.Data (t ∷ ts)) ⊕ leaf marker (b ∷ [])) refl
-    (Row-group text (t ∷ ts) (b ∷ []) (linked N.Data (t ∷ ts)) (leaf marker (b ∷ [])) (λ e. cc) (Row-linked N.Data (t ∷ ts) (t ∷ ts) refl) (Row-last marker (b ∷ []) (b ∷ []) refl))
+between-row marker text f t ts b = grind (arith, Row-leaf marker (f ∷ []) (f ∷ []) ((t ∷ ts) ++ b ∷ []) (group text (linked N.Data (t ∷ ts)) ⊕ leaf marker (b ∷ [])), Row-group text (t ∷ ts) (b ∷ []) (linked N.Data (t ∷ ts)) (leaf marker (b ∷ [])), Row-linked N.Data (t ∷ ts) (t ∷ ts), Row-last marker (b ∷ []) (b ∷ []))
 
 pub between-covers : (whole marker text : Name) (f t : Code) (ts : List Code) (b : Code) →
     CoversRow (between_tree whole marker text f (t ∷ ts) b) (f ∷ ((t ∷ ts) ++ b ∷ []))
-between-covers whole marker text f t ts b =
-    Row-whole whole (f ∷ ((t ∷ ts) ++ b ∷ [])) (between_row marker text f (t ∷ ts) b) (λ e. cc) (between-row marker text f t ts b)
+between-covers whole marker text f t ts b = grind (arith, Row-whole whole (f ∷ ((t ∷ ts) ++ b ∷ [])) (between_row marker text f (t ∷ ts) b), between-row marker text f t ts b)
 
 ops-group : (n : Name) (t u : Forest) → linked_ops false (group n t ⊕ u) ≡ linked_ops false (group n t) ++ linked_ops false u
 ops-group n t u = ap (λ os. Enter n ∷ os) (sym (append_assoc (linked_ops false t) (Exit n ∷ []) (linked_ops false u)))
@@ -182,8 +140,7 @@ text-reads name ms t ts rest T k e =
 
 -- one part after another
 three-done : (xs ys zs : List Op) (T U V : Tokenizer) → U ≡ done xs T → V ≡ done ys U → done zs V ≡ done (xs ++ (ys ++ zs)) T
-three-done xs ys zs T U V e h =
-    ap (done zs) (h ∙ ap (done ys) e) ∙ sym (done-append xs (ys ++ zs) T ∙ done-append ys zs (done xs T))
+three-done xs ys zs T U V e h = grind (arith, done-append)
 
 pub between-reads : (whole marker text : Name) (ms : List ℕ) (f t : Code) (ts : List Code) (b : Code) (rest : List Code) (T : Tokenizer) →
     IsTextStretch ms t ts (b ∷ rest) → ahead T ≡ f ∷ ((t ∷ ts) ++ b ∷ rest) →
@@ -213,13 +170,7 @@ record IsResourceTarget (cs rest : List Code) : Type 0 where
 
 enclosed-free : (c : Code) → stops enclosed_stops c.value ≡ false →
     (is_value 62 c ≡ false) × ((is_value 60 c || is_line_ending c ≡ false) × ((c.value == 92) ≡ false))
-enclosed-free c h =
-    let v : ℕ = c.value in
-    let line = or_parts (v == 10) _ h in
-    let front = or_parts (v == 60) _ line.1 in
-    let back = or_parts (v == 62) _ front.1 in
-    let slash = or_parts (v == 92) _ back.1 in
-    (back.0, (rw (front.0, line.0) refl, slash.0))
+enclosed-free c h = grind (arith, or_parts)
 
 abbrev enclosed_refuses : Code → Bool
 enclosed_refuses c = is_value 60 c || is_line_ending c
@@ -268,8 +219,7 @@ module _ (f t : Code) (ts : List Code) (b : Code) (rest : List Code) (k : IsText
 
 -- a tab is a control
 no-tab : (v : ℕ) → is_between 1 31 v ≡ false → (b : Bool) → (v == 9) ≡ b → (v == 9) ≡ false
-no-tab v h false e = e
-no-tab v h true e = absurd (both_ways (is_between 1 31 v) h (same-value v 9 e (is_between 1 31)))
+no-tab v h x3 e = grind (arith, both_ways, same-value)
 
 -- a code that does not stop a destination without brackets
 record IsRawCode (c : Code) : Type 0 where
@@ -282,24 +232,7 @@ record IsRawCode (c : Code) : Type 0 where
   slash : (c.value == 92) ≡ false
 
 plain-code : (c : Code) → stops raw_stops c.value ≡ false → IsRawCode c
-plain-code c h =
-    let v : ℕ = c.value in
-    let line = or_parts (v == 10) _ h in
-    let space = or_parts (v == 32) _ line.1 in
-    let opening = or_parts (v == 40) _ space.1 in
-    let close = or_parts (v == 41) _ opening.1 in
-    let slash = or_parts (v == 92) _ close.1 in
-    let control = no-control v slash.1 in
-    let tab : (v == 9) ≡ false = no-tab v control.0 _ refl in
-    record {
-      blank = rw (space.0, tab) refl;
-      ending = line.0;
-      stays = rw (space.0, tab, line.0, close.0) refl;
-      control = rw (control.0, control.1) refl;
-      opening = opening.0;
-      close = close.0;
-      slash = slash.0;
-    }
+plain-code c h = grind (arith, or_parts, no-control, no-tab)
 
 -- a code before which it ends
 abbrev ends_raw : Code → Bool
@@ -308,24 +241,7 @@ ends_raw b = is_whitespace_code b || (is_value 41 b && true)
 raw-text : (cs rest : List Code) (b : Code) → cs ≡ stretch raw_stops cs ++ b ∷ rest → ends_raw b ≡ true →
     raw_from 32 false 0 cs ≡ Some (stretch raw_stops cs, b ∷ rest)
 raw-text [] rest b e h = cc
-raw-text (c ∷ cs) rest b e h = by_test (stops raw_stops c.value) refl (λ k. raw-text cs rest b k h)
-  where
-    by_test : (t : Bool) → stops raw_stops c.value ≡ t → (cs ≡ stretch raw_stops cs ++ b ∷ rest → raw_from 32 false 0 cs ≡ Some (stretch raw_stops cs, b ∷ rest))
-        → raw_from 32 false 0 (c ∷ cs) ≡ Some (stretch raw_stops (c ∷ cs), b ∷ rest)
-    by_test true k more =
-        let none : stretch raw_stops (c ∷ cs) ≡ [] = stretch-stops raw_stops c cs k in
-        let here : c ∷ cs ≡ b ∷ rest = e ∙ ap (λ xs. xs ++ b ∷ rest) none in
-        ap (raw_from 32 false 0) here
-        ∙ raw-stop 32 0 b rest h refl
-        ∙ ap (λ xs. Some (xs, b ∷ rest)) (sym none)
-    by_test false k more =
-        let p : IsRawCode c = plain-code c k in
-        let goes : stretch raw_stops (c ∷ cs) ≡ c ∷ stretch raw_stops cs = stretch-goes raw_stops c cs k in
-        let tail : cs ≡ stretch raw_stops cs ++ b ∷ rest = ap rest_of (e ∙ ap (λ xs. xs ++ b ∷ rest) goes) in
-        raw-next 32 0 c cs p.stays p.control p.opening p.close
-        ∙ ap (λ x. with_first c (raw_from 32 x 0 cs)) p.slash
-        ∙ ap (with_first c) (more tail)
-        ∙ ap (λ xs. Some (xs, b ∷ rest)) (sym goes)
+raw-text (c ∷ cs) rest b e h = grind (arith, stretch-stops, raw-stop, plain-code, stretch-goes, raw-next, raw-text cs rest b)
 
 module _ (t : Code) (ts : List Code) (b : Code) (rest : List Code) (k : IsTextStretch raw_stops t ts (b ∷ rest)) (bare : is_value 60 t ≡ false) (back : ends_raw b ≡ true) where
   abbrev raw : List Code
@@ -410,21 +326,11 @@ module _ (b : Code) (rest : List Code) (back : is_value 41 b ≡ true) where
 
 -- what holds of both quotes
 of-quote : (v : ℕ) (P : ℕ → Type 0) → is_quote v ≡ true → P 34 → P 39 → P v
-of-quote v P h x y = by_test (v == 34) (v == 39) refl refl h
-  where
-    by_test : (a b : Bool) → (v == 34) ≡ a → (v == 39) ≡ b → a || b ≡ true → P v
-    by_test true b e k l = subst P (sym (eqb-true v 34 e)) x
-    by_test false true e k l = subst P (sym (eqb-true v 39 k)) y
-    by_test false false e k l = cc
+of-quote v P h x y = grind (arith, eqb-true)
 
 title-free : (m : ℕ) (c : Code) → stops (m ∷ 92 ∷ []) c.value ≡ false →
     (is_value m c ≡ false) × ((is_bare_opener false m c ≡ false) × ((c.value == 92) ≡ false))
-title-free m c h =
-    let v : ℕ = c.value in
-    let line = or_parts (v == 10) _ h in
-    let quote = or_parts (v == m) _ line.1 in
-    let slash = or_parts (v == 92) _ quote.1 in
-    (quote.0, (refl, slash.0))
+title-free m c h = grind (arith, or_parts)
 
 module _ (m : ℕ) (f t : Code) (ts : List Code) (b : Code) (rest : List Code) (k : IsTextStretch (m ∷ 92 ∷ []) t ts (b ∷ rest)) (front : is_value m f ≡ true) (back : is_value m b ≡ true) (line : is_line_ending b ≡ false) where
   abbrev quoted : List Code
@@ -454,13 +360,7 @@ TitleIs both f t ts b rest v =
 title-is : (both : Bool) (f t : Code) (ts : List Code) (b : Code) (rest : List Code) (v : ℕ) → is_quote v ≡ true →
     TitleIs both f t ts b rest v
 unfolding TitleIs title
-title-is both f t ts b rest v h =
-    let cs : List Code = f ∷ ((t ∷ ts) ++ b ∷ rest) in
-    of-quote v (TitleIs both f t ts b rest) h
-    (λ k front back. either-some _ _ cs _ (title-between 34 f t ts b rest k front back (same-value b.value 34 back (λ v. v == 10))))
-    (λ k front back.
-    either-second _ _ cs (between-none 34 f _ (same-value f.value 39 front (λ v. v == 34)))
-    ∙ either-some _ _ cs _ (title-between 39 f t ts b rest k front back (same-value b.value 39 back (λ v. v == 10))))
+title-is both f t ts b rest v h = grind (arith, of-quote, either-some, title-between, same-value, either-second, between-none)
 
 -- so behind a space or a tab, and before a `)`
 module _ (s f t : Code) (ts : List Code) (b z : Code) (rest : List Code) (blank : is_blank s ≡ true) (quote : is_quote f.value ≡ true) (k : IsTextStretch (title_stops f.value) t ts (b ∷ z ∷ rest)) (back : is_value f.value b ≡ true) (close : is_value 41 z ≡ true) where
@@ -470,27 +370,12 @@ module _ (s f t : Code) (ts : List Code) (b z : Code) (rest : List Code) (blank 
   abbrev titled_row : Forest
   titled_row = leaf N.SpaceOrTab (s ∷ []) ⊕ (title_tree f (t ∷ ts) b ⊕ leaf N.ResourceMarker (z ∷ []))
 
-  abbrev Q : (ℕ → Bool) → ℕ → Type 0
-  Q p v = p v ≡ false
-
   space-is : space_or_tab_eol None (s ∷ text) ≡ Some (leaf N.SpaceOrTab (s ∷ []), text)
-  space-is =
-      let none : next_is is_blank text ≡ false = of-quote f.value (Q (λ v. v == 32 || v == 9)) quote refl refl in
-      let ending : next_is is_line_ending text ≡ false = of-quote f.value (Q (λ v. v == 10)) quote refl refl in
-      let one_blank : span is_blank (s ∷ text) ≡ (s ∷ [], text) = span-takes is_blank s text blank ∙ ap (λ (x : List Code × List Code). (s ∷ x.0, x.1)) (span-none is_blank text none) in
-      spacing-then None (s ∷ text) blank
-      ∙ ap (λ (x : List Code × List Code). behind (linked_leaf N.SpaceOrTab None x.0) (at_ending None true x.1)) one_blank
-      ∙ ap (behind (linked_leaf N.SpaceOrTab None (s ∷ []))) (ending-none None true text ending)
+  space-is = grind (arith, of-quote, span-takes, span-none, spacing-then, ending-none)
 
   titled-holds : (both : Bool) → after_destination both (s ∷ text) ≡ Some (titled_row, rest)
   unfolding TitleIs
-  titled-holds both =
-      let begins : begins_title text ≡ true = of-quote f.value (λ v. (v == 34 || (v == 39 || (v == 40 || false))) ≡ true) quote refl refl in
-      ap (λ o. after_destination_of both o (s ∷ text)) space-is
-      ∙ ap (behind (leaf N.SpaceOrTab (s ∷ [])))
-      (if-true (begins_title text) (and_then (title both title_names text) after_title) (closes text) begins
-      ∙ ap (λ o. and_then o after_title) (title-is both f t ts b (z ∷ rest) f.value quote k (eq-eqb f.value f.value refl) back)
-      ∙ ap (behind (title_tree f (t ∷ ts) b)) (ap (λ o. or_without o closes (z ∷ rest)) (closed-here z rest close) ∙ closes-is z rest close))
+  titled-holds both = grind (arith, of-quote, space-is, if-true, title-is, eq-eqb, closed-here, closes-is)
 
   titled-reads : (T : Tokenizer) → ahead T ≡ s ∷ text →
       tail_read T ≡ done (linked_ops false titled_row) T
@@ -550,19 +435,13 @@ module _ (a : Code) (cs behind_it : List Code) (front : is_value 40 a ≡ true) 
   spacing-before = spacing-none None cs target.blank ∙ ending-none None false cs target.ending
 
   inside-is : (both : Bool) → inside both cs ≡ Some (destination_tree ⊕ tail.row, tail.rest)
-  inside-is both =
-      ap (λ o. or_without o (opened both) cs) spacing-before
-      ∙ if-false (next_is (is_value 41) cs) _ _ target.close
-      ∙ ap (λ o. and_then o (after_destination both)) target.holds
-      ∙ ap (behind destination_tree) (tail.holds both)
+  inside-is both = grind (arith, spacing-before, if-false)
 
   resource-is : (both : Bool) → resource both (a ∷ cs) ≡ Some (group N.Resource row, tail.rest)
   resource-is both = resource-inside both a cs front ∙ ap (grouped a) (inside-is both)
 
   row-covers : CoversRow row (a ∷ (target.codes ++ tail.codes))
-  row-covers =
-      Row-leaf N.ResourceMarker (a ∷ []) (a ∷ []) (target.codes ++ tail.codes) (destination_tree ⊕ tail.row) refl
-      (Row-group N.ResourceDestination target.codes tail.codes target.tree tail.row target.some target.covers tail.covers)
+  row-covers = grind (arith, Row-leaf N.ResourceMarker (a ∷ []) (a ∷ []) (target.codes ++ tail.codes) (destination_tree ⊕ tail.row), Row-group N.ResourceDestination target.codes tail.codes target.tree tail.row)
 
   row-codes : a ∷ cs ≡ leaf_codes row ++ tail.rest
   row-codes =
@@ -614,8 +493,7 @@ module _ (a : Code) (cs behind_it : List Code) (front : is_value 40 a ≡ true) 
 -- By what stands at the place.
 
 pub value-here : (n : ℕ) (o : Option ℕ) → is_some_value n o ≡ true → o ≡ Some n
-value-here n None h = cc
-value-here n (Some v) h = ap (λ m. Some m) (eqb-true v n h)
+value-here n x2 h = grind (arith, eqb-true)
 
 -- the code at the place has this value
 pub code-here : (n : ℕ) (p : Place) → is_some_value n (code_at p) ≡ true → IsAhead p n
@@ -627,8 +505,7 @@ pub record IsFreeOf (ms : List ℕ) (o : Option ℕ) : Type 0 where
   pub free : stops ms value ≡ false
 
 pub free-here : (ms : List ℕ) (o : Option ℕ) → is_free ms o ≡ true → IsFreeOf ms o
-free-here ms None h = cc
-free-here ms (Some v) h = record { value = v; is = refl; free = not-true (stops ms v) h }
+free-here ms x2 h = grind (arith, not-true)
 
 -- text stands at the place
 pub record TextAt (ms : List ℕ) (p : Place) : Type 0 where
@@ -664,19 +541,7 @@ pub record EndsText (ms : List ℕ) (v : ℕ) (p : Place) : Type 0 where
   pub closes : back.value ≡ v
 
 pub ends-text : (ms : List ℕ) (v : ℕ) (p : Place) → is_free ms (code_at p) ≡ true → code_at (past_stretch ms p) ≡ Some v → EndsText ms v p
-ends-text ms v p h e =
-    let t : TextAt ms p = text-at ms p h in
-    let b : IsAhead (past_stretch ms p) v = ahead_some (past_stretch ms p) v e in
-    let codes : ahead_at p ≡ (t.first ∷ t.more) ++ b.code ∷ ahead_at (moved (past_stretch ms p)) = t.codes ∙ ap (λ xs. (t.first ∷ t.more) ++ xs) b.codes in
-    record {
-      first = t.first;
-      more = t.more;
-      back = b.code;
-      behind = b.codes;
-      codes = codes;
-      text = record { text = ap (stretch ms) (sym codes) ∙ t.text; first = t.free };
-      closes = b.value;
-    }
+ends-text ms v p h e = grind (arith, text-at ms p, ahead_some (past_stretch ms p) v)
 
 pub value-is : (c : Code) (n : ℕ) → c.value ≡ n → is_value n c ≡ true
 value-is c n e = eq-eqb c.value n e
@@ -693,29 +558,13 @@ record IsBlank (o : Option ℕ) : Type 0 where
   blank : value == 32 || value == 9 ≡ true
 
 blank-here : (o : Option ℕ) → is_some_blank o ≡ true → IsBlank o
-blank-here None h = cc
-blank-here (Some v) h = record { value = v; is = refl; blank = h }
+blank-here x1 h = grind arith
 
 or-true : (a : Bool) → (a || true) ≡ true
-or-true true = refl
-or-true false = refl
+or-true x1 = grind arith
 
 tail-begins : (p : Place) → tail_at p ≡ true → BeginsTail p
-tail-begins p h = by_test (closes_at p) refl h
-  where
-    by_test : (b : Bool) → closes_at p ≡ b → b || (title_at p && closes_at (past_title p)) ≡ true → BeginsTail p
-    by_test true e k = record {
-      value = 41;
-      is = value-here 41 (code_at p) e;
-      ends = λ (c : Code) (same : c.value ≡ 41). ap (λ x. is_whitespace_code c || (x && true)) (value-is c 41 same) ∙ or-true (is_whitespace_code c);
-    }
-    by_test false e k =
-        let s : IsBlank (code_at p) = blank-here (code_at p) (and-left _ _ (and-left _ _ k)) in
-        record {
-          value = s.value;
-          is = s.is;
-          ends = λ (c : Code) (same : c.value ≡ s.value). ap (λ x. (x || is_line_ending c) || (is_value 41 c && true)) (ap (λ v. v == 32 || v == 9) same ∙ s.blank);
-        }
+tail-begins p h = grind (arith, value-here, value-is, or-true, blank-here, and-left)
 
 target-at : (p : Place) → destination_at p ≡ true → BeginsTail (past_destination p) →
     IsResourceTarget (ahead_at p) (ahead_at (past_destination p))
@@ -743,14 +592,7 @@ target-at p h k = by_test (begins_enclosed p) refl
 
 titled-by : (p : Place) (v w : ℕ) (s : IsAhead p w) (f : IsAhead (moved p) v) (x : EndsText (title_stops v) v (moved (moved p))) (z : IsAhead (past_between (title_stops v) (moved p)) 41) →
     w == 32 || w == 9 ≡ true → is_quote v ≡ true → IsResourceTail (ahead_at p)
-titled-by p v w s f x z blank quote =
-    let rest : List Code = ahead_at (moved (past_between (title_stops v) (moved p))) in
-    subst IsResourceTail
-    (sym (s.codes ∙ ap (λ xs. s.code ∷ xs) (f.codes ∙ ap (λ xs. f.code ∷ xs) (x.codes ∙ ap (λ ys. (x.first ∷ x.more) ++ x.back ∷ ys) z.codes))))
-    (titled-tail s.code f.code x.first x.more x.back z.code rest (ap (λ n. n == 32 || n == 9) s.value ∙ blank) (ap is_quote f.value ∙ quote)
-    (subst (λ n. IsTextStretch (title_stops n) x.first x.more (x.back ∷ z.code ∷ rest)) (sym f.value) (subst (λ ys. IsTextStretch (title_stops v) x.first x.more (x.back ∷ ys)) z.codes x.text))
-    (value-is x.back f.code.value (x.closes ∙ sym f.value))
-    (value-is z.code 41 z.value))
+titled-by p v w s f x z blank quote = grind (arith, titled-tail, value-is)
 
 titled-some : (p : Place) (v : ℕ) → code_at (moved p) ≡ Some v → is_some_blank (code_at p) ≡ true →
     quoted_at (Some v) (moved p) ≡ true → closes_at (past_quoted (Some v) (moved p)) ≡ true → IsResourceTail (ahead_at p)
@@ -762,40 +604,21 @@ titled-some p v e blank quote close =
     (code-here 41 (past_between (title_stops v) (moved p)) close) b.blank (and-left (is_quote v) _ quote)
 
 quote-some : (o : Option ℕ) (q : Place) → quoted_at o q ≡ true → is_some o ≡ true
-quote-some None q h = h
-quote-some (Some v) q h = refl
+quote-some x1 q h = grind arith
 
 value-of : (o : Option ℕ) → is_some o ≡ true → (v : ℕ) × (o ≡ Some v)
-value-of None h = cc
-value-of (Some v) h = (v, refl)
+value-of x1 h = grind arith
 
 titled-at : (p : Place) → title_at p ≡ true → closes_at (past_title p) ≡ true → IsResourceTail (ahead_at p)
-titled-at p h close =
-    let quote : quoted_at (code_at (moved p)) (moved p) ≡ true = and-right (is_some_blank (code_at p)) _ h in
-    let v = value-of (code_at (moved p)) (quote-some (code_at (moved p)) (moved p) quote) in
-    titled-some p v.0 v.1 (and-left (is_some_blank (code_at p)) _ h)
-    (subst (λ o. quoted_at o (moved p) ≡ true) v.1 quote)
-    (subst (λ o. closes_at (past_quoted o (moved p)) ≡ true) v.1 close)
+titled-at p h close = grind (arith, and-right, value-of, quote-some, titled-some, and-left)
 
 tail-here : (p : Place) → tail_at p ≡ true → IsResourceTail (ahead_at p)
-tail-here p h = by_test (closes_at p) refl h
-  where
-    by_test : (b : Bool) → closes_at p ≡ b → b || (title_at p && closes_at (past_title p)) ≡ true → IsResourceTail (ahead_at p)
-    by_test true e k =
-        let b : IsAhead p 41 = code-here 41 p e in
-        subst IsResourceTail (sym b.codes) (closing-tail b.code (ahead_at (moved p)) (value-is b.code 41 b.value))
-    by_test false e k =
-        titled-at p (and-left (title_at p) _ k) (and-right (title_at p) _ k)
+tail-here p h = grind (arith, code-here 41 p, closing-tail, value-is, titled-at p, and-left (title_at p), and-right (title_at p))
 
 -- a resource stands at the place
 resource-here : (s : Setting) (p : Place) → is_some_value 40 (code_at p) ≡ true → closes_behind (moved p) ≡ true →
     EndFollows s false resource_read (ahead_at p)
-resource-here s p front h =
-    let a : IsAhead p 40 = code-here 40 p front in
-    let q : Place = past_destination (moved p) in
-    let tail : tail_at q ≡ true = and-right (destination_at (moved p)) _ h in
-    subst (EndFollows s false resource_read) (sym a.codes)
-    (resource-follows-by a.code (ahead_at (moved p)) (ahead_at q) (value-is a.code 40 a.value) (target-at (moved p) (and-left _ _ h) (tail-begins q tail)) (tail-here q tail) s)
+resource-here s p front h = grind (arith, code-here 40 p, and-right (destination_at (moved p)), resource-follows-by, value-is, target-at (moved p), and-left, tail-begins, tail-here)
 
 -- where one stands, it is read
 pub plain-ends : (T U : Tokenizer) → plain_here T ≡ true → U ≡ made_here (resource_read (done end_ops (ended T))) → Ends T U
@@ -818,14 +641,12 @@ ended-is T U n e k = k ∙ ap (λ m. done end_ops (record T { tokenize_state = r
 
 pub closes-there : (T : Tokenizer) → plain_here T ≡ true →
     is_some_value 40 (code_at (moved T.cursor)) && closes_behind (moved (moved T.cursor)) ≡ true
-closes-there T h =
-    and-right (is_some_value 93 (code_at T.cursor)) _ (and-right (may_make T.tokenize_state.label_starts) _ (and-right (is_on T) _ h))
+closes-there T h = grind (arith, and-right)
 
 pub resource-follows : (T U : Tokenizer) → plain_here T ≡ true → U ≡ done end_ops (ended T) →
     is_some_value 40 (current_of U) && closes_behind (moved U.cursor) ≡ true
 unfolding applied scratched
-resource-follows T U h e =
-    ap (λ (x : Tokenizer). is_some_value 40 (code_at x.cursor) && closes_behind (moved x.cursor)) e ∙ closes-there T h
+resource-follows T U h e = grind (arith, closes-there)
 
 -- and so do its parts
 
@@ -833,52 +654,37 @@ pub destination-follows : (T U : Tokenizer) → is_some_value 40 (current_of T) 
     U ≡ done (marker_ops N.ResourceMarker) (with_enter N.Resource None (point_of T.cursor) T) →
     destination_at U.cursor ≡ true
 unfolding applied
-destination-follows T U h e =
-    ap (λ (x : Tokenizer). destination_at x.cursor) e ∙ and-left (destination_at (moved T.cursor)) _ (and-right (is_some_value 40 (current_of T)) _ h)
+destination-follows T U h e = grind (arith, and-left, and-right)
 
 past-target : (T : Tokenizer) → (destination_read T).cursor ≡ past_destination T.cursor
 unfolding applied
-past-target T =
-    let U : Tokenizer = applied (Enter N.ResourceDestination) T in
-    elim (begins_enclosed T.cursor) as (λ b. (applied (Exit N.ResourceDestination) (if b then enclosed_read U else raw_read U)).cursor ≡ (if b then past_between enclosed_stops T.cursor else past_stretch raw_stops T.cursor)) [ true ↦ refl | false ↦ refl ]
+past-target T = grind arith
 
 pub tail-follows : (T U V : Tokenizer) → is_some_value 40 (current_of T) && closes_behind (moved T.cursor) ≡ true →
     U ≡ done (marker_ops N.ResourceMarker) (with_enter N.Resource None (point_of T.cursor) T) → V ≡ destination_read U →
     tail_at V.cursor ≡ true
 unfolding applied
-tail-follows T U V h e k =
-    ap (λ (x : Tokenizer). tail_at x.cursor) k
-    ∙ ap tail_at (past-target U)
-    ∙ ap (λ (x : Tokenizer). tail_at (past_destination x.cursor)) e
-    ∙ and-right (destination_at (moved T.cursor)) _ (and-right (is_some_value 40 (current_of T)) _ h)
+tail-follows T U V h e k = grind (arith, past-target, and-right)
 
 -- The scratch fields are kept.
 
 target-state : (T : Tokenizer) → (destination_read T).tokenize_state ≡ T.tokenize_state
 unfolding applied
-target-state T =
-    let U : Tokenizer = applied (Enter N.ResourceDestination) T in
-    elim (begins_enclosed T.cursor) as (λ b. (applied (Exit N.ResourceDestination) (if b then enclosed_read U else raw_read U)).tokenize_state ≡ T.tokenize_state) [ true ↦ refl | false ↦ refl ]
+target-state T = grind arith
 
 quoted-state : (o : Option ℕ) (T : Tokenizer) → (quoted_read o T).tokenize_state ≡ T.tokenize_state
 unfolding applied
-quoted-state None T = refl
-quoted-state (Some v) T = refl
+quoted-state x1 T = grind arith
 
 tail-state : (T : Tokenizer) → (tail_read T).tokenize_state ≡ T.tokenize_state
 unfolding applied
-tail-state T =
-    let U : Tokenizer = done (marker_ops N.SpaceOrTab) T in
-    elim (closes_at T.cursor) as (λ b. (done (marker_ops N.ResourceMarker) (if b then T else title_read T)).tokenize_state ≡ T.tokenize_state) [ true ↦ refl | false ↦ quoted-state (current_of U) U ]
+tail-state T = grind (arith, quoted-state)
 
 pub resource-state : (T : Tokenizer) → (resource_read T).tokenize_state ≡ T.tokenize_state
 unfolding applied
-resource-state T =
-    let U : Tokenizer = done (marker_ops N.ResourceMarker) (with_enter N.Resource None (point_of T.cursor) T) in
-    tail-state (destination_read U) ∙ target-state U
+resource-state T = grind (arith, tail-state, target-state)
 
 pub ordered-there : (T U V : Tokenizer) → AreOrdered T.tokenize_state.label_starts → U ≡ done end_ops (ended T) →
     V.tokenize_state ≡ U.tokenize_state → AreOrdered V.tokenize_state.label_starts
 unfolding applied scratched
-ordered-there T U V k e same =
-    subst (λ (s : TokenizeState). AreOrdered s.label_starts) (sym (same ∙ ap (λ (x : Tokenizer). x.tokenize_state) e)) k
+ordered-there T U V k e same = grind arith

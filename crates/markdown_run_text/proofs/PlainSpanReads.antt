@@ -1,5 +1,5 @@
 -- A span whose text is a single stretch is read as the definition reads it.
-use Rattle.std.proofs.Common.{◌≡◌, ◌≢◌, ℕ, suc, ◌==◌, ◌&&◌, ◌||◌, not, nat_lt, if◌then◌else◌, Bool, true, false, List, [], ◌∷◌, ◌++◌, None, Some, refl, sym, ap, subst, ◌∙◌, append_assoc, append-nil, length, arith}
+use Rattle.std.proofs.Common.{◌≡◌, ◌≢◌, ℕ, suc, ◌==◌, ◌&&◌, ◌||◌, not, nat_lt, if◌then◌else◌, Bool, true, false, List, [], ◌∷◌, ◌++◌, None, Some, refl, sym, ap, ◌∙◌, append_assoc, append-nil, length, arith}
 use Rattle.std.proofs.lemmas.Bool.Decides.{nat_tests}
 use Rattle.std.proofs.lemmas.Grind.{common_steps}
 use Rattle.std.proofs.lemmas.Bool.{and_left, both_ways, eq-eqb, eqb-true}
@@ -16,7 +16,7 @@ use Rattle.markdown_content.proofs.PlaceRules.{IsAhead, ahead_moved, ahead_some,
 use Rattle.markdown_notes.specs.RunIndex.{leading}
 use Rattle.markdown_content.proofs.StretchLemmas.{stretch-goes, stretch-stops}
 use Rattle.markdown_engine.specs.Operations.{ahead, current_of}
-use Rattle.markdown_engine.specs.PastTree.{Reads, TreeReading, appended_from, moved_by, past}
+use Rattle.markdown_engine.specs.PastTree.{Reads, TreeReading, moved_by, past}
 use Rattle.markdown_engine.specs.declared.tokenizer.Tokenizer.{Tokenizer}
 use Rattle.markdown_engine.proofs.PlaceAfterCodes.{ahead-moved_by, moved_by-append, stop-moved}
 use Rattle.markdown_engine.proofs.ReadingSequences.{scratched-same}
@@ -51,14 +51,7 @@ record StretchRun (p : Code → Bool) (cs : List Code) : Type 0 where
   whole : cs ≡ (first ∷ others) ++ rest
 
 run-of : (p : Code → Bool) (c : Code) (cs : List Code) → p c ≡ true → StretchRun p (c ∷ cs)
-run-of p c cs h = record {
-  first = c;
-  others = (span p cs).0;
-  rest = (span p cs).1;
-  passes = h;
-  cut = span-takes p c cs h;
-  whole = ap (λ xs. c ∷ xs) (sym (span-parts p cs));
-}
+run-of p c cs h = grind (arith, span-takes p c cs, span-parts p cs)
 
 no-run : (p : Code → Bool) (c : Code) (cs : List Code) → p c ≡ false → length (span p (c ∷ cs)).0 ≡ 0
 no-run p c cs h = ap (λ (s : List Code × List Code). length s.0) (span-none p (c ∷ cs) h)
@@ -66,20 +59,12 @@ no-run p c cs h = ap (λ (s : List Code × List Code). length s.0) (span-none p 
 -- where it has some
 some-run : (p : Code → Bool) (cs : List Code) → length (span p cs).0 ≢ 0 → StretchRun p cs
 some-run p [] some = absurd (some refl)
-some-run p (c ∷ cs) some = by_test (p c) refl
-  where
-    by_test : (b : Bool) → p c ≡ b → StretchRun p (c ∷ cs)
-    by_test true h = run-of p c cs h
-    by_test false h = absurd (some (no-run p c cs h))
+some-run p (c ∷ cs) some = grind (arith, run-of, no-run)
 
 -- behind a run stands no such code
 run-ends : (p : Code → Bool) (cs : List Code) → next_is p (span p cs).1 ≡ false
 run-ends p [] = refl
-run-ends p (c ∷ cs) = by_test (p c) refl (run-ends p cs)
-  where
-    by_test : (b : Bool) → p c ≡ b → next_is p (span p cs).1 ≡ false → next_is p (span p (c ∷ cs)).1 ≡ false
-    by_test true e more = ap (λ (s : List Code × List Code). next_is p s.1) (span-takes p c cs e) ∙ more
-    by_test false e more = ap (λ (s : List Code × List Code). next_is p s.1) (span-none p (c ∷ cs) e) ∙ e
+run-ends p (c ∷ cs) = grind (arith, span-takes, span-none, run-ends p cs)
 
 -- The text and the closing run.
 
@@ -89,9 +74,7 @@ module _ (m : ℕ) (other : (m == 10) ≡ false) where
 
   -- text of spans, and the marker
   parts : (a b : Bool) → not (a || b) ≡ true → (a ≡ false) × (b ≡ false)
-  parts true b h = cc
-  parts false true h = cc
-  parts false false h = (refl, refl)
+  parts x1 b h = grind arith
 
   text-parts : (c : Code) → is_text m c ≡ true → (is_line_ending c ≡ false) × (is_value m c ≡ false)
   text-parts c h = parts (is_line_ending c) (is_value m c) h
@@ -105,26 +88,17 @@ module _ (m : ℕ) (other : (m == 10) ≡ false) where
   closing-here : (n : ℕ) (s rest : List Code) → next_is (is_value m) s ≡ true → length s ≡ n →
       closing_run (is_value m) n (s ∷ stretches (is_value m) rest) ≡ Some (([], s), rest)
   unfolding closing_run
-  closing-here n s rest h e =
-      rw (h, eq-eqb (length s) n e, closing_run) (ap (λ xs. Some (([], s), xs)) (joined_codes-stretches (is_value m) rest))
+  closing-here n s rest h e = grind (arith, eq-eqb, joined_codes-stretches)
 
   -- the first stretch is a run
   stretches-run : (q : Code → Bool) → ((c d : Code) → q c ≡ true → joins (is_value m) c d ≡ q d) → (cs : List Code) (r : StretchRun q cs) →
       stretches (is_value m) cs ≡ (r.first ∷ r.others) ∷ stretches (is_value m) r.rest
-  stretches-run q agrees [] r = cc (r.whole)
-  stretches-run q agrees (c ∷ cs) r =
-      let same : c ≡ r.first = cc (r.whole) in
-      let here : q c ≡ true = ap q same ∙ r.passes in
-      stretch-span (is_value m) q agrees c cs here
-      ∙ ap (λ (x : List Code × List Code). x.0 ∷ stretches (is_value m) x.1) (sym (span-takes q c cs here) ∙ r.cut)
+  stretches-run q agrees x3 r = grind (arith, stretch-span, span-takes)
 
   -- text from the first code on, and the run behind it
   closing-from : (n : ℕ) (cs : List Code) (t : StretchRun (is_text m) cs) (d : StretchRun (is_value m) t.rest) → length (d.first ∷ d.others) ≡ n →
       closing (is_value m) n cs ≡ Some (((t.first ∷ t.others) ∷ [], d.first ∷ d.others), d.rest)
-  closing-from n cs t d e =
-      ap (closing_run (is_value m) n) (stretches-run (is_text m) (agree-data m code_names n) cs t)
-      ∙ closing-passes n (t.first ∷ t.others) (d.first ∷ d.others) d.rest (stretches (is_value m) t.rest) (text-parts t.first t.passes).1
-      (ap (closing_run (is_value m) n) (stretches-run (is_value m) (agree-marker m code_names n other) t.rest d) ∙ closing-here n (d.first ∷ d.others) d.rest d.passes e)
+  closing-from n cs t d e = grind (arith, stretches-run (is_text m), stretches-run (is_value m), agree-data m code_names, closing-passes n (t.first ∷ t.others) (d.first ∷ d.others) d.rest (stretches (is_value m) t.rest), text-parts t.first, agree-marker, closing-here n (d.first ∷ d.others) d.rest)
 
 -- The whole span.
 
@@ -159,15 +133,7 @@ module _ (m : ℕ) (other : (m == 10) ≡ false) (names : SpanNames) (cs : List 
 module _ (m : ℕ) where
   text-run : (cs : List Code) (n : ℕ) → next_is (is_value m) cs ≡ false → length (span (is_value m) (span (is_text m) cs).1).0 ≡ suc n →
       StretchRun (is_text m) cs
-  text-run [] n h e = cc
-  text-run (c ∷ cs) n h e = by_test (is_text m c) refl
-    where
-      by_test : (b : Bool) → is_text m c ≡ b → StretchRun (is_text m) (c ∷ cs)
-      by_test true k = run-of (is_text m) c cs k
-      by_test false k =
-          let none : length (span (is_value m) (c ∷ cs)).0 ≡ 0 = no-run (is_value m) c cs h in
-          let same : length (span (is_value m) (c ∷ cs)).0 ≡ suc n = ap (λ (s : List Code × List Code). length (span (is_value m) s.1).0) (sym (span-none (is_text m) (c ∷ cs) k)) ∙ e in
-          absurd (omega (arith, none, same))
+  text-run x1 n h e = grind (arith, run-of, no-run, span-none)
 
   close-run : (cs : List Code) (front : StretchRun (is_value m) cs) (text : StretchRun (is_text m) front.rest) →
       length (span (is_value m) text.rest).0 ≡ length (front.first ∷ front.others) → IsPlainSpan m cs
@@ -218,10 +184,7 @@ module _ (m : ℕ) (names : SpanNames) (T : Tokenizer) (k : IsPlainSpan m (ahead
 
   placed-past : placed names k.front.first.start (stop_of document_start front) k.text.first.start (stop_of document_start text) k.close.first.start (stop_of document_start close) (stop_of document_start close) (moved_by close (moved_by text (moved_by front T.cursor))) T ≡ past None tree T
   unfolding placed past span_tree
-  placed-past =
-      ap (λ (P : Place). record T { events = T.events ++ appended_from (length T.events) None tree; cursor = P })
-      (sym (ap (λ cs. moved_by cs T.cursor) (append-nil (front ++ (text ++ (close ++ []))) ∙ ap (λ cs. front ++ (text ++ cs)) (append-nil close))
-      ∙ moved_by-append front (text ++ close) T.cursor ∙ moved_by-append text close (moved_by front T.cursor)))
+  placed-past = grind (arith, moved_by-append)
 
   tree-codes : leaf_codes tree ++ k.close.rest ≡ ahead T
   unfolding span_tree
@@ -236,8 +199,7 @@ module _ (m : ℕ) (names : SpanNames) (T : Tokenizer) (k : IsPlainSpan m (ahead
 -- the code before the place, past codes that are no line ending
 no-line-before : (q : Code → Bool) → ((c : Code) → q c ≡ true → is_line_ending c ≡ false) → (c : Code) (cs : List Code) (p : Place) →
     ahead_at p ≡ c ∷ cs → q c ≡ true → code_before (moved_by (c ∷ (span q cs).0) p) ≡ Some line_feed → ⊥
-no-line-before q free c [] p e h k =
-    both_ways (c.value == 10) (free c h) (eq-eqb c.value 10 (same_Some c.value 10 (sym (before-moved p ∙ code_at_ahead p c [] e) ∙ k)))
+no-line-before q free c [] p e h k = grind (arith, both_ways, eq-eqb, same_Some, before-moved, code_at_ahead)
 no-line-before q free c (d ∷ ds) p e h k =
     by_test (q d) refl (λ g. no-line-before q free d ds (moved p) (ahead_moved p c (d ∷ ds) e) g)
   where
@@ -248,11 +210,7 @@ no-line-before q free c (d ∷ ds) p e h k =
 
 within-line : (q : Code → Bool) → ((c : Code) → q c ≡ true → is_line_ending c ≡ false) → (cs : List Code) (p : Place) → ahead_at p ≡ cs →
     StretchRun q cs → code_before (moved_by (span q cs).0 p) ≡ Some line_feed → ⊥
-within-line q free [] p e r k = cc
-within-line q free (c ∷ cs) p e r k =
-    let same : c ≡ r.first = cc (r.whole) in
-    let here : q c ≡ true = ap q same ∙ r.passes in
-    no-line-before q free c cs p e here (ap (λ (s : List Code × List Code). code_before (moved_by s.0 p)) (sym (span-takes q c cs here)) ∙ k)
+within-line q free x3 p e r k = grind (arith, no-line-before, span-takes)
 
 module _ (m : ℕ) (other : (m == 10) ≡ false) (T : Tokenizer) where
   abbrev P1 : Place
@@ -294,15 +252,13 @@ module _ (m : ℕ) (other : (m == 10) ≡ false) (T : Tokenizer) where
     first-ahead = ap ahead_at first-place ∙ ahead-moved_by opening k.front.rest T.cursor k.front.whole
 
     second-place : P2 ≡ moved_by inside P1
-    second-place =
-        ap (λ cs. moved_by (span (is_text m) cs).0 P1) first-ahead ∙ ap (λ (s : List Code × List Code). moved_by s.0 P1) k.text.cut
+    second-place = grind (arith, first-ahead)
 
     second-ahead : ahead_at P2 ≡ k.text.rest
     second-ahead = ap ahead_at second-place ∙ ahead-moved_by inside k.text.rest P1 (first-ahead ∙ k.text.whole)
 
     third-place : P3 ≡ moved_by closes P2
-    third-place =
-        ap (λ cs. moved_by (span (is_value m) cs).0 P2) second-ahead ∙ ap (λ (s : List Code × List Code). moved_by s.0 P2) k.close.cut
+    third-place = grind (arith, second-ahead)
 
     last-place : P3 ≡ moved_by closes (moved_by inside (moved_by opening T.cursor))
     last-place = third-place ∙ ap (moved_by closes) (second-place ∙ ap (moved_by inside) first-place)
@@ -311,8 +267,7 @@ module _ (m : ℕ) (other : (m == 10) ≡ false) (T : Tokenizer) where
     run-no-line p r h = within-line (is_value m) (not-ending m other) (ahead_at p) p refl r h
 
     text-no-line : code_before P2 ≡ Some line_feed → ⊥
-    text-no-line h =
-        within-line (is_text m) (λ c g. (text-parts m other c g).0) (ahead_at P1) P1 refl (subst (λ cs. StretchRun (is_text m) cs) (sym first-ahead) k.text) h
+    text-no-line h = grind (arith, within-line, text-parts, first-ahead)
 
     -- the span is passed, with its events
     span-past : (start from to : Point) → start ≡ point_of T.cursor → from ≡ exit_point P1 →
@@ -357,12 +312,10 @@ module _ (m : ℕ) (other : (m == 10) ≡ false) (T : Tokenizer) where
 -- By the marker.
 
 run-here : (p : Code → Bool) (cs : List Code) → next_is p cs ≡ true → StretchRun p cs
-run-here p [] h = cc
-run-here p (c ∷ cs) h = run-of p c cs h
+run-here p x2 h = grind (arith, run-of)
 
 next-other : (m n : ℕ) (cs : List Code) → (m == n) ≡ false → next_is (is_value m) cs ≡ true → next_is (is_value n) cs ≡ false
-next-other m n [] e h = cc
-next-other m n (c ∷ cs) e h = other-value c.value m n e h
+next-other m n x3 e h = grind (arith, other-value)
 
 next-here : (T : Tokenizer) (m : ℕ) → current_of T ≡ Some m → next_is (is_value m) (ahead T) ≡ true
 next-here T m e = let a : IsAhead T.cursor m = ahead_some T.cursor m e in ap (next_is (is_value m)) a.codes ∙ eq-eqb a.code.value m a.value
@@ -374,15 +327,11 @@ free T m h = sym (barred-is m T) ∙ ap not h
 
 code-here : (T : Tokenizer) → current_of T ≡ Some 96 → code_is_on T ≡ true → is_barred 96 T ≡ false →
     span_at T (ahead T) ≡ span_of 96 code_names (λ n. true) (ahead T)
-code-here T e on bare =
-    either-first _ _ (ahead T) (here-off (single_dollar T) 36 math_names (λ n. single_dollar T || nat_lt 1 n) (math_is_on T) (follows_escape T.events) (code_just_before T) (ahead T) (and_left _ _ (next-other 96 36 (ahead T) refl (next-here T 96 e))))
-    ∙ here-on (single_dollar T) 96 code_names (λ n. true) (code_is_on T) (follows_escape T.events) (code_just_before T) (ahead T) on (free T 96 bare)
+code-here T e on bare = grind (arith, either-first, here-off, and_left, next-other, next-here, here-on, free)
 
 math-here : (T : Tokenizer) → current_of T ≡ Some 36 → math_is_on T ≡ true → is_barred 36 T ≡ false →
     span_at T (ahead T) ≡ span_of 36 math_names (λ n. single_dollar T || nat_lt 1 n) (ahead T)
-math-here T e on bare =
-    either-second _ _ (ahead T) (here-off (single_dollar T) 96 code_names (λ n. true) (code_is_on T) (follows_escape T.events) (code_just_before T) (ahead T) (and_left _ _ (next-other 36 96 (ahead T) refl (next-here T 36 e))))
-    ∙ here-on (single_dollar T) 36 math_names (λ n. single_dollar T || nat_lt 1 n) (math_is_on T) (follows_escape T.events) (code_just_before T) (ahead T) on (free T 36 bare)
+math-here T e on bare = grind (arith, either-second, here-off, and_left, next-other, next-here, here-on, free)
 
 more-than-one : (n : ℕ) → nat_lt 1 (suc (suc n)) ≡ true
 more-than-one n = grind (arith, nat_tests, common_steps)
@@ -391,21 +340,13 @@ leading-more : (m : ℕ) (c : Code) (cs : List Code) → c.value ≡ m → leadi
 leading-more m c cs e = ap (λ b. if b then suc (leading m cs) else 0) (eq-eqb c.value m e)
 
 two-here : (m : ℕ) (p : Place) → code_at p ≡ Some m → code_at (moved p) ≡ Some m → nat_lt 1 (leading m (ahead_at p)) ≡ true
-two-here m p e h =
-    let a : IsAhead p m = ahead_some p m e in
-    let b : IsAhead (moved p) m = ahead_some (moved p) m h in
-    let size : leading m (ahead_at p) ≡ suc (suc (leading m (ahead_at (moved (moved p))))) =
-    ap (leading m) a.codes ∙ leading-more m a.code (ahead_at (moved p)) a.value
-    ∙ ap (λ cs. suc (leading m cs)) b.codes ∙ ap suc (leading-more m b.code (ahead_at (moved (moved p))) b.value) in
-    ap (nat_lt 1) size ∙ more-than-one (leading m (ahead_at (moved (moved p))))
+two-here m p e h = grind (arith, ahead_some p m, ahead_some (moved p) m, leading-more m, more-than-one (leading m (ahead_at (moved (moved p)))))
 
 or-so : (a b c : Bool) → a || b ≡ true → (b ≡ true → c ≡ true) → a || c ≡ true
-or-so true b c h k = refl
-or-so false b c h k = k h
+or-so x1 b c h k = grind arith
 
 not-so : (b : Bool) → not b ≡ true → b ≡ false
-not-so true h = cc
-not-so false h = refl
+not-so x1 h = grind arith
 
 -- a span that is passed: where it begins, and where its text stands
 record SpanPassed (m : ℕ) (T : Tokenizer) (start from to : Point) : Type 0 where
@@ -435,12 +376,7 @@ module _ (T V : Tokenizer) (m : ℕ) (here : current_of T ≡ Some m) (begins : 
   bare = not-so (is_barred m T) (and-right (opens_span m T) (not (is_barred m T)) begins)
 
   by-code : (m == 96) ≡ true → Reads (span_at T) None T.tokenize_state T V
-  by-code e =
-      let code : m ≡ 96 = eqb-true m 96 e in
-      let on : code_is_on T ≡ true = sym (if-true (m == 96) (code_is_on T) _ e) ∙ opens in
-      by-names (ap (λ n. n == 10) code) code_names (λ n. true) (if-true (m == 96) code_names math_names e)
-      (code-here T (here ∙ ap (λ n. Some n) code) on (ap (λ n. is_barred n T) (sym code) ∙ bare) ∙ ap (λ n. span_of n code_names (λ k. true) (ahead T)) (sym code))
-      refl
+  by-code e = grind (arith, eqb-true m 96 e, if-true (m == 96) (code_is_on T), if-true (m == 96) code_names math_names, opens, by-names, code-here T, bare)
 
   by-math : (m == 96) ≡ false → Reads (span_at T) None T.tokenize_state T V
   by-math e =
@@ -455,8 +391,7 @@ module _ (T V : Tokenizer) (m : ℕ) (here : current_of T ≡ Some m) (begins : 
       ∙ or-so (single_dollar T) (is_some_value 36 (code_at (moved T.cursor))) (nat_lt 1 (leading 36 (ahead T))) long (λ h. two-here 36 T.cursor there (marker-here 36 (code_at (moved T.cursor)) h)))
 
   by-marker : (b : Bool) → (m == 96) ≡ b → Reads (span_at T) None T.tokenize_state T V
-  by-marker true e = by-code e
-  by-marker false e = by-math e
+  by-marker x1 e = grind (arith, by-code, by-math)
 
   passes-reads : Reads (span_at T) None T.tokenize_state T V
   passes-reads = by-marker (m == 96) refl
@@ -479,38 +414,16 @@ pub record SpanWalks (m : ℕ) (T : Tokenizer) (behind inside past : Place) (siz
 pub walk-reads : (T V : Tokenizer) (m : ℕ) (behind inside past : Place) (size closing : ℕ) (start from to : Point) → current_of T ≡ Some m →
     begins_span m T ≡ true → SpanWalks m T behind inside past size closing start from to →
     V ≡ with_span (names_for m) start from to (record T { cursor = past }) → Reads (span_at T) None T.tokenize_state T V
-walk-reads T V m behind inside past size closing start from to here begins w left =
-    let there : inside ≡ past_span_text m (past_run m T.cursor) = w.second ∙ ap (past_span_text m) w.first in
-    passes-reads T V m here begins start from to
-    (record {
-      same = ap (λ (p : Place). leading m (ahead_at p)) (sym there) ∙ sym w.closes ∙ w.same ∙ w.opening;
-      begin = w.begin;
-      opened = w.opened ∙ ap exit_point w.first;
-      inner = subst (λ (p : Place). (code_before p ≡ Some line_feed → ⊥) → from ≡ point_of p) w.first w.inner;
-      ended = w.ended ∙ ap exit_point there;
-      close = subst (λ (p : Place). (code_before p ≡ Some line_feed → ⊥) → to ≡ point_of p) there w.close;
-    })
-    (left ∙ ap (λ (p : Place). with_span (names_for m) start from to (record T { cursor = p })) (w.third ∙ ap (past_run m) there))
+walk-reads T V m behind inside past size closing start from to here begins w left = grind (arith, passes-reads)
 
 -- Text is passed as far as a stretch goes.
 
 stops-are : (m : ℕ) (c : Code) → stops (m ∷ []) c.value ≡ not (is_text m c)
-stops-are m c = by_tests (c.value == 10) (c.value == m)
-  where
-    by_tests : (a b : Bool) → (a || (b || false)) ≡ not (not (a || b))
-    by_tests true b = refl
-    by_tests false true = refl
-    by_tests false false = refl
+stops-are m c = grind arith
 
 stretch-is : (m : ℕ) (cs : List Code) → stretch (m ∷ []) cs ≡ (span (is_text m) cs).0
 stretch-is m [] = refl
-stretch-is m (c ∷ cs) = by_test (is_text m c) refl (stretch-is m cs)
-  where
-    by_test : (b : Bool) → is_text m c ≡ b → stretch (m ∷ []) cs ≡ (span (is_text m) cs).0 → stretch (m ∷ []) (c ∷ cs) ≡ (span (is_text m) (c ∷ cs)).0
-    by_test true e more =
-        stretch-goes (m ∷ []) c cs (stops-are m c ∙ ap not e) ∙ ap (λ xs. c ∷ xs) more ∙ ap (λ (s : List Code × List Code). s.0) (sym (span-takes (is_text m) c cs e))
-    by_test false e more =
-        stretch-stops (m ∷ []) c cs (stops-are m c ∙ ap not e) ∙ ap (λ (s : List Code × List Code). s.0) (sym (span-none (is_text m) (c ∷ cs) e))
+stretch-is m (c ∷ cs) = grind (arith, stretch-goes, stops-are, span-takes, stretch-stops, span-none, stretch-is m cs)
 
 pub text-passed : (m : ℕ) (p : Place) → past_stretch (m ∷ []) p ≡ past_span_text m p
 unfolding past_stretch

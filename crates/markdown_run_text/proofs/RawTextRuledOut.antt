@@ -1,5 +1,5 @@
 -- Where no mark of a span stands, no run may close one.
-use Rattle.std.proofs.Common.{◌≡◌, ◌==◌, ◌&&◌, ◌||◌, Bool, true, false, List, [], ◌∷◌, Option, Some, None, refl}
+use Rattle.std.proofs.Common.{◌≡◌, ◌&&◌, ◌||◌, Bool, true, false, List, [], ◌∷◌, Option, Some, None, refl, arith}
 use Rattle.std.specs.List.{list_any}
 use Rattle.std.proofs.lemmas.Bool.{or_from}
 use Rattle.markdown_content.specs.Codes.{Code}
@@ -12,19 +12,14 @@ use Rattle.markdown_notes.proofs.SequenceIndexLemmas.{right-made, ruled-out}
 use Rattle.markdown_run_text.specs.TextContent.{span_markers}
 
 neither : (a b : Bool) → ((a && true) || (b && true)) ≡ false → (a || (b || false)) ≡ false
-neither true b h = h
-neither false true h = h
-neither false false h = refl
+neither x1 b h = grind arith
 
 spans-absent : (cs : List Code) → last_where marks_span cs ≡ None →
     list_any (λ (c : Code). is_asked span_markers c.value) cs ≡ false
 spans-absent [] h = refl
-spans-absent (c ∷ cs) h =
-    let k = later-none (last_where marks_span cs) (marks_span (c ∷ cs)) h in
-    or_from (is_asked span_markers c.value) (list_any (λ (d : Code). is_asked span_markers d.value) cs) (neither (c.value == 96) (c.value == 36) k.1) (spans-absent cs k.0)
+spans-absent (c ∷ cs) h = grind (arith, later-none, or_from, neither, spans-absent cs)
 
 -- where an index that is made of the codes rules marks of spans out
 pub no-spans : (index : Option LastBegins) (cs : List Code) → index ≡ Some (last_begins cs) →
     rules_out index SpanMark 0 ≡ true → without_runs span_markers ≡ last_runs span_markers cs
-no-spans index cs e h =
-    without-known span_markers cs (spans-absent cs (ruled-out index cs SpanMark 0 (right-made cs index e) h))
+no-spans index cs e h = grind (arith, without-known span_markers cs, spans-absent cs, ruled-out index cs SpanMark 0, right-made cs index)

@@ -1,5 +1,5 @@
 -- Past a row a tokenizer hands over the row's brackets.
-use Rattle.std.proofs.Common.{◌≡◌, ℕ, suc, ◌+◌, ◌-◌, Bool, true, false, if◌then◌else◌, None, List, [], ◌∷◌, ◌++◌, length, refl, sym, ap, subst, ◌∙◌, arith, length-append}
+use Rattle.std.proofs.Common.{◌≡◌, ℕ, suc, ◌+◌, ◌-◌, Bool, if◌then◌else◌, None, List, [], ◌∷◌, ◌++◌, length, refl, sym, ap, subst, ◌∙◌, arith, length-append}
 use Rattle.markdown_content.specs.Codes.{Code}
 use Rattle.markdown_engine.specs.Operations.{scratched}
 use Rattle.markdown_engine.specs.PastTree.{past, appended_from, last_link}
@@ -11,11 +11,10 @@ use Rattle.markdown_engine.specs.declared.tokenizer.LabelStart.{LabelStart}
 use Rattle.markdown_engine.specs.declared.tokenizer.TokenizeState.{TokenizeState}
 use Rattle.markdown_engine.specs.declared.tokenizer.Tokenizer.{Tokenizer}
 use Rattle.markdown_engine.proofs.TreeEvents.{appended_from-row, length-appended_from}
-use Rattle.markdown_label.specs.LabelFields.{begun, bars, with_kind, as_link, marked, labelled as with_label, loosened}
+use Rattle.markdown_label.specs.LabelFields.{begun, with_kind, as_link, marked, labelled as with_label, loosened}
 use Rattle.markdown_label.specs.LabelEnd.{end_tree, ended_at, starts_set, made, end_made, lost_by}
 use Rattle.markdown_label.specs.LabelStarts.{kept_start}
 use Rattle.markdown_label.proofs.LabelEndLemmas.{events-before, scratch-before}
-use Rattle.markdown_model.specs.LabelEnd.{is_image, link_kind}
 use Rattle.markdown_model.specs.Passes.{start_tree}
 use Rattle.markdown_label.specs.Brackets.{Front, kind_of, start_row, end_row, Tail, tail_row, Brackets, nothing, tree_then, label_then, unused_then, failed_then, flat, IsApart, last_of, count, numbers_of, labels_at, unused_at, failed_at}
 use Rattle.markdown_label.specs.LabelsHandedOver.{starts_of, HasBrackets}
@@ -33,9 +32,7 @@ use Rattle.markdown_run_text.proofs.OpenStartLemmas.{kinds_in, IsClosedIn, assem
 -- a tree behind the events of brackets
 events-then : (b : Brackets) (t : Forest) (es : List Event) → IsApart b → es ≡ appended_from 0 None (flat b) →
     es ++ appended_from (length es) None t ≡ appended_from 0 None (flat b ⊕ t)
-events-then b t es apart e =
-    let long : length es ≡ 0 + event_count (flat b) = omega (arith, ap length e, length-appended_from 0 None (flat b)) in
-    (λ i. e i ++ appended_from (long i) (sym (flat-last 0 b apart) i) t) ∙ sym (appended_from-row 0 None (flat b) t)
+events-then b t es apart e = grind (arith, length-appended_from, flat-last, appended_from-row)
 
 long-events : (b : Brackets) (es : List Event) → es ≡ appended_from 0 None (flat b) → length es ≡ count b
 long-events b es e = ap length e ∙ length-appended_from 0 None (flat b) ∙ count-is b
@@ -45,13 +42,7 @@ long-events b es e = ap length e ∙ length-appended_from 0 None (flat b) ∙ co
 pub tree-step : (b : Brackets) (t : Forest) (T : Tokenizer) → ((n : ℕ) → last_link n None t ≡ None) → HasBrackets b T.tokenize_state T.events
     → HasBrackets (passed b t) (past_tree t T).tokenize_state (past_tree t T).events
 unfolding past past_tree
-tree-step b t T apart h = record {
-  apart = apart-behind b (tree_then t nothing) h.apart (apart, tt);
-  events = events-then b t T.events h.apart h.events ∙ ap (appended_from 0 None) (sym (passed-flat b t));
-  labels = h.labels ∙ sym (passed-labels b t);
-  unused = h.unused ∙ sym (passed-unused b t);
-  failed = h.failed ∙ sym (passed-failed b t);
-}
+tree-step b t T apart h = grind (arith, apart-behind, events-then, passed-flat, passed-labels, passed-unused, passed-failed)
 
 -- A start.
 
@@ -85,11 +76,7 @@ ended_events es t u =
 -- two trees behind the events of brackets
 rows-then : (b : Brackets) (t u : Forest) (es : List Event) → IsApart b → ((n : ℕ) → last_link n None t ≡ None) →
     es ≡ appended_from 0 None (flat b) → ended_events es t u ≡ appended_from 0 None (flat b ⊕ (t ⊕ u))
-rows-then b t u es apart last e =
-    let one : es ++ appended_from (length es) None t ≡ appended_from 0 None (flat (passed b t)) = events-then b t es apart e ∙ ap (appended_from 0 None) (sym (passed-flat b t)) in
-    events-then (passed b t) u _ (apart-behind b (tree_then t nothing) apart (last, tt)) one
-    ∙ ap (λ x. appended_from 0 None (x ⊕ u)) (passed-flat b t)
-    ∙ ap (appended_from 0 None) (row-assoc (flat b) t u)
+rows-then b t u es apart last e = grind (arith, events-then b t es, events-then (passed b t) u, passed-flat b t, apart-behind b (tree_then t nothing), row-assoc (flat b) t u)
 
 long-ended : (es : List Event) (t u : Forest) → length (ended_events es t u) ≡ length es + event_count t + event_count u
 long-ended es t u =
@@ -121,8 +108,7 @@ starts-marked [] = refl
 starts-marked (l ∷ ls) = ap (λ ns. l.start ∷ ns) (starts-marked ls)
 
 starts-barred : (b : Bool) (ls : List LabelStart) → starts_of (if b then ls else marked ls) ≡ starts_of ls
-starts-barred true ls = refl
-starts-barred false ls = starts-marked ls
+starts-barred x1 ls = grind (arith, starts-marked)
 
 first-of : (a b : ℕ × ℕ) (xs ys : List (ℕ × ℕ)) → a ∷ xs ≡ b ∷ ys → a ≡ b
 first-of a b xs ys e = cc
@@ -135,26 +121,18 @@ none-then x ns e = cc
 
 has-made : (kind : LabelKind) (x : ℕ × ℕ) (ns : List (ℕ × ℕ)) (n last : ℕ) (s : TokenizeState) (ls : List LabelStart) → starts_of ls ≡ x ∷ ns
     → HasMade kind x (n, last) ns s (with_label (with_kind kind ls) last (starts_set (with_kind kind ls) (ended_at n s)))
-has-made kind x ns n last s [] e = absurd (none-then x ns e)
-has-made kind x ns n last s (l ∷ ls) e = record {
-  labels = ap (λ p. s.labels ++ record { kind = kind; start = p; end = (n, last) } ∷ []) (first-of l.start x (starts_of ls) ns e);
-  unused = starts-barred (is_image kind) ls ∙ rest-same l.start x (starts_of ls) ns e;
-  failed = refl;
-}
+has-made kind x ns n last s x7 e = grind (arith, none-then, first-of, starts-barred, rest-same)
 
 -- a start that waits as one with the same codes
 module _ (a : Brackets) (f g : Front) (inside : Brackets) (last : last_of g ≡ last_of f) where
   same-flat : start_row g ≡ start_row f → flat (waiting a g inside) ≡ flat (waiting a f inside)
-  same-flat tree =
-      flat-behind a (unused_then g inside) ∙ ap (λ t. flat a ⊕ (t ⊕ flat inside)) tree ∙ sym (flat-behind a (unused_then f inside))
+  same-flat tree = grind (arith, flat-behind)
 
   same-labels : labels_at 0 (waiting a g inside) ≡ labels_at 0 (waiting a f inside)
-  same-labels =
-      labels-behind 0 a (unused_then g inside) ∙ ap (λ n. labels_at 0 a ++ labels_at (0 + count a + suc n) inside) last ∙ sym (labels-behind 0 a (unused_then f inside))
+  same-labels = grind (arith, labels-behind)
 
   same-failed : failed_at 0 (waiting a g inside) ≡ failed_at 0 (waiting a f inside)
-  same-failed =
-      failed-behind 0 a (unused_then g inside) ∙ ap (λ n. failed_at 0 a ++ failed_at (0 + count a + suc n) inside) last ∙ sym (failed-behind 0 a (unused_then f inside))
+  same-failed = grind (arith, failed-behind)
 
   same-number : numbers_of (count a) f ≡ numbers_of (count a) g
   same-number = ap (λ n. (count a, count a + n)) (sym last)
@@ -198,35 +176,17 @@ starts-more (k ∷ ls) l = ap (λ ns. k.start ∷ ns) (starts-more ls l)
 
 has-lost-by : (b : Bool) (x : ℕ × ℕ) (ns : List (ℕ × ℕ)) (s : TokenizeState) (l : LabelStart) (ls : List LabelStart) → l.start ∷ starts_of ls ≡ x ∷ ns
     → HasLost x ns s (loosened (if b then l ∷ ls else as_link (l ∷ ls)) s)
-has-lost-by true x ns s l ls e = record {
-  labels = refl;
-  unused = rest-same l.start x (starts_of ls) ns e;
-  failed = starts-more s.label_starts_loose l ∙ ap (λ p. starts_of s.label_starts_loose ++ p ∷ []) (first-of l.start x (starts_of ls) ns e);
-}
-has-lost-by false x ns s l ls e = record {
-  labels = refl;
-  unused = rest-same l.start x (starts_of ls) ns e;
-  failed = starts-more s.label_starts_loose (record l { kind = link_kind l.kind }) ∙ ap (λ p. starts_of s.label_starts_loose ++ p ∷ []) (first-of l.start x (starts_of ls) ns e);
-}
+has-lost-by x1 x ns s l ls e = grind (arith, rest-same, starts-more, first-of)
 
 has-lost : (x : ℕ × ℕ) (ns : List (ℕ × ℕ)) (s : TokenizeState) (ls : List LabelStart) → starts_of ls ≡ x ∷ ns →
     HasLost x ns s (lost_by ls s)
-has-lost x ns s [] e = absurd (none-then x ns e)
-has-lost x ns s (l ∷ ls) e = has-lost-by (bars l) x ns s l ls e
+has-lost x ns s x4 e = grind (arith, none-then, has-lost-by)
 
 -- and all of it
 loosened-step : (a : Brackets) (f : Front) (inside : Brackets) (T : Tokenizer) → IsApart a → IsApart inside → IsClosed inside → HasBrackets (waiting a f inside) T.tokenize_state T.events
     → (let U : Tokenizer = scratched (lost_by T.tokenize_state.label_starts T.tokenize_state) T in HasBrackets (failed a f inside) U.tokenize_state U.events)
 unfolding scratched
-loosened-step a f inside T aparta apart closed h =
-    let m = has-lost (numbers_of (count a) f) (unused_at 0 a) T.tokenize_state T.tokenize_state.label_starts (h.unused ∙ waiting-unused a f inside closed) in
-    record {
-      apart = apart-behind a (failed_then f inside nothing) aparta (apart, tt);
-      events = h.events ∙ ap (appended_from 0 None) (sym (failed-flat a f inside));
-      labels = m.labels ∙ h.labels ∙ sym (failed-labels a f inside);
-      unused = m.unused ∙ sym (failed-unused a f inside closed);
-      failed = m.failed ∙ ap (λ ns. ns ++ numbers_of (count a) f ∷ []) h.failed ∙ sym (failed-failed a f inside);
-    }
+loosened-step a f inside T aparta apart closed h = grind (arith, has-lost, waiting-unused, apart-behind, failed-flat, failed-labels, failed-unused, failed-failed)
 
 -- Marks and rows.
 
@@ -252,8 +212,7 @@ put-step : (c : Brackets) (o : Opened) (U : Tokenizer) →
 put-step c o U h = subst (λ b. HasBrackets b U.tokenize_state U.events) (sym (assembled-put c o)) h
 
 lost-nothing : (ls : List LabelStart) (s : TokenizeState) → starts_of ls ≡ [] → lost_by ls s ≡ s
-lost-nothing [] s e = refl
-lost-nothing (l ∷ ls) s e = absurd (none-then l.start (starts_of ls) (sym e))
+lost-nothing x1 s e = grind (arith, none-then)
 
 same-step : (b : Brackets) (T : Tokenizer) → HasOpened (none_waits b) T → HasOpened (none_waits b) (scratched T.tokenize_state T)
 unfolding scratched
@@ -286,11 +245,8 @@ mark-step (makes back kind tail) o T at closed h =
     (subst (λ xs. HasOpened p (end_made xs kind tail T)) (sym m.one)
     (subst (λ k. HasOpened p (end_made (m.code ∷ []) k tail T)) (sym m.is_kind)
     (subst (λ t. HasOpened p (end_made (m.code ∷ []) (kind_of g) t T)) (sym m.is_tail) there)))
-mark-step loses (none_waits b) T at closed h =
-    subst (λ s. HasOpened (none_waits b) (scratched s T)) (sym (lost-nothing T.tokenize_state.label_starts T.tokenize_state (h.unused ∙ closed-unused 0 b closed))) (same-step b T h)
-mark-step loses (waits o f inside) T at closed h =
-    put-step (failed_then f inside nothing) o (scratched (lost_by T.tokenize_state.label_starts T.tokenize_state) T)
-    (loosened-step (assembled o) f inside T (apart-left (assembled o) (unused_then f inside) h.apart) (apart-right (assembled o) (unused_then f inside) h.apart) closed.1 h)
+mark-step loses (none_waits b) T at closed h = grind (arith, lost-nothing, closed-unused, same-step)
+mark-step loses (waits o f inside) T at closed h = grind (arith, put-step (failed_then f inside nothing) o (scratched (lost_by T.tokenize_state.label_starts T.tokenize_state) T), loosened-step (assembled o) f inside T, apart-left (assembled o) (unused_then f inside), apart-right (assembled o) (unused_then f inside))
 
 -- Rows.
 
@@ -313,6 +269,4 @@ row-step (row_then t mark rest) o T at closed h =
 -- from a run's start on
 pub row-brackets : (row : Row) (T : Tokenizer) → IsRowAt [] row → IsFreshRow T →
     HasBrackets (brackets_of row) (past_row row T).tokenize_state (past_row row T).events
-row-brackets row T at h =
-    row-step row (none_waits nothing) T at tt
-    (record { apart = tt; events = h.events; labels = h.labels; unused = ap starts_of h.starts; failed = ap starts_of h.loose })
+row-brackets row T at h = grind (arith, row-step row (none_waits nothing) T)

@@ -1,19 +1,17 @@
 -- What a row leaves of the fields of a tokenizer: its place is behind the row's codes, and of the scratch fields only the lists of labels change.
-use Rattle.std.proofs.Common.{◌≡◌, ℕ, List, [], ◌∷◌, ◌++◌, refl, sym, ap, subst, ◌∙◌, append-nil}
+use Rattle.std.proofs.Common.{◌≡◌, ℕ, List, [], ◌∷◌, refl, sym, ap, subst, ◌∙◌, append-nil, arith}
 use Rattle.markdown_run_text.proofs.RowScratch.{kinds-mark, kinds-tree, mark-input, row-input}
 use Rattle.markdown_plan.proofs.ContentCharacters.{text-moved_by}
 use Rattle.markdown_content.specs.Codes.{Code}
 use Rattle.markdown_engine.specs.Operations.{scratched}
 use Rattle.markdown_engine.specs.PastTree.{past, moved_by}
-use Rattle.markdown_content.specs.Place.{Place}
 use Rattle.markdown_content.specs.Tree.{Forest, leaf_codes}
-use Rattle.markdown_event.specs.declared.resolve.ResolveName.TheVariants as R
 use Rattle.markdown_content.specs.declared.label_kind.LabelKind.{LabelKind}
 use Rattle.markdown_engine.specs.declared.tokenizer.LabelStart as Kept
 use Rattle.markdown_engine.specs.declared.tokenizer.TokenizeState.{TokenizeState}
 use Rattle.markdown_engine.specs.declared.tokenizer.Tokenizer.{Tokenizer}
 use Rattle.markdown_engine.proofs.PlaceAfterCodes.{moved_by-append}
-use Rattle.markdown_plan.specs.Characters.{bytes_of, IsText, ReadsText}
+use Rattle.markdown_plan.specs.Characters.{bytes_of, ReadsText}
 use Rattle.markdown_label.specs.LabelFields.{with_kind, labelled}
 use Rattle.markdown_label.specs.LabelEnd.{AreStartsWithin, end_made, made, lost_by}
 use Rattle.markdown_label.proofs.LabelEndLemmas.{scratch-before}
@@ -39,20 +37,14 @@ mark-cursor ks loses T h = refl
 pub row-cursor : (ks : List LabelKind) (row : Row) (T : Tokenizer) → IsRowAt ks row →
     (past_row row T).cursor ≡ moved_by (row_codes row) T.cursor
 row-cursor ks (row_end t) T h = tree-cursor t T
-row-cursor ks (row_then t mark rest) T h =
-    row-cursor (kinds_past mark ks) rest (past_mark mark (past_tree t T)) h.1.1
-    ∙ ap (moved_by (row_codes rest)) (mark-cursor ks mark (past_tree t T) h.1.0 ∙ ap (moved_by (mark_codes mark)) (tree-cursor t T))
-    ∙ sym (moved_by-append (mark_codes mark) (row_codes rest) (moved_by (leaf_codes t) T.cursor))
-    ∙ sym (moved_by-append (leaf_codes t) (mark_codes mark ++ row_codes rest) T.cursor)
+row-cursor ks (row_then t mark rest) T h = grind (arith, mark-cursor, tree-cursor, moved_by-append, row-cursor (kinds_past mark ks) rest (past_mark mark (past_tree t T)))
 
 -- What is read.
 
 -- behind a row the content is as before
 pub row-text : (ks : List LabelKind) (row : Row) (T : Tokenizer) → IsRowAt ks row → ReadsText T →
     ReadsText (past_row row T)
-row-text ks row T is h =
-    let same : bytes_of (past_row row T) ≡ bytes_of T = ap (λ p. p.now.bytes.now) (row-input row T) in
-    subst (λ (bs : List ℕ). IsText bs (past_row row T).cursor) (sym same) (subst (λ (p : Place). IsText (bytes_of T) p) (sym (row-cursor ks row T is)) (text-moved_by (bytes_of T) (row_codes row) T.cursor h))
+row-text ks row T is h = grind (arith, row-input row T, row-cursor ks row T, text-moved_by (bytes_of T) (row_codes row) T.cursor)
 
 -- The scratch fields.
 
@@ -61,8 +53,7 @@ abbrev pub relisted : TokenizeState → TokenizeState → TokenizeState
 relisted u s = record s { labels = u.labels; label_starts = u.label_starts; label_starts_loose = u.label_starts_loose }
 
 rest-same : (u s : TokenizeState) → u ≡ relisted u s → EndsRest s → EndsRest u
-rest-same u s e k =
-    record { end = ap (λ (x : TokenizeState). x.end) e ∙ k.end; seen = ap (λ (x : TokenizeState). x.seen) e ∙ k.seen }
+rest-same u s e k = grind arith
 
 tree-fields : (t : Forest) (T : Tokenizer) → (past_tree t T).tokenize_state ≡ T.tokenize_state
 unfolding past_tree past
@@ -70,25 +61,17 @@ tree-fields t T = refl
 
 labelled-fields : (kind : LabelKind) (ls : List Kept.LabelStart) (start : LabelKind) (ks : List LabelKind) (n m : ℕ) (s : TokenizeState) → kinds_in ls ≡ start ∷ ks → EndsRest s
     → (let u : TokenizeState = labelled (with_kind kind ls) n (record (record s { end = m }) { label_starts = with_kind kind ls }) in u ≡ relisted u s)
-labelled-fields kind [] start ks n m s e k = cc
-labelled-fields kind (l ∷ ls) start ks n m s e k =
-    let u : TokenizeState = labelled (with_kind kind (l ∷ ls)) n (record (record s { end = m }) { label_starts = with_kind kind (l ∷ ls) }) in
-    λ i. record (relisted u s) { end = sym k.end i }
+labelled-fields kind x2 start ks n m s e k = grind arith
 
 lost-relisted : (ls : List Kept.LabelStart) (s : TokenizeState) → EndsRest s → lost_by ls s ≡ relisted (lost_by ls s) s
-lost-relisted [] s k = refl
-lost-relisted (l ∷ ls) s k = λ i. record (relisted (lost_by (l ∷ ls) s) s) { end = sym k.end i; seen = sym k.seen i }
+lost-relisted x1 s k = grind arith
 
 mark-fields : (ks : List LabelKind) (mark : Mark) (T : Tokenizer) → kinds_of T ≡ ks → IsMarkAt ks mark →
     EndsRest T.tokenize_state →
     (let U : Tokenizer = past_mark mark T in U.tokenize_state ≡ relisted U.tokenize_state T.tokenize_state)
 unfolding past_mark end_made made past scratched
-mark-fields ks (begins kind marker) T e h k =
-    scratch-before R.Label _ ∙ ap (λ (u : TokenizeState). relisted u T.tokenize_state) (sym (scratch-before R.Label _))
-mark-fields ks (makes back kind tail) T e h k =
-    scratch-before R.Label _
-    ∙ labelled-fields kind T.tokenize_state.label_starts h.start h.before _ _ T.tokenize_state (e ∙ h.waits) k
-    ∙ ap (λ (u : TokenizeState). relisted u T.tokenize_state) (sym (scratch-before R.Label _))
+mark-fields ks (begins kind marker) T e h k = grind (arith, scratch-before)
+mark-fields ks (makes back kind tail) T e h k = grind (arith, scratch-before, labelled-fields)
 mark-fields ks loses T e h k = lost-relisted T.tokenize_state.label_starts T.tokenize_state k
 
 both-relisted : (w u s : TokenizeState) → w ≡ relisted w u → u ≡ relisted u s → w ≡ relisted w s
@@ -98,16 +81,8 @@ both-relisted w u s e f = e ∙ ap (relisted w) f
 pub row-fields : (ks : List LabelKind) (row : Row) (T : Tokenizer) → kinds_of T ≡ ks → IsRowAt ks row →
     EndsRest T.tokenize_state →
     (let U : Tokenizer = past_row row T in U.tokenize_state ≡ relisted U.tokenize_state T.tokenize_state)
-row-fields ks (row_end t) T e h k =
-    tree-fields t T ∙ ap (λ (u : TokenizeState). relisted u T.tokenize_state) (sym (tree-fields t T))
-row-fields ks (row_then t mark rest) T e h k =
-    let A : Tokenizer = past_tree t T in
-    let B : Tokenizer = past_mark mark A in
-    let kinds : kinds_of A ≡ ks = kinds-tree t T ∙ e in
-    let quiet : EndsRest A.tokenize_state = subst EndsRest (sym (tree-fields t T)) k in
-    let first : B.tokenize_state ≡ relisted B.tokenize_state A.tokenize_state = mark-fields ks mark A kinds h.1.0 quiet in
-    let more = row-fields (kinds_past mark ks) rest B (kinds-mark mark A ∙ ap (kinds_past mark) kinds) h.1.1 (rest-same B.tokenize_state A.tokenize_state first quiet) in
-    both-relisted (past_row rest B).tokenize_state B.tokenize_state T.tokenize_state more (first ∙ ap (relisted B.tokenize_state) (tree-fields t T))
+row-fields ks (row_end t) T e h k = grind (arith, tree-fields)
+row-fields ks (row_then t mark rest) T e h k = grind (arith, kinds-tree, tree-fields, mark-fields, kinds-mark, rest-same, both-relisted, row-fields (kinds_past mark ks) rest)
 
 -- The kept starts go on ending between characters.
 
@@ -122,10 +97,7 @@ pub made-within : (back : List Code) (kind : LabelKind) (tail : Forest) (T : Tok
     AreStartsWithin T T.tokenize_state.label_starts →
     (let U : Tokenizer = past_mark (makes back kind tail) T in AreStartsWithin U U.tokenize_state.label_starts)
 unfolding past_mark
-made-within back kind tail T k =
-    let U : Tokenizer = end_made back kind tail T in
-    subst (λ ls. AreStartsWithin U ls) (sym (end-starts back kind tail T))
-    (within-grown T U _ (ap (λ p. p.now.bytes.now) (mark-input (makes back kind tail) T)) (end-events back kind tail T) _ (within-barred T kind _ (within-rest T T.tokenize_state.label_starts k)))
+made-within back kind tail T k = grind (arith, end-starts back kind tail T, within-grown T, mark-input (makes back kind tail) T, end-events back kind tail T, within-barred T kind, within-rest T T.tokenize_state.label_starts)
 
 -- past one that makes none
 pub lost-within : (T : Tokenizer) → AreStartsWithin T T.tokenize_state.label_starts →

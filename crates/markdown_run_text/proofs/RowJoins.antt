@@ -1,5 +1,5 @@
 -- Past one row and then another.
-use Rattle.std.proofs.Common.{◌≡◌, ℕ, ◌+◌, List, ◌++◌, length, None, refl, sym, ap, ◌∙◌, append_assoc}
+use Rattle.std.proofs.Common.{◌≡◌, ℕ, ◌+◌, List, ◌++◌, length, None, sym, ap, ◌∙◌, append_assoc, arith}
 use Rattle.markdown_label.proofs.EventsOfBrackets.{last-join}
 use Rattle.markdown_engine.specs.PastTree.{last_link}
 use Rattle.markdown_content.specs.Tree.{Forest, empty, leaf_then, group_then, ◌⊕◌, leaf_codes, event_count}
@@ -30,8 +30,7 @@ past-onto t (row_then u mark rest) T e = ap (λ (x : Tokenizer). past_row rest (
 pub past-joined : (ks : List LabelKind) (r q : Row) (T : Tokenizer) → IsRowAt ks r →
     past_row q (past_row r T) ≡ past_row (joined_rows r q) T
 past-joined ks (row_end t) q T h = past-onto t q T (h.apart (length T.events))
-past-joined ks (row_then t mark rest) q T h =
-    past-joined (kinds_past mark ks) rest q (past_mark mark (past_tree t T)) h.1.1
+past-joined ks (row_then t mark rest) q T h = grind (arith, past-joined (kinds_past mark ks) rest q (past_mark mark (past_tree t T)))
 
 -- The codes of rows.
 
@@ -50,20 +49,17 @@ codes-joined (row_then t mark rest) q =
 -- How rows are cut.
 
 pub split-onto : (t : Forest) (q : Row) → split_row (tree_onto t q) ≡ tree_onto (split t) (split_row q)
-split-onto t (row_end u) = ap row_end (split-join t u)
-split-onto t (row_then u mark rest) = ap (λ x. row_then x mark (split_row rest)) (split-join t u)
+split-onto t x2 = grind (arith, split-join)
 
 pub split-joined : (r q : Row) → split_row (joined_rows r q) ≡ joined_rows (split_row r) (split_row q)
 split-joined (row_end t) q = split-onto t q
 split-joined (row_then t mark rest) q = ap (row_then (split t) mark) (split-joined rest q)
 
 pub onto-twice : (t u : Forest) (q : Row) → tree_onto t (tree_onto u q) ≡ tree_onto (t ⊕ u) q
-onto-twice t u (row_end v) = ap row_end (sym (row-assoc t u v))
-onto-twice t u (row_then v mark rest) = ap (λ x. row_then x mark rest) (sym (row-assoc t u v))
+onto-twice t u x3 = grind (arith, row-assoc)
 
 pub onto-joined : (t : Forest) (r q : Row) → joined_rows (tree_onto t r) q ≡ tree_onto t (joined_rows r q)
-onto-joined t (row_end u) q = sym (onto-twice t u q)
-onto-joined t (row_then u mark rest) q = refl
+onto-joined t x2 q = grind (arith, onto-twice)
 
 -- Which rows runs leave.
 
@@ -72,12 +68,10 @@ row-apart : (t u : Forest) (n : ℕ) → ((n : ℕ) → last_link n None t ≡ N
 row-apart t u n h k = last-join n None t u ∙ ap (λ q. last_link (n + event_count t) q u) (h n) ∙ k (n + event_count t)
 
 pub part-row : (t u : Forest) → IsRowPart t → IsRowPart u → IsRowPart (t ⊕ u)
-part-row t u h k =
-    record { lines = HasLines-row t u h.lines k.lines; outer = outer-row t u h.outer k.outer; apart = λ n. row-apart t u n h.apart k.apart }
+part-row t u h k = grind (arith, HasLines-row, outer-row, row-apart)
 
 pub row-onto : (ks : List LabelKind) (t : Forest) (q : Row) → IsRowPart t → IsRowAt ks q → IsRowAt ks (tree_onto t q)
-row-onto ks t (row_end u) h k = part-row t u h k
-row-onto ks t (row_then u mark rest) h k = (part-row t u h k.0, k.1)
+row-onto ks t x3 h k = grind (arith, part-row)
 
 pub row-joined : (ks : List LabelKind) (r q : Row) → IsRowAt ks r → IsRowAt (kinds_after r ks) q →
     IsRowAt ks (joined_rows r q)

@@ -1,5 +1,5 @@
 -- What a row leaves of a tokenizer beside its events and its labels.
-use Rattle.std.proofs.Common.{◌≡◌, ℕ, Bool, true, false, ◌||◌, if◌then◌else◌, List, [], ◌∷◌, ◌++◌, map, refl, sym, ap, subst, ◌∙◌, append_assoc, append-nil}
+use Rattle.std.proofs.Common.{◌≡◌, ℕ, Bool, true, false, ◌||◌, if◌then◌else◌, List, [], ◌∷◌, ◌++◌, map, refl, sym, ap, subst, ◌∙◌, append_assoc, append-nil, arith}
 use Rattle.markdown_content.specs.Codes.{Code}
 use Rattle.markdown_engine.specs.Operations.{registered_before, is_registered, scratched}
 use Rattle.markdown_engine.specs.PastTree.{moved_by, past}
@@ -15,13 +15,12 @@ use Rattle.markdown_engine.specs.declared.tokenizer.TokenizeState.{TokenizeState
 use Rattle.markdown_engine.specs.declared.tokenizer.Tokenizer.{Tokenizer}
 use Rattle.markdown_engine.proofs.PlaceAfterCodes.{moved_by-append}
 use Rattle.markdown_attention.specs.RunsOfTree.{has_run}
-use Rattle.markdown_label.specs.LabelFields.{bars, with_kind, as_link, marked, labelled, loosened}
+use Rattle.markdown_label.specs.LabelFields.{with_kind, as_link, marked, labelled, loosened}
 use Rattle.markdown_label.specs.LabelEnd.{end_tree, ended_at, starts_set, made, end_made, lost_by}
 use Rattle.markdown_label.proofs.LabelEndLemmas.{scratch-before, input-before, cursor-before}
 use Rattle.markdown_label.proofs.NextCodeTests.{same-codes}
 use Rattle.markdown_label.specs.LabelsHandedOver.{unlabelled}
 use Rattle.markdown_content.specs.ListFunctions.{rest_of}
-use Rattle.markdown_model.specs.LabelEnd.{is_image}
 use Rattle.markdown_model.specs.Passes.{start_tree}
 use Rattle.markdown_model.proofs.LeafCodes.{codes-leaf}
 use Rattle.markdown_model.proofs.LabelsCover.{codes-start_tree}
@@ -33,37 +32,25 @@ use Rattle.markdown_run_text.specs.RowStart.{IsFreshRow, IsPastCodes, registers,
 -- Passes.
 
 passes-tree : (a b r : Bool) → passes_after r (passes_of a b) ≡ passes_of a (b || r)
-passes-tree true true true = refl
-passes-tree true true false = refl
-passes-tree true false true = refl
-passes-tree true false false = refl
-passes-tree false true true = refl
-passes-tree false true false = refl
-passes-tree false false true = refl
-passes-tree false false false = refl
+passes-tree x1 x2 x3 = grind arith
 
 -- with the pass of labels first, unless it is there
 abbrev with_labels : List ResolveName → List ResolveName
 with_labels ns = if is_registered R.Label ns then ns else R.Label ∷ ns
 
 passes-labels : (a b : Bool) → with_labels (passes_of a b) ≡ passes_of (a || true) b
-passes-labels true true = refl
-passes-labels true false = refl
-passes-labels false true = refl
-passes-labels false false = refl
+passes-labels x1 x2 = grind arith
 
 by-before : (b : Bool) (T : Tokenizer) →
     (if b then T else record T { resolvers = R.Label ∷ T.resolvers }) ≡ record T { resolvers = if b then T.resolvers else R.Label ∷ T.resolvers }
-by-before true T = refl
-by-before false T = refl
+by-before x1 T = grind arith
 
 before-is : (T : Tokenizer) → registered_before R.Label T ≡ record T { resolvers = with_labels T.resolvers }
 unfolding registered_before
 before-is T = by-before (is_registered R.Label T.resolvers) T
 
 or-nothing : (a : Bool) → a ≡ (a || false)
-or-nothing true = refl
-or-nothing false = refl
+or-nothing x1 = grind arith
 
 -- Each step.
 
@@ -73,24 +60,12 @@ module _ (a b : Bool) (cs : List Code) (T U : Tokenizer) (h : IsPastCodes a b cs
 
   rest-tree : (t : Forest) → IsPastCodes a (b || has_run t) (cs ++ leaf_codes t) T (past_tree t U)
   unfolding past past_tree
-  rest-tree t =
-      let passes : passes_after (has_run t) U.resolvers ≡ passes_of a (b || has_run t) = ap (λ (V : Tokenizer). passes_after (has_run t) V.resolvers) h.same ∙ passes-tree a b (has_run t) in
-      record {
-        same = λ i. record (h.same i) { events = (past_tree t U).events; cursor = past-cursor (leaf_codes t) i; resolvers = passes i; tokenize_state = U.tokenize_state };
-        fields = h.fields;
-        end = h.end;
-        seen = h.seen;
-      }
+  rest-tree t = grind (arith, passes-tree, past-cursor)
 
   -- with the pass of labels registered, and these fields
   rest-labels : (ds : List Code) (p : Place) (es : List Event) (s : TokenizeState) → p ≡ moved_by ds U.cursor → unlabelled s ≡ unlabelled U.tokenize_state → s.end ≡ 0 → s.seen ≡ false
       → IsPastCodes (a || true) b (cs ++ ds) T (registered_before R.Label (record U { events = es; cursor = p; tokenize_state = s }))
-  rest-labels ds p es s place fields end seen =
-      let V : Tokenizer = record U { events = es; cursor = p; tokenize_state = s } in
-      let passes : with_labels U.resolvers ≡ passes_of (a || true) b = ap (λ (W : Tokenizer). with_labels W.resolvers) h.same ∙ passes-labels a b in
-      let is : IsPastCodes (a || true) b (cs ++ ds) T (record V { resolvers = with_labels U.resolvers }) =
-      record { same = λ i. record (h.same i) { events = es; cursor = (place ∙ past-cursor ds) i; resolvers = passes i; tokenize_state = s }; fields = fields ∙ h.fields; end = end; seen = seen } in
-      subst (IsPastCodes (a || true) b (cs ++ ds) T) (sym (before-is V)) is
+  rest-labels ds p es s place fields end seen = grind (arith, passes-labels, past-cursor, before-is)
 
   rest-lost : (s : TokenizeState) → unlabelled s ≡ unlabelled U.tokenize_state → s.end ≡ 0 → s.seen ≡ false →
       IsPastCodes (a || false) b (cs ++ []) T (scratched s U)
@@ -112,29 +87,24 @@ kinds-marked [] = refl
 kinds-marked (l ∷ ls) = ap (λ ks. l.kind ∷ ks) (kinds-marked ls)
 
 kinds-barred : (b : Bool) (ls : List LabelStart) → kinds (if b then ls else marked ls) ≡ kinds ls
-kinds-barred true ls = refl
-kinds-barred false ls = kinds-marked ls
+kinds-barred x1 ls = grind (arith, kinds-marked)
 
 kinds-made : (kind : LabelKind) (ls : List LabelStart) (last n : ℕ) (s : TokenizeState) →
     kinds (labelled (with_kind kind ls) last (starts_set (with_kind kind ls) (ended_at n s))).label_starts ≡ rest_of (kinds ls)
-kinds-made kind [] last n s = refl
-kinds-made kind (l ∷ ls) last n s = kinds-barred (is_image kind) ls
+kinds-made kind x2 last n s = grind (arith, kinds-barred)
 
 kinds-lost-by : (b : Bool) (l : LabelStart) (ls : List LabelStart) (s : TokenizeState) →
     kinds (loosened (if b then l ∷ ls else as_link (l ∷ ls)) s).label_starts ≡ kinds ls
-kinds-lost-by true l ls s = refl
-kinds-lost-by false l ls s = refl
+kinds-lost-by x1 l ls s = grind arith
 
 kinds-lost : (s : TokenizeState) (ls : List LabelStart) → s.label_starts ≡ ls →
     kinds (lost_by ls s).label_starts ≡ rest_of (kinds ls)
-kinds-lost s [] e = ap kinds e
-kinds-lost s (l ∷ ls) e = kinds-lost-by (bars l) l ls s
+kinds-lost s x2 e = grind (arith, kinds-lost-by)
 
 pub kinds-mark : (mark : Mark) (T : Tokenizer) → kinds_of (past_mark mark T) ≡ kinds_past mark (kinds_of T)
 unfolding past past_mark scratched made end_made
 kinds-mark (begins kind marker) T = ap (λ s. kinds s.label_starts) (scratch-before R.Label _)
-kinds-mark (makes back kind tail) T =
-    ap (λ s. kinds s.label_starts) (scratch-before R.Label _) ∙ kinds-made kind T.tokenize_state.label_starts _ _ T.tokenize_state
+kinds-mark (makes back kind tail) T = grind (arith, scratch-before, kinds-made)
 kinds-mark loses T = kinds-lost T.tokenize_state T.tokenize_state.label_starts refl
 
 pub kinds-tree : (t : Forest) (T : Tokenizer) → kinds_of (past_tree t T) ≡ kinds_of T
@@ -143,8 +113,7 @@ kinds-tree t T = refl
 
 pub kinds-row : (row : Row) (T : Tokenizer) → kinds_of (past_row row T) ≡ kinds_after row (kinds_of T)
 kinds-row (row_end t) T = kinds-tree t T
-kinds-row (row_then t mark rest) T =
-    kinds-row rest (past_mark mark (past_tree t T)) ∙ ap (kinds_after rest) (kinds-mark mark (past_tree t T) ∙ ap (kinds_past mark) (kinds-tree t T))
+kinds-row (row_then t mark rest) T = grind (arith, kinds-mark, kinds-tree, kinds-row rest (past_mark mark (past_tree t T)))
 
 -- What is read.
 
@@ -160,17 +129,14 @@ tree-input t T = refl
 
 pub row-input : (row : Row) (T : Tokenizer) → (past_row row T).parse_state ≡ T.parse_state
 row-input (row_end t) T = tree-input t T
-row-input (row_then t mark rest) T =
-    row-input rest (past_mark mark (past_tree t T)) ∙ mark-input mark (past_tree t T) ∙ tree-input t T
+row-input (row_then t mark rest) T = grind (arith, mark-input, tree-input, row-input rest (past_mark mark (past_tree t T)))
 
 -- The codes of the content.
 
 mark-content : (mark : Mark) (T : Tokenizer) → (past_mark mark T).cursor.codes ≡ T.cursor.codes
 unfolding past_mark end_made made past scratched
 mark-content (begins kind marker) T = ap (λ (p : Place). p.codes) (cursor-before R.Label _) ∙ same-codes (leaf_codes (start_tree kind marker)) T.cursor
-mark-content (makes back kind tail) T =
-    ap (λ (p : Place). p.codes) (cursor-before R.Label _)
-    ∙ same-codes (leaf_codes tail) (moved_by (leaf_codes (end_tree back)) T.cursor) ∙ same-codes (leaf_codes (end_tree back)) T.cursor
+mark-content (makes back kind tail) T = grind (arith, cursor-before, same-codes)
 mark-content loses T = refl
 
 tree-content : (t : Forest) (T : Tokenizer) → (past_tree t T).cursor.codes ≡ T.cursor.codes
@@ -179,8 +145,7 @@ tree-content t T = same-codes (leaf_codes t) T.cursor
 
 pub row-content : (row : Row) (T : Tokenizer) → (past_row row T).cursor.codes ≡ T.cursor.codes
 row-content (row_end t) T = tree-content t T
-row-content (row_then t mark rest) T =
-    row-content rest (past_mark mark (past_tree t T)) ∙ mark-content mark (past_tree t T) ∙ tree-content t T
+row-content (row_then t mark rest) T = grind (arith, mark-content, tree-content, row-content rest (past_mark mark (past_tree t T)))
 
 -- A mark.
 
@@ -192,14 +157,10 @@ record IsRested (s V : TokenizeState) : Type 0 where
 made-rests : (kind : LabelKind) (ls : List LabelStart) (k : LabelKind) (ks : List LabelKind) (last n : ℕ) (s : TokenizeState) →
     kinds ls ≡ k ∷ ks → s.end ≡ 0 → s.seen ≡ false →
     IsRested s (labelled (with_kind kind ls) last (starts_set (with_kind kind ls) (ended_at n s)))
-made-rests kind [] k ks last n s e end seen = absurd (no-kinds k ks e)
-made-rests kind (l ∷ ls) k ks last n s e end seen =
-    record { fields = λ i. record (unlabelled s) { end = sym end i }; end = refl; seen = seen }
+made-rests kind x2 k ks last n s e end seen = grind (arith, no-kinds)
 
 lost-rests : (ls : List LabelStart) (s : TokenizeState) → s.end ≡ 0 → s.seen ≡ false → IsRested s (lost_by ls s)
-lost-rests [] s end seen = record { fields = refl; end = end; seen = seen }
-lost-rests (l ∷ ls) s end seen =
-    record { fields = λ i. record (unlabelled s) { end = sym end i; seen = sym seen i }; end = refl; seen = refl }
+lost-rests x1 s end seen = grind arith
 
 module _ (a b : Bool) (cs : List Code) (T U : Tokenizer) (h : IsPastCodes a b cs T U) where
   rest-mark : (mark : Mark) → IsMarkAt (kinds_of U) mark →

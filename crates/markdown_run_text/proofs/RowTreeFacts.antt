@@ -1,5 +1,5 @@
 -- What is true of the trees of a row is true of its grouped tree; and the codes of both.
-use Rattle.std.proofs.Common.{◌≡◌, ℕ, zero, suc, Bool, true, false, Some, None, List, [], ◌∷◌, ◌++◌, drop, take, length, refl, sym, ap, subst, ◌∙◌, append_assoc, append-nil}
+use Rattle.std.proofs.Common.{◌≡◌, ℕ, zero, suc, Bool, true, false, Some, None, List, [], ◌∷◌, ◌++◌, drop, length, refl, sym, ap, ◌∙◌, append_assoc, append-nil, arith}
 use Rattle.markdown_run_text.proofs.PairsLeaveNoEmptyData.{has-join, has-leaf}
 use Rattle.std.proofs.lemmas.Bool.{or_parts, both_ways}
 use Rattle.std.specs.List.{list_any}
@@ -11,7 +11,6 @@ use Rattle.markdown_event.specs.declared.event.Point.{Point}
 use Rattle.markdown_content.specs.declared.label_kind.LabelKind.{LabelKind}
 use Rattle.markdown_content.proofs.TreeCodes.{leaf_codes-row}
 use Rattle.markdown_attention.specs.RunsRead.{is_run}
-use Rattle.markdown_attention.specs.RunsOfTree.{has_run}
 use Rattle.markdown_run_text.specs.CutData.{HasCodes}
 use Rattle.markdown_label.specs.Brackets.{grouped}
 use Rattle.markdown_model.specs.LabelEnd.{Element, plain, starts, ends}
@@ -28,7 +27,7 @@ use Rattle.markdown_run_text.specs.Row.{Mark, begins, makes, loses, Row, row_end
 use Rattle.markdown_run_text.specs.OpenStarts.{brackets_of}
 use Rattle.markdown_run_text.proofs.PastTrees.{outer-runless, leaf-runless}
 use Rattle.markdown_run_text.proofs.RowJoins.{HasLines-row}
-use Rattle.markdown_run_text.proofs.OpenStartTrees.{OpenTrees, outside, within, whole, put_row, made_row, lost_row, marked_row, filled, filled_from_start, AreMarksAt, marks-of, IsFor, for-put, not-made, for-marked, grouped-filled}
+use Rattle.markdown_run_text.proofs.OpenStartTrees.{OpenTrees, outside, within, whole, put_row, made_row, lost_row, marked_row, filled, AreMarksAt, marks-of, IsFor, for-put, not-made, for-marked, grouped-filled}
 use Rattle.markdown_run_text.proofs.RowElements.{whole-put, FoundLabels, wrapped, opened, read, word_of, finish, labels-read}
 
 -- Names that are neither of data nor of runs nor of line endings.
@@ -52,18 +51,10 @@ module _ (P : Forest → Type 0) (Fit : List Code → Type 0) (k : IsKeptByRows 
   grouped-kept n x e h = k.one_group n (enter_of x) (exit_after (enter_of x) x) x e h
 
   start-kept : (kind : LabelKind) (cs : List Code) → P (start_tree kind cs)
-  start-kept LabelKind.Image cs =
-      grouped-kept N.LabelImage _ refl (k.row _ _ (k.one_leaf N.LabelImageMarker (take 1 cs) refl) (k.one_leaf N.LabelMarker (drop 1 cs) refl))
-  start-kept LabelKind.GfmFootnote cs =
-      grouped-kept N.GfmFootnoteCallLabel _ refl (k.row _ _ (k.one_leaf N.LabelMarker (take 1 cs) refl) (k.one_leaf N.GfmFootnoteCallMarker (drop 1 cs) refl))
-  start-kept LabelKind.Link cs = grouped-kept N.LabelLink _ refl (k.one_leaf N.LabelMarker cs refl)
-  start-kept LabelKind.GfmUndefinedFootnote cs = grouped-kept N.LabelLink _ refl (k.one_leaf N.LabelMarker cs refl)
+  start-kept x1 cs = grind (arith, grouped-kept)
 
   name-plain : (kind : LabelKind) → is_plain (label_name kind) ≡ true
-  name-plain LabelKind.Image = refl
-  name-plain LabelKind.GfmFootnote = refl
-  name-plain LabelKind.Link = refl
-  name-plain LabelKind.GfmUndefinedFootnote = refl
+  name-plain x1 = grind arith
 
   pub label-kept : (kind : LabelKind) (marker : List Code) (inside : Forest) (back : List Code) (tail : Forest) →
       Fit marker → P inside → P tail → P (label_group kind marker inside back tail)
@@ -85,12 +76,10 @@ module _ (P : Forest → Type 0) (Fit : List Code → Type 0) (k : IsKeptByRows 
 
   whole-kept : (o : OpenTrees) → IsKeptIn o → P (whole o)
   whole-kept (outside u) h = h
-  whole-kept (within o m x) h =
-      k.row (whole o) (leaf N.Data m ⊕ x) (whole-kept o h.0) (k.row (leaf N.Data m) x (k.some_data m h.1.0) h.1.1)
+  whole-kept (within o m x) h = grind (arith, whole-kept o)
 
   put-kept : (t : Forest) (o : OpenTrees) → P t → IsKeptIn o → IsKeptIn (put_row t o)
-  put-kept t (outside u) h i = k.row u t i h
-  put-kept t (within o m x) h i = (i.0, (i.1.0, k.row x t i.1.1 h))
+  put-kept t x2 h i = grind arith
 
   abbrev pub IsMarkKept : Mark → Type 0
   IsMarkKept (begins kind marker) = Fit marker
@@ -104,20 +93,16 @@ module _ (P : Forest → Type 0) (Fit : List Code → Type 0) (k : IsKeptByRows 
   marked-kept : (mark : Mark) (o : OpenTrees) → IsMarkKept mark → IsKeptIn o → IsKeptIn (marked_row mark o)
   marked-kept (begins kind marker) o h i = (i, (h, k.nil))
   marked-kept (makes back kind tail) (outside u) h i = i
-  marked-kept (makes back kind tail) (within o m x) h i =
-      put-kept (label_group kind m x back tail) o (label-kept kind m x back tail i.1.0 i.1.1 h) i.0
+  marked-kept (makes back kind tail) (within o m x) h i = grind (arith, put-kept, label-kept)
   marked-kept loses (outside u) h i = i
-  marked-kept loses (within o m x) h i =
-      put-kept (leaf N.Data m ⊕ x) o (k.row (leaf N.Data m) x (k.some_data m i.1.0) i.1.1) i.0
+  marked-kept loses (within o m x) h i = grind (arith, put-kept)
 
   filled-kept : (row : Row) (o : OpenTrees) → IsRowKept row → IsKeptIn o → IsKeptIn (filled row o)
   filled-kept (row_end t) o h i = put-kept t o h i
-  filled-kept (row_then t mark rest) o h i =
-      filled-kept rest (marked_row mark (put_row t o)) h.1.1 (marked-kept mark (put_row t o) h.1.0 (put-kept t o h.0 i))
+  filled-kept (row_then t mark rest) o h i = grind (arith, marked-kept, put-kept, filled-kept rest (marked_row mark (put_row t o)))
 
   pub row-kept : (row : Row) → AreMarksAt [] row → IsRowKept row → P (grouped (brackets_of row))
-  row-kept row at h =
-      subst P (sym (grouped-filled row at)) (whole-kept (filled_from_start row) (filled-kept row (outside empty) h k.nil))
+  row-kept row at h = grind (arith, grouped-filled, whole-kept, filled-kept)
 
 -- Data on single lines.
 
@@ -131,12 +116,10 @@ plain-not_data N.Data e = cc
 plain-not_data _ e = refl
 
 plain-not_ending : (n : Name) → is_plain n ≡ true → is_ending n ≡ false
-plain-not_ending N.LineEnding e = cc
-plain-not_ending _ e = refl
+plain-not_ending x1 e = grind arith
 
 plain-not_run : (n : Name) → is_plain n ≡ true → is_run n ≡ false
-plain-not_run N.AttentionSequence e = cc
-plain-not_run _ e = refl
+plain-not_run x1 e = grind arith
 
 line-fewer : (n : ℕ) (cs : List Code) → IsLine cs → IsLine (drop n cs)
 line-fewer zero cs h = h
@@ -144,22 +127,13 @@ line-fewer (suc n) [] h = refl
 line-fewer (suc n) (c ∷ cs) h = line-fewer n cs (or_parts (is_line_ending c) (list_any is_line_ending cs) h).1
 
 line-data : (cs : List Code) → IsLine cs → HasRowLines (leaf N.Data cs)
-line-data [] h = tt
-line-data (c ∷ cs) h = ((λ e f. ((λ x. cc), h)), tt)
+line-data x1 h = grind arith
 
 line-leaf : (n : Name) (cs : List Code) → is_plain n ≡ true → HasRowLines (leaf n cs)
-line-leaf n [] e = tt
-line-leaf n (c ∷ cs) e = ((λ f g. absurd (both_ways (makes_data n) (plain-data n e) f)), tt)
+line-leaf n x2 e = grind (arith, both_ways, plain-data)
 
 lines-kept : IsKeptByRows HasRowLines IsLine
-lines-kept = record {
-  nil = tt;
-  row = HasLines-row;
-  some_data = line-data;
-  fewer = line-fewer;
-  one_leaf = line-leaf;
-  one_group = λ n p q x e h. ((plain-not_data n e, plain-not_ending n e), (h, tt));
-}
+lines-kept = grind (arith, HasLines-row, line-data, line-fewer, line-leaf, plain-not_data, plain-not_ending)
 
 leaf-lines : (n : Name) → is_run n ≡ false → makes_data n ≡ true → is_data n ≡ true
 leaf-lines N.Data e f = refl
@@ -174,12 +148,7 @@ tail-lines (group_then n a b inside rest) h r = (h.0, (tail-lines inside h.1.0 r
 
 row-lines : (ks : List LabelKind) (row : Row) → IsRowAt ks row → IsRowKept HasRowLines IsLine lines-kept row
 row-lines ks (row_end t) h = h.lines
-row-lines ks (row_then t mark rest) h = (h.0.lines, (mark-lines mark h.1.0, row-lines (kinds_past mark ks) rest h.1.1))
-  where
-    mark-lines : (mark : Mark) → IsMarkAt ks mark → IsMarkKept HasRowLines IsLine lines-kept mark
-    mark-lines (begins kind marker) at = at.1
-    mark-lines (makes back kind tail) at = tail-lines tail at.sound.lines at.runless
-    mark-lines loses at = tt
+row-lines ks (row_then t mark rest) h = grind (arith, lines-kept, tail-lines, row-lines (kinds_past mark ks) rest)
 
 pub grouped-lines : (row : Row) → IsRowAt [] row → HasRowLines (grouped (brackets_of row))
 grouped-lines row at = row-kept HasRowLines IsLine lines-kept row (marks-of [] row at) (row-lines [] row at)
@@ -195,26 +164,12 @@ runless-row (leaf_then n l cs rest) u h k = (h.0, runless-row rest u h.1 k)
 runless-row (group_then n a b inside rest) u h k = (h.0, runless-row rest u h.1 k)
 
 runless-kept : IsKeptByRows IsRunless IsAny
-runless-kept = record {
-  nil = tt;
-  row = runless-row;
-  some_data = λ cs h. leaf-runless N.Data cs refl;
-  fewer = λ n cs h. tt;
-  one_leaf = λ n cs e. leaf-runless n cs (plain-not_run n e);
-  one_group = λ n p q x e h. (h, tt);
-}
+runless-kept = grind (arith, runless-row, leaf-runless, plain-not_run)
 
 row-runless : (ks : List LabelKind) (row : Row) → IsRowAt ks row → row_has_run row ≡ false →
     IsRowKept IsRunless IsAny runless-kept row
 row-runless ks (row_end t) h e = outer-runless t h.outer e
-row-runless ks (row_then t mark rest) h e =
-    let p = or_parts (has_run t) (row_has_run rest) e in
-    (outer-runless t h.0.outer p.0, (mark-runless mark h.1.0, row-runless (kinds_past mark ks) rest h.1.1 p.1))
-  where
-    mark-runless : (mark : Mark) → IsMarkAt ks mark → IsMarkKept IsRunless IsAny runless-kept mark
-    mark-runless (begins kind marker) at = tt
-    mark-runless (makes back kind tail) at = at.runless
-    mark-runless loses at = tt
+row-runless ks (row_then t mark rest) h e = grind (arith, or_parts, outer-runless, runless-kept, row-runless (kinds_past mark ks) rest)
 
 pub grouped-runless : (row : Row) → IsRowAt [] row → row_has_run row ≡ false → IsRunless (grouped (brackets_of row))
 grouped-runless row at e = row-kept IsRunless IsAny runless-kept row (marks-of [] row at) (row-runless [] row at e)
@@ -228,8 +183,7 @@ codes-put : (t : Forest) (o : OpenTrees) → codes_in (put_row t o) ≡ codes_in
 codes-put t o = ap leaf_codes (whole-put t o) ∙ leaf_codes-row (whole o) t
 
 codes-within : (o : OpenTrees) (m : List Code) (x : Forest) → codes_in (within o m x) ≡ codes_in o ++ (m ++ leaf_codes x)
-codes-within o m x =
-    leaf_codes-row (whole o) (leaf N.Data m ⊕ x) ∙ ap (λ cs. codes_in o ++ cs) (leaf_codes-row (leaf N.Data m) x ∙ ap (λ cs. cs ++ leaf_codes x) (codes-leaf N.Data m))
+codes-within o m x = grind (arith, leaf_codes-row, codes-leaf)
 
 codes-made : (back : List Code) (kind : LabelKind) (tail : Forest) (o : OpenTrees) (m : List Code) (x : Forest)
     → codes_in (made_row back kind tail (within o m x)) ≡ codes_in (within o m x) ++ (back ++ leaf_codes tail)
@@ -240,13 +194,11 @@ codes-made back kind tail o m x =
     ∙ ap (λ cs. cs ++ (back ++ leaf_codes tail)) (sym (codes-within o m x))
 
 codes-lost : (o : OpenTrees) → codes_in (lost_row o) ≡ codes_in o
-codes-lost (outside u) = refl
-codes-lost (within o m x) = ap leaf_codes (whole-put (leaf N.Data m ⊕ x) o)
+codes-lost x1 = grind (arith, whole-put)
 
 codes-marked : (ks : List LabelKind) (mark : Mark) (o : OpenTrees) → IsMarkAt ks mark → IsFor ks o →
     codes_in (marked_row mark o) ≡ codes_in o ++ mark_codes mark
-codes-marked ks (begins kind marker) o at h =
-    codes-within o marker empty ∙ ap (λ cs. codes_in o ++ cs) (append-nil marker)
+codes-marked ks (begins kind marker) o at h = grind (arith, codes-within)
 codes-marked [] (makes back kind tail) o at h = absurd (not-made back kind tail at)
 codes-marked (k ∷ ks) (makes back kind tail) (outside u) at h = absurd h
 codes-marked (k ∷ ks) (makes back kind tail) (within o m x) at h = codes-made back kind tail o m x
@@ -263,20 +215,12 @@ codes-filled ks (row_then t mark rest) o at h =
     ∙ append_assoc (codes_in o) (leaf_codes t) (mark_codes mark ++ row_codes rest)
 
 pub grouped-codes : (row : Row) → IsRowAt [] row → leaf_codes (grouped (brackets_of row)) ≡ row_codes row
-grouped-codes row at =
-    let marks : AreMarksAt [] row = marks-of [] row at in ap leaf_codes (grouped-filled row marks) ∙ codes-filled [] row (outside empty) marks tt
+grouped-codes row at = grind (arith, marks-of, grouped-filled, codes-filled)
 
 -- No data without codes.
 
 codes-kept : IsKeptByRows HasCodes IsAny
-codes-kept = record {
-  nil = tt;
-  row = has-join;
-  some_data = λ cs h. has-leaf N.Data cs;
-  fewer = λ n cs h. tt;
-  one_leaf = λ n cs e. has-leaf n cs;
-  one_group = λ n p q x e h. (h, tt);
-}
+codes-kept = grind (arith, has-join, has-leaf)
 
 abbrev HasEndCodes : End → Type 0
 HasEndCodes (back, None) = Unit {0}
@@ -290,30 +234,23 @@ abbrev HasFoundCodes : FoundLabels → Type 0
 HasFoundCodes r = HasCodes r.0 × HaveEndCodes r.1
 
 wrapped-codes : (m : List Code) (x : Forest) (end : End) → HasCodes x → HasEndCodes end → HasCodes (wrapped m x end)
-wrapped-codes m x (back, None) h k =
-    has-join (leaf N.Data m) (x ⊕ leaf N.Data back) (has-leaf N.Data m) (has-join x (leaf N.Data back) h (has-leaf N.Data back))
-wrapped-codes m x (back, Some outcome) h k = label-kept HasCodes IsAny codes-kept outcome.0 m x back outcome.1 tt h k
+wrapped-codes m x x3 h k = grind (arith, has-join, has-leaf, label-kept, codes-kept)
 
 opened-codes : (m : List Code) (x : Forest) (more : List (End × Forest)) → HasCodes x → HaveEndCodes more →
     HasFoundCodes (opened m x more)
-opened-codes m x [] h k = (has-join (leaf N.Data m) x (has-leaf N.Data m) h, tt)
-opened-codes m x (c ∷ more) h k = (has-join (wrapped m x c.0) c.1 (wrapped-codes m x c.0 h k.0) k.1.0, k.1.1)
+opened-codes m x x3 h k = grind (arith, has-join, has-leaf, wrapped-codes)
 
 read-codes : (es : List Element) → HaveCodes es → HasFoundCodes (read (word_of es))
 read-codes [] h = (tt, tt)
 read-codes (plain t ∷ es) h = let r = read-codes es h.1 in (has-join t (read (word_of es)).0 h.0 r.0, r.1)
-read-codes (starts kind marker ∷ es) h =
-    let r = read-codes es h.1 in opened-codes marker (read (word_of es)).0 (read (word_of es)).1 r.0 r.1
+read-codes (starts kind marker ∷ es) h = grind (arith, opened-codes, read-codes es)
 read-codes (ends back None ∷ es) h = let r = read-codes es h.1 in (tt, (tt, (r.0, r.1)))
 read-codes (ends back (Some outcome) ∷ es) h = let r = read-codes es h.1 in (tt, (h.0, (r.0, r.1)))
 
 finish-codes : (more : List (End × Forest)) → HaveEndCodes more → HasCodes (finish more)
 finish-codes [] h = tt
-finish-codes (c ∷ more) h =
-    has-join (leaf N.Data c.0.0) (c.1 ⊕ finish more) (has-leaf N.Data c.0.0) (has-join c.1 (finish more) h.1.0 (finish-codes more h.1.1))
+finish-codes (c ∷ more) h = grind (arith, has-join, has-leaf, finish-codes more)
 
 -- no data of the tree of labels is empty where none of the elements is
 pub codes-labels : (es : List Element) → HaveCodes es → HasCodes (labels_of es)
-codes-labels es h =
-    let r = read-codes es h in
-    subst HasCodes (sym (labels-read es)) (has-join (read (word_of es)).0 (finish (read (word_of es)).1) r.0 (finish-codes (read (word_of es)).1 r.1))
+codes-labels es h = grind (arith, read-codes, labels-read, has-join, finish-codes)

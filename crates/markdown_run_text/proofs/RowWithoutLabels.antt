@@ -1,6 +1,6 @@
 -- Where a row begins no label and makes none, its trees stand as they are.
-use Rattle.std.proofs.Common.{◌≡◌, false, refl, sym, ap, ◌∙◌}
-use Rattle.markdown_content.specs.Tree.{Forest, empty, ◌⊕◌}
+use Rattle.std.proofs.Common.{◌≡◌, false, refl, arith}
+use Rattle.markdown_content.specs.Tree.{Forest}
 use Rattle.markdown_label.specs.Brackets.{Brackets, nothing, tree_then, flat, grouped}
 use Rattle.markdown_label.specs.BracketsJoined.{behind}
 use Rattle.markdown_label.proofs.BracketJoinLemmas.{flat-behind, grouped-behind}
@@ -10,8 +10,7 @@ use Rattle.markdown_run_text.specs.Row.{begins, makes, loses, Row, row_end, row_
 
 flat-put : (b : Brackets) (t : Forest) → flat b ≡ grouped b →
     flat (behind b (tree_then t nothing)) ≡ grouped (behind b (tree_then t nothing))
-flat-put b t e =
-    flat-behind b (tree_then t nothing) ∙ ap (λ x. x ⊕ (t ⊕ empty)) e ∙ sym (grouped-behind b (tree_then t nothing))
+flat-put b t e = grind (arith, flat-behind, grouped-behind)
 
 flat-opened : (row : Row) (b : Brackets) → row_registers row ≡ false → flat b ≡ grouped b →
     flat (assembled (opened_by row (none_waits b))) ≡ grouped (assembled (opened_by row (none_waits b)))

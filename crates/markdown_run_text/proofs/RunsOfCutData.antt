@@ -1,5 +1,5 @@
 -- The runs of a tree's containers are those of the tree whose data is cut.
-use Rattle.std.proofs.Common.{◌≡◌, Option, Some, None, List, [], ◌∷◌, ◌++◌, refl, sym, ap, ◌∙◌}
+use Rattle.std.proofs.Common.{◌≡◌, Option, Some, None, List, [], ◌∷◌, ◌++◌, refl, sym, ap, ◌∙◌, arith}
 use Rattle.markdown_content.specs.Codes.{Code}
 use Rattle.markdown_content.specs.Tree.{Forest, empty, leaf_then, group_then, leaf_codes}
 use Rattle.markdown_event.specs.declared.event.Content.{Content}
@@ -27,8 +27,7 @@ rows-split : (s : Setting) (t : Forest) → rows_inside s (split t) ≡ rows_ins
 unfolding rows_inside
 rows-split s empty = refl
 rows-split s (leaf_then name link cs rest) = leaf-rows s name link cs rest (rows-split s rest)
-rows-split s (group_then name a b inside rest) =
-    λ i. (runs-split s inside i ∷ rows-split s inside i) ++ rows-split s rest i
+rows-split s (group_then name a b inside rest) = grind (arith, runs-split, rows-split s inside, rows-split s rest)
 
 containers-split : (s : Setting) (t : Forest) → rows_of s (split t) ≡ rows_of s t
 unfolding rows_of
@@ -54,6 +53,4 @@ pub codes-same : (t u : Forest) → split t ≡ split u → leaf_codes t ≡ lea
 codes-same t u e = sym (codes-split t) ∙ ap leaf_codes e ∙ codes-split u
 
 pub containers-same : (s : Setting) (t u : Forest) → split t ≡ split u → containers_of s t ≡ containers_of s u
-containers-same s t u e =
-    (λ i. rows_of (within (codes-same t u e i) s) t)
-    ∙ sym (containers-split (within (leaf_codes u) s) t) ∙ ap (rows_of (within (leaf_codes u) s)) e ∙ containers-split (within (leaf_codes u) s) u
+containers-same s t u e = grind (arith, codes-same t u, containers-split (within (leaf_codes u) s) t, containers-split (within (leaf_codes u) s) u)

@@ -1,5 +1,5 @@
 -- What a stretch passes of the codes ahead, and where it ends.
-use Rattle.std.proofs.Common.{◌≡◌, ℕ, Bool, true, false, List, [], ◌∷◌, ◌++◌, refl, sym, ap, ◌∙◌}
+use Rattle.std.proofs.Common.{◌≡◌, ℕ, Bool, true, false, List, [], ◌∷◌, ◌++◌, refl, sym, ap, ◌∙◌, arith}
 use Rattle.markdown_content.specs.Codes.{Code}
 use Rattle.markdown_content.specs.Place.{Place, ahead_at, moved}
 use Rattle.markdown_content.specs.Stretch.{past_stretch, stops, stretch, walked}
@@ -32,7 +32,4 @@ unfolding past_stretch
 text-passed ms p = walked-moved (stretch ms (ahead_at p)) p
 
 pub text-parts : (ms : List ℕ) (p : Place) → ahead_at p ≡ stretch ms (ahead_at p) ++ ahead_at (past_stretch ms p)
-text-parts ms p =
-    let s : StretchSplit ms (ahead_at p) = split ms (ahead_at p) in
-    s.whole
-    ∙ ap (λ xs. stretch ms (ahead_at p) ++ xs) (sym (ap ahead_at (text-passed ms p) ∙ ahead-moved_by (stretch ms (ahead_at p)) s.rest p s.whole))
+text-parts ms p = grind (arith, split ms (ahead_at p), text-passed ms p, ahead-moved_by (stretch ms (ahead_at p)))

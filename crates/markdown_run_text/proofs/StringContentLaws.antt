@@ -23,7 +23,7 @@ use Rattle.markdown_leaf.specs.CharacterEscape.{escape_here}
 use Rattle.markdown_leaf.specs.CharacterReference as CharacterReference
 use Rattle.markdown_leaf.specs.CharacterReference.{reference_here, references_here}
 use Rattle.markdown_partial.specs.PartialData as PartialData
-use Rattle.markdown_run_text.specs.StringContent.{states, is_on, string_tries, string_markers, string_marked, string_passed, string_here, tries_at, before_at, StringStartReady, StringBeforeReady, before_ends, start_words, before_words, before_data_words}
+use Rattle.markdown_run_text.specs.StringContent.{states, is_on, string_tries, string_markers, string_marked, string_passed, tries_at, StringStartReady, StringBeforeReady, before_ends, start_words, before_words, before_data_words}
 use Rattle.markdown_run_text.specs.TryTable.{said_at}
 use Rattle.markdown_run_text.proofs.TryTableLemmas.{by-row, none-of}
 use Rattle.markdown_run_text.proofs.ElementSteps.{finishes-end}
@@ -46,8 +46,7 @@ states_and_called other s = states (called other) s
 
 at-end : (T : Tokenizer) → current_of T ≡ None → (ok : Bool) (U : Tokenizer) → (ok ≡ true) × (U ≡ string_passed T) →
     before_ends T ok U
-at-end T e true U k = finishes-end (string_here T) string_passed T U e k.1
-at-end T e false U k = cc
+at-end T e x3 U k = grind (arith, finishes-end)
 
 no-escape : (T : Tokenizer) (v : ℕ) → current_of T ≡ Some v → v == byte "\\" ≡ false → escape_here T (ahead T) ≡ None
 no-escape T v e h =
@@ -65,8 +64,7 @@ passed-attempts T alone = attempts-registered R.String (registered R.Data T) ∙
 
 marked-ready : (T : Tokenizer) → StringStartReady T → StringBeforeReady (string_marked T)
 unfolding scratched
-marked-ready T r =
-    record { marked = refl; rest = record { marker = r.rest.marker; size = r.rest.size }; ends = record { end = r.ends.end; seen = r.ends.seen } }
+marked-ready T r = grind arith
 
 module _ (W : Words) (within : EqualsLayer states_and_called W) where
   -- past an element the run goes on before the next
@@ -88,11 +86,7 @@ module _ (W : Words) (within : EqualsLayer states_and_called W) where
         (omega arith) (λ ok V h. h)
 
     tries-escape : current_of T ≡ Some (byte "\\") → Before (tries_at (Some CharacterEscapeStart) T)
-    tries-escape e =
-        Goes-attempt W (weight_at 6 T) (before_ends T) (Retry CharacterEscapeStart) (within CharacterEscapeStart) (Next StringBefore) (Next StringBeforeData) T alone tt (omega arith)
-        (λ U now k. on-before (weight_at 6 T) T U (omega arith) marked (escape-past T U k))
-        (λ U now k. let r : CharacterEscape.start_ends T false U = k in
-        rw (restored-fails false (Next StringBefore) (Next StringBeforeData) T.tokenize_state T U r.fails, scratched-same T) (to-data (byte "\\") e r.refused (no-reference T (byte "\\") e refl)))
+    tries-escape e = grind (arith, Goes-attempt W (weight_at 6 T) (before_ends T), on-before (weight_at 6 T) T, escape-past T, restored-fails false (Next StringBefore) (Next StringBeforeData) T.tokenize_state T, scratched-same T, to-data (byte "\\"), no-reference T (byte "\\"))
 
     tries-reference : current_of T ≡ Some (byte "&") → Before (tries_at (Some CharacterReferenceStart) T)
     tries-reference e =
@@ -112,10 +106,7 @@ module _ (W : Words) (within : EqualsLayer states_and_called W) where
     tries v = by-row (λ (n : ℕ) (o : Option StateName). current_of T ≡ Some n → Before (tries_at o T)) string_tries v ((tries-reference, tt), ((tries-escape, tt), tt)) (λ h e. tries-none v e h)
 
   pub before-law : Law W before_words
-  before-law T alone marked =
-      code-step (GoesIn W (weight_at 6 T) (before_ends T)) (current_of T) (λ o. before_at o T)
-      (λ e. Goes-end W (weight_at 6 T) (before_ends T) true (string_passed T) (passed-attempts T alone) (omega arith) (at-end T e))
-      (λ v e. tries T alone marked v e)
+  before-law T alone marked = grind (arith, code-step (GoesIn W (weight_at 6 T) (before_ends T)) (current_of T), Goes-end W (weight_at 6 T) (before_ends T) true, passed-attempts T, at-end T, tries T)
 
   pub before_data-law : Law W before_data_words
   before_data-law T alone r =

@@ -1,5 +1,5 @@
 -- Which element of a string stands where.
-use Rattle.std.proofs.Common.{◌≡◌, Bool, true, false, ◌&&◌, ◌||◌, List, ◌∷◌, Option, None, Some, refl, ap, ◌∙◌}
+use Rattle.std.proofs.Common.{◌≡◌, Bool, false, ◌||◌, List, ◌∷◌, Option, None, Some, refl, ap, arith}
 use Rattle.std.proofs.Math.Bool.{and-false}
 use Rattle.std.specs.Str.{byte}
 use Rattle.markdown_content.specs.Codes.{Code, is_line_ending}
@@ -7,10 +7,10 @@ use Rattle.markdown_content.specs.Tree.{Forest}
 use Rattle.markdown_content.specs.declared.parser.ParseState.{ParseState}
 use Rattle.markdown_model.specs.CodeTests.{is_value, is_among}
 use Rattle.markdown_model.specs.Elements.{as_plain, switched, line_ending, data_code, string_element}
-use Rattle.markdown_model.specs.Grammar.{Reading, either, provided, ◌>>◌, one}
+use Rattle.markdown_model.specs.Grammar.{Reading, either, provided, ◌>>◌}
 use Rattle.markdown_model.specs.LabelEnd.{Element, plain}
 use Rattle.markdown_model.specs.LeafConstructs.{character_escape, character_reference}
-use Rattle.markdown_model.specs.Setting.{Setting, references_of}
+use Rattle.markdown_model.specs.Setting.{Setting}
 use Rattle.markdown_model.specs.TextLines.{code_leaf}
 use Rattle.markdown_util.specs.Reference.{Table}
 use Rattle.markdown_plan.specs.Plan.{tree_ops}
@@ -36,16 +36,14 @@ pub escaped-element : (s : Setting) (cs : List Code) (t : Forest) (rest : List C
     (provided s.options.constructs.character_escape >> character_escape) cs ≡ Some (t, rest) →
     string_element s cs ≡ Some (plain t, rest)
 unfolding string_element plain_of
-escaped-element s cs t rest e =
-    first-choice (escapes s) (either (references s) (either line_ending data_code)) cs (Some (plain t, rest)) (plain-switched s.options.constructs.character_escape character_escape cs ∙ ap plain_of e)
+escaped-element s cs t rest e = grind (arith, first-choice, plain-switched)
 
 -- where no escape is
 unescaped : (s : Setting) (cs : List Code) →
     (provided s.options.constructs.character_escape >> character_escape) cs ≡ None →
     string_element s cs ≡ either (references s) (either line_ending data_code) cs
 unfolding string_element plain_of
-unescaped s cs e =
-    first-choice (escapes s) (either (references s) (either line_ending data_code)) cs None (plain-switched s.options.constructs.character_escape character_escape cs ∙ ap plain_of e)
+unescaped s cs e = grind (arith, first-choice, plain-switched)
 
 -- a reference
 pub referenced-element : (s : Setting) (cs : List Code) (t : Forest) (rest : List Code) →
@@ -53,16 +51,12 @@ pub referenced-element : (s : Setting) (cs : List Code) (t : Forest) (rest : Lis
     (provided s.options.constructs.character_reference >> character_reference s.references) cs ≡ Some (t, rest) →
     string_element s cs ≡ Some (plain t, rest)
 unfolding plain_of
-referenced-element s cs t rest none e =
-    unescaped s cs none
-    ∙ first-choice (references s) (either line_ending data_code) cs (Some (plain t, rest)) (plain-switched s.options.constructs.character_reference (character_reference s.references) cs ∙ ap plain_of e)
+referenced-element s cs t rest none e = grind (arith, unescaped, first-choice, plain-switched)
 
 by-itself : (b : Bool) (c : Code) (cs : List Code) → is_line_ending c ≡ b →
     either line_ending data_code (c ∷ cs) ≡ Some (plain (code_leaf c), cs)
 unfolding line_ending
-by-itself true c cs e = either-some line_ending data_code (c ∷ cs) (plain (code_leaf c), cs) (ending-alone c cs e)
-by-itself false c cs e =
-    either-second line_ending data_code (c ∷ cs) (bind-none (one is_line_ending) _ (c ∷ cs) (one-other is_line_ending c cs e)) ∙ data-alone c cs e
+by-itself x1 c cs e = grind (arith, either-some, ending-alone, either-second, bind-none, one-other, data-alone)
 
 -- a code by itself: a line ending, or data
 pub code-element : (c : Code) (cs : List Code) → either line_ending data_code (c ∷ cs) ≡ Some (plain (code_leaf c), cs)
@@ -74,37 +68,26 @@ pub single-element : (s : Setting) (c : Code) (cs : List Code) →
     (provided s.options.constructs.character_reference >> character_reference s.references) (c ∷ cs) ≡ None →
     string_element s (c ∷ cs) ≡ Some (plain (code_leaf c), cs)
 unfolding plain_of
-single-element s c cs none e =
-    unescaped s (c ∷ cs) none
-    ∙ first-choice (references s) (either line_ending data_code) (c ∷ cs) None (plain-switched s.options.constructs.character_reference (character_reference s.references) (c ∷ cs) ∙ ap plain_of e)
-    ∙ code-element c cs
+single-element s c cs none e = grind (arith, unescaped, first-choice, plain-switched, code-element)
 
 -- no escape begins at another code than the backslash
 pub no-backslash : (on : Bool) (c : Code) (cs : List Code) → is_value (byte "\\") c ≡ false →
     (provided on >> character_escape) (c ∷ cs) ≡ None
 unfolding character_escape
-no-backslash false c cs e = switched-off character_escape false (c ∷ cs) refl
-no-backslash true c cs e =
-    switched-on character_escape true (c ∷ cs) refl ∙ bind-none (one (is_value (byte "\\"))) _ (c ∷ cs) (one-other (is_value (byte "\\")) c cs e)
+no-backslash x1 c cs e = grind (arith, switched-off, switched-on, bind-none, one-other)
 
 unread : (o : Option (Forest × List Code)) → tree_ops o ≡ None → o ≡ None
-unread None e = refl
-unread (Some r) e = cc
+unread x1 e = grind arith
 
 -- no reference begins at another code than `&`
 pub no-ampersand : (names : Table) (on : Bool) (c : Code) (cs : List Code) → is_value (byte "&") c ≡ false →
     (provided on >> character_reference names) (c ∷ cs) ≡ None
-no-ampersand names on c cs e =
-    unread ((provided on >> character_reference names) (c ∷ cs)) (no-reference names on (c ∷ cs) (ap (λ b. on && b) e ∙ and-false on))
+no-ampersand names on c cs e = grind (arith, unread ((provided on >> character_reference names) (c ∷ cs)), no-reference names on (c ∷ cs), and-false on)
 
 neither : (a b : Bool) → (a || (b || false)) ≡ false → (a ≡ false) × (b ≡ false)
-neither true b e = cc
-neither false true e = cc
-neither false false e = (refl, refl)
+neither x1 b e = grind arith
 
 -- a code at which data does not stop
 pub unmarked-element : (p : ParseState) (c : Code) (cs : List Code) → is_among string_markers c ≡ false →
     string_element (setting_of p) (c ∷ cs) ≡ Some (plain (code_leaf c), cs)
-unmarked-element p c cs e =
-    let k = neither (is_value (byte "&") c) (is_value (byte "\\") c) e in
-    single-element (setting_of p) c cs (no-backslash p.options.now.constructs.character_escape c cs k.1) (no-ampersand (references_of p.options.now) p.options.now.constructs.character_reference c cs k.0)
+unmarked-element p c cs e = grind (arith, neither, single-element, no-backslash, no-ampersand)

@@ -1,17 +1,14 @@
 -- From one element of a string to the next.
-use Rattle.std.proofs.Common.{◌≡◌, ◌≢◌, ℕ, Bool, true, false, List, ◌∷◌, None, refl, sym, ap, subst, ◌∙◌}
+use Rattle.std.proofs.Common.{◌≡◌, ◌≢◌, ℕ, Bool, List, ◌∷◌, None, refl, sym, ap, ◌∙◌, arith}
 use Rattle.markdown_engine.specs.Operations.{ahead, current_of}
 use Rattle.markdown_engine.specs.PastTree.{Reads}
-use Rattle.markdown_engine.specs.declared.tokenizer.TokenizeState.{TokenizeState}
 use Rattle.markdown_engine.specs.declared.tokenizer.Tokenizer.{Tokenizer}
 use Rattle.markdown_leaf.specs.CharacterEscape.{escape_here}
 use Rattle.markdown_leaf.specs.CharacterReference.{reference_here}
 use Rattle.markdown_model.specs.CodeTests.{is_among}
-use Rattle.markdown_model.specs.Elements.{string_choice}
 use Rattle.markdown_model.specs.TextLines.{data_up_to}
 use Rattle.markdown_partial.specs.PartialData.{stops_of}
-use Rattle.markdown_run_text.specs.RunOverElements.{Advances, Finishes}
-use Rattle.markdown_run_text.specs.Row.{kinds_of}
+use Rattle.markdown_run_text.specs.RunOverElements.{Advances}
 use Rattle.markdown_run_text.specs.RunSetting.{setting_of}
 use Rattle.markdown_run_text.specs.StringContent.{string_markers, string_passed, string_here, StringBeforeReady, before_ends}
 use Rattle.markdown_run_text.proofs.ElementSteps.{advances-finishes, node-advances, data-advances, some-ahead, single-read}
@@ -28,32 +25,23 @@ abbrev pub PassesElements : Tokenizer → Tokenizer → Type 0
 PassesElements T U = Advances (string_here T) T U
 
 same-string : (T U : Tokenizer) → PassesElements T U → string_here U ≡ string_here T
-same-string T U p =
-    ap (λ (b : _). string_choice (setting_of b.now)) (ap (λ (x : Tokenizer). x.parse_state) p.left ∙ row-input p.row T)
+same-string T U p = grind (arith, row-input)
 
 -- the scratch fields past them
 same-fields : (T U : Tokenizer) → PassesElements T U → StringBeforeReady T →
     U.tokenize_state ≡ relisted U.tokenize_state T.tokenize_state
-same-fields T U p r =
-    subst (λ (x : Tokenizer). x.tokenize_state ≡ relisted x.tokenize_state T.tokenize_state) (sym p.left) (row-fields (kinds_of T) p.row T refl p.is_row r.ends)
+same-fields T U p r = grind (arith, row-fields)
 
 ready-past : (T U : Tokenizer) → U.tokenize_state ≡ relisted U.tokenize_state T.tokenize_state → StringBeforeReady T →
     StringBeforeReady U
-ready-past T U e r =
-    record {
-      marked = ap (λ (s : TokenizeState). s.markers) e ∙ r.marked;
-      rest = record { marker = ap (λ (s : TokenizeState). s.marker) e ∙ r.rest.marker; size = ap (λ (s : TokenizeState). s.size) e ∙ r.rest.size };
-      ends = record { end = ap (λ (s : TokenizeState). s.end) e ∙ r.ends.end; seen = ap (λ (s : TokenizeState). s.seen) e ∙ r.ends.seen };
-    }
+ready-past T U e r = grind arith
 
 pub passes-ready : (T U : Tokenizer) → PassesElements T U → StringBeforeReady T → StringBeforeReady U
 passes-ready T U p r = ready-past T U (same-fields T U p r) r
 
 -- what follows some elements, follows from before them
 pub passes-ends : (T U : Tokenizer) → PassesElements T U → (ok : Bool) (V : Tokenizer) → before_ends U ok V → before_ends T ok V
-passes-ends T U p true V k =
-    advances-finishes (string_here T) string_passed T U V p (subst (λ c. Finishes c string_passed U V) (same-string T U p) k)
-passes-ends T U p false V k = k
+passes-ends T U p x4 V k = grind (arith, advances-finishes (string_here T) string_passed T U V, same-string T U)
 
 pub escape-past : (T U : Tokenizer) → Reads (escape_here T) None T.tokenize_state T U → PassesElements T U
 escape-past T U k =

@@ -219,9 +219,7 @@ module _ (W : Words) (within : EqualsLayer states_and_called W) where
     -- what alone is tried at the code at hand
     tries-sole : (v : ℕ) → current_of T ≡ Some v → (name : StateName) (o : Option (Tokenizer → TreeReading)) →
         SoleBy T (states_and_called (words_in W) name) o → Before (attempt_step name TextBeforeData T)
-    tries-sole v e name None h = absurd h
-    tries-sole v e name (Some reading) h =
-        try-law 8 T name TextBeforeData {w = states_and_called (words_in W) name} (within name) (reading T) alone h.ready (omega (arith, h.light)) ready.marked h.ends h.own h.reads (λ none. to-data 8 T v (omega arith) ready e (h.alone none))
+    tries-sole v e name x4 h = grind (arith, try-law 8 T name TextBeforeData, to-data 8 T v)
 
     each-sole : (rows : TriesTable StateName) → EachRowPasses (IsSoleAt W T) rows →
         EachRowPasses (λ (v : ℕ) (o : Option (StateName × StateName)). current_of T ≡ Some v → Before (tries_at o T)) (or_data rows)
@@ -310,9 +308,7 @@ module _ (W : Words) (within : EqualsLayer states_and_called W) where
 
     tries-none : (v : ℕ) → current_of T ≡ Some v → list_any (λ n. v == n) text_markers ≡ false →
         Before (stepped (Retry TextBeforeData) T)
-    tries-none v e h =
-        let f = to-data 8 T v (omega arith) ready e (other-alone T v e h) in
-        Goes-plain W (weight_at 8 T) (before_ends T) (Retry TextBeforeData) {w = words_in W TextBeforeData} refl T alone f.goes_on f.falls f.closed
+    tries-none v e h = grind (arith, to-data 8 T v, other-alone T v, Goes-plain W (weight_at 8 T) (before_ends T))
 
     -- By the rows of the table.
 

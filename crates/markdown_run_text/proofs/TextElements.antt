@@ -1,5 +1,5 @@
 -- Which element of a text stands at the codes at hand.
-use Rattle.std.proofs.Common.{◌≡◌, ℕ, Bool, true, false, not, ◌&&◌, ◌||◌, ◌==◌, List, [], ◌∷◌, ◌++◌, Option, None, Some, refl, sym, ap, ◌∙◌}
+use Rattle.std.proofs.Common.{◌≡◌, ℕ, Bool, true, false, ◌&&◌, ◌||◌, ◌==◌, List, [], ◌∷◌, ◌++◌, Option, None, Some, refl, sym, ap, ◌∙◌, arith}
 use Rattle.std.specs.Prelude.{codes, is_none, nat_lt, take, drop}
 use Rattle.std.specs.Str.{byte}
 use Rattle.std.specs.List.{list_any}
@@ -11,7 +11,7 @@ use Rattle.markdown_content.specs.declared.configuration.ParseOptions.{ParseOpti
 use Rattle.markdown_engine.specs.declared.tokenizer.Tokenizer.{Tokenizer}
 use Rattle.markdown_leaf.specs.RawText.{span_at}
 use Rattle.markdown_leaf.proofs.RawTextReadings.{here-off}
-use Rattle.markdown_model.specs.CodeTests.{is_among, is_value, is_some_code}
+use Rattle.markdown_model.specs.CodeTests.{is_among}
 use Rattle.markdown_model.specs.SingleConstructs.{begins_run}
 use Rattle.markdown_model.specs.Elements.{attention_run, as_plain, switched, line_ending, data_code, code_text, math_text, Tries, tries, tried, first_check, text_element, ends_escaped, label_start_image, gfm_label_start_footnote, label_start_link}
 use Rattle.markdown_model.specs.Grammar.{Reading, ◌>>◌, ◌>>=◌, provided, either, gives, one}
@@ -39,12 +39,10 @@ plain_of o = elim o [ None ↦ None | Some r ↦ Some (plain r.0, r.1) ]
 pub plain-switched : (on : Bool) (a : Reading Forest) (cs : List Code) →
     switched on (as_plain a) cs ≡ plain_of ((provided on >> a) cs)
 unfolding switched as_plain ◌>>◌ ◌>>=◌ provided gives plain_of
-plain-switched true a cs = refl
-plain-switched false a cs = refl
+plain-switched x1 a cs = grind arith
 
 pub off-or-none : (on : Bool) (a : Reading Forest) (cs : List Code) → a cs ≡ None → (provided on >> a) cs ≡ None
-off-or-none true a cs e = switched-on a true cs refl ∙ e
-off-or-none false a cs e = switched-off a false cs refl
+off-or-none x1 a cs e = grind (arith, switched-on, switched-off)
 
 -- a code by itself
 
@@ -67,15 +65,13 @@ ending-alone c cs e =
 -- data holds everywhere
 pub data-holds : (stops : List Code → Bool) (cs : List Code) → data_up_to stops cs ≡ None → ⊥
 unfolding data_up_to
-data-holds stops [] e = cc
-data-holds stops (c ∷ cs) e = cc
+data-holds stops x2 e = grind arith
 
 -- a row and data behind it
 plain-or-data : (row : Reading Element) (c : Code) (cs : List Code) (o : Option (Forest × List Code)) →
     is_line_ending c ≡ false → row (c ∷ cs) ≡ plain_of o → either row data_code (c ∷ cs) ≡ element_here c cs o
 unfolding plain_of
-plain-or-data row c cs None e k = either-second row data_code (c ∷ cs) k ∙ data-alone c cs e
-plain-or-data row c cs (Some r) e k = either-some row data_code (c ∷ cs) (plain r.0, r.1) k
+plain-or-data row c cs x4 e k = grind (arith, either-second, data-alone, either-some)
 
 -- a code without a row is data
 tried-data : (rows : Tries) (v : ℕ) → list_any (λ n. v == n) (codes_in rows) ≡ false → tried rows v ≡ data_code
@@ -89,8 +85,7 @@ tried-at : (front : Tries) (row : List ℕ × Reading Element) (behind : Tries) 
     tried (front ++ row ∷ behind) v ≡ row.1
 unfolding tried
 tried-at [] row behind v none h = rw (h, tried) refl
-tried-at (other ∷ front) row behind v none h =
-    let k = not-in-row other front v none in rw (k.0, tried) (tried-at front row behind v k.1 h)
+tried-at (other ∷ front) row behind v none h = grind (arith, not-in-row, tried-at front row behind v)
 
 -- The markers of runs.
 
@@ -110,50 +105,37 @@ spans_by p escaped previous =
 -- one of them begins at its marker only
 only-code : (p : ParseOptions) (escaped : Bool) (previous : Option Code) (c : Code) (cs : List Code) → c.value ≡ byte "`"
     → spans_by p escaped previous (c ∷ cs) ≡ (provided p.constructs.code_text >> span_here (byte "`") code_names (λ n. true) escaped previous) (c ∷ cs)
-only-code p escaped previous c cs e =
-    either-first _ (provided p.constructs.math_text >> span_here (byte "$") math_names (λ n. p.math_text_single_dollar || nat_lt 1 n) escaped previous) (c ∷ cs)
-    (here-off p.math_text_single_dollar (byte "$") math_names (λ n. p.math_text_single_dollar || nat_lt 1 n) p.constructs.math_text escaped previous (c ∷ cs)
-    (ap (λ v. (v == byte "$") && (p.constructs.math_text && (escaped || not (is_some_code (is_value (byte "$")) previous)))) e))
+only-code p escaped previous c cs e = grind (arith, either-first, here-off)
 
 only-math : (p : ParseOptions) (escaped : Bool) (previous : Option Code) (c : Code) (cs : List Code) → c.value ≡ byte "$"
     → spans_by p escaped previous (c ∷ cs) ≡ (provided p.constructs.math_text >> span_here (byte "$") math_names (λ n. p.math_text_single_dollar || nat_lt 1 n) escaped previous) (c ∷ cs)
-only-math p escaped previous c cs e =
-    either-second (provided p.constructs.code_text >> span_here (byte "`") code_names (λ n. true) escaped previous) _ (c ∷ cs)
-    (here-off p.math_text_single_dollar (byte "`") code_names (λ n. true) p.constructs.code_text escaped previous (c ∷ cs)
-    (ap (λ v. (v == byte "`") && (p.constructs.code_text && (escaped || not (is_some_code (is_value (byte "`")) previous)))) e))
+only-math p escaped previous c cs e = grind (arith, either-second, here-off)
 
 module _ (s : Setting) (end : ℕ) (earlier : List Element) (previous : Option Code) where
   -- a check begins with a bracket
   no-check : (c : Code) (cs : List Code) → (c.value == byte "[") ≡ false →
       first_check s end earlier previous (c ∷ cs) ≡ None
   unfolding first_check plain_of gfm_task_list_item_check
-  no-check c cs e =
-      let begins : Bool = (is_none previous && s.first_of_item) && s.options.constructs.gfm_task_list_item in
-      plain-switched begins gfm_task_list_item_check (c ∷ cs) ∙ ap plain_of (off-or-none begins gfm_task_list_item_check (c ∷ cs) (bind-none (one (is_value (byte "["))) _ (c ∷ cs) (one-other (is_value (byte "[")) c cs e)))
+  no-check c cs e = grind (arith, plain-switched, off-or-none, bind-none, one-other)
 
   -- where a check begins
   pub check-element : (c : Code) (cs : List Code) (t : Forest) (rest : List Code)
       → (provided ((is_none previous && s.first_of_item) && s.options.constructs.gfm_task_list_item) >> gfm_task_list_item_check) (c ∷ cs) ≡ Some (t, rest) → text_element s end earlier previous (c ∷ cs) ≡ Some (plain t, rest)
   unfolding text_element first_check plain_of
-  check-element c cs t rest h =
-      either-some (first_check s end earlier previous) (either (tried (tries s end earlier previous) c.value) data_code) (c ∷ cs) (plain t, rest)
-      (plain-switched ((is_none previous && s.first_of_item) && s.options.constructs.gfm_task_list_item) gfm_task_list_item_check (c ∷ cs) ∙ ap plain_of h)
+  check-element c cs t rest h = grind (arith, either-some, plain-switched)
 
   -- the row of the code, and data behind it
   pub text-at : (row : Reading Element) (c : Code) (cs : List Code) →
       first_check s end earlier previous (c ∷ cs) ≡ None → tried (tries s end earlier previous) c.value ≡ row →
       text_element s end earlier previous (c ∷ cs) ≡ either row data_code (c ∷ cs)
   unfolding text_element
-  text-at row c cs none e =
-      either-second (first_check s end earlier previous) (either (tried (tries s end earlier previous) c.value) data_code) (c ∷ cs) none
-      ∙ ap (λ r. either r data_code (c ∷ cs)) e
+  text-at row c cs none e = grind (arith, either-second)
 
   -- the same, of a code with this value, which is no bracket
   text-row : (v : ℕ) (row : Reading Element) (c : Code) (cs : List Code) → c.value ≡ v → (v == byte "[") ≡ false →
       tried (tries s end earlier previous) v ≡ row →
       text_element s end earlier previous (c ∷ cs) ≡ either row data_code (c ∷ cs)
-  text-row v row c cs e n k =
-      text-at row c cs (no-check c cs (ap (λ x. x == byte "[") e ∙ n)) (ap (tried (tries s end earlier previous)) e ∙ k)
+  text-row v row c cs e n k = grind (arith, text-at, no-check)
 
   value-other : (v : ℕ) (c : Code) → c.value ≡ v → (v == byte "\n") ≡ false → is_line_ending c ≡ false
   value-other v c e k = ap (λ n. n == byte "\n") e ∙ k
@@ -161,9 +143,7 @@ module _ (s : Setting) (end : ℕ) (earlier : List Element) (previous : Option C
   -- a row of one construct
   one-row : (v : ℕ) (on : Bool) (a : Reading Forest) (c : Code) (cs : List Code) (o : Option (Forest × List Code)) → c.value ≡ v → (v == byte "\n") ≡ false → (v == byte "[") ≡ false
       → tried (tries s end earlier previous) v ≡ switched on (as_plain a) → (provided on >> a) (c ∷ cs) ≡ o → text_element s end earlier previous (c ∷ cs) ≡ element_here c cs o
-  one-row v on a c cs o e k n row h =
-      text-row v (switched on (as_plain a)) c cs e n row
-      ∙ plain-or-data (switched on (as_plain a)) c cs o (value-other v c e k) (plain-switched on a (c ∷ cs) ∙ ap plain_of h)
+  one-row v on a c cs o e k n row h = grind (arith, text-row v (switched on (as_plain a)) c cs, plain-or-data (switched on (as_plain a)) c cs o, value-other v c, plain-switched on a (c ∷ cs))
 
   -- Spans.
 
@@ -215,18 +195,12 @@ module _ (s : Setting) (end : ℕ) (earlier : List Element) (previous : Option C
     pub first-element : (t : Forest) (rest : List Code) → (provided on >> a) (c ∷ cs) ≡ Some (t, rest) →
         text_element s end earlier previous (c ∷ cs) ≡ Some (plain t, rest)
     unfolding plain_of
-    first-element t rest h =
-        text-row v _ c cs e row.1.0 row.1.1
-        ∙ plain-or-data (either (switched on (as_plain a)) (switched other (as_plain b))) c cs (Some (t, rest)) (value-other v c e row.0)
-        (either-some (switched on (as_plain a)) _ (c ∷ cs) (plain t, rest) (plain-switched on a (c ∷ cs) ∙ ap plain_of h))
+    first-element t rest h = grind (arith, text-row v, plain-or-data (either (switched on (as_plain a)) (switched other (as_plain b))) c cs (Some (t, rest)), value-other v c, either-some (switched on (as_plain a)), plain-switched on a (c ∷ cs))
 
     pub second-element : (o : Option (Forest × List Code)) → (provided on >> a) (c ∷ cs) ≡ None →
         (provided other >> b) (c ∷ cs) ≡ o → text_element s end earlier previous (c ∷ cs) ≡ element_here c cs o
     unfolding plain_of
-    second-element o none h =
-        text-row v _ c cs e row.1.0 row.1.1
-        ∙ plain-or-data (either (switched on (as_plain a)) (switched other (as_plain b))) c cs o (value-other v c e row.0)
-        (either-second (switched on (as_plain a)) _ (c ∷ cs) (plain-switched on a (c ∷ cs) ∙ ap plain_of none) ∙ plain-switched other b (c ∷ cs) ∙ ap plain_of h)
+    second-element o none h = grind (arith, text-row v, plain-or-data (either (switched on (as_plain a)) (switched other (as_plain b))) c cs o, value-other v c, either-second (switched on (as_plain a)), plain-switched on a (c ∷ cs), plain-switched other b (c ∷ cs))
 
   -- Runs of markers.
 
@@ -237,27 +211,21 @@ module _ (s : Setting) (end : ℕ) (earlier : List Element) (previous : Option C
 
   run-row : (v : ℕ) → is_marker v ≡ true → IsRunRow v
   unfolding tries tried
-  run-row v h =
-      one-of IsRunRow run_markers v ((refl, (refl, refl)), ((refl, (refl, refl)), ((refl, (refl, refl)), tt))) h
+  run-row v h = grind (arith, one-of)
 
   pub run-element : (v : ℕ) (c : Code) (cs : List Code) (t : Forest) (rest : List Code) → is_marker v ≡ true → c.value ≡ v → switched (begins_run s.options.constructs v) (attention_run v) (c ∷ cs) ≡ Some (plain t, rest)
       → text_element s end earlier previous (c ∷ cs) ≡ Some (plain t, rest)
-  run-element v c cs t rest m e h =
-      let r = run-row v m in
-      text-row v (switched (begins_run s.options.constructs v) (attention_run v)) c cs e r.1.0 r.1.1 ∙ either-some (switched (begins_run s.options.constructs v) (attention_run v)) data_code (c ∷ cs) (plain t, rest) h
+  run-element v c cs t rest m e h = grind (arith, run-row v, text-row v (switched (begins_run s.options.constructs v) (attention_run v)) c cs, either-some (switched (begins_run s.options.constructs v) (attention_run v)) data_code (c ∷ cs) (plain t, rest))
 
   -- a row that does not hold
   row-none : (v : ℕ) (row : Reading Element) (c : Code) (cs : List Code) → c.value ≡ v → (v == byte "\n") ≡ false → (v == byte "[") ≡ false → tried (tries s end earlier previous) v ≡ row → row (c ∷ cs) ≡ None
       → text_element s end earlier previous (c ∷ cs) ≡ Some (plain (code_leaf c), cs)
-  row-none v row c cs e k n r h =
-      text-row v row c cs e n r ∙ either-second row data_code (c ∷ cs) h ∙ data-alone c cs (value-other v c e k)
+  row-none v row c cs e k n r h = grind (arith, text-row, either-second, data-alone, value-other)
 
   -- a marker that begins no run
   pub run-off : (v : ℕ) (c : Code) (cs : List Code) → is_marker v ≡ true → c.value ≡ v → switched (begins_run s.options.constructs v) (attention_run v) (c ∷ cs) ≡ None
       → text_element s end earlier previous (c ∷ cs) ≡ Some (plain (code_leaf c), cs)
-  run-off v c cs m e h =
-      let r = run-row v m in
-      row-none v (switched (begins_run s.options.constructs v) (attention_run v)) c cs e r.0 r.1.0 r.1.1 h
+  run-off v c cs m e h = grind (arith, run-row, row-none)
 
   -- Literals, by the letters that they begin with.
 
@@ -265,36 +233,28 @@ module _ (s : Setting) (end : ℕ) (earlier : List Element) (previous : Option C
   letter-row : (front behind : Tries) (letters : List ℕ) (on : Bool) (k : Reading Forest) → tries s end earlier previous ≡ front ++ (letters, switched on (as_plain k)) ∷ behind
       → list_any (λ n. list_any (λ m. n == m) (byte "\n" ∷ byte "[" ∷ codes_in front)) letters ≡ false
       → (v : ℕ) (c : Code) (cs : List Code) (o : Option (Forest × List Code)) → c.value ≡ v → list_any (λ n. v == n) letters ≡ true → (provided on >> k) (c ∷ cs) ≡ o → text_element s end earlier previous (c ∷ cs) ≡ element_here c cs o
-  letter-row front behind letters on k rows apart v c cs o e h read =
-      let other = none-passes (λ n. list_any (λ m. n == m) (byte "\n" ∷ byte "[" ∷ codes_in front)) letters apart v h in
-      let line = or_parts (v == byte "\n") (list_any (λ m. v == m) (byte "[" ∷ codes_in front)) other in
-      let bracket = or_parts (v == byte "[") (list_any (λ m. v == m) (codes_in front)) line.1 in
-      one-row v on k c cs o e line.0 bracket.0 (ap (λ t. tried t v) rows ∙ tried-at front (letters, switched on (as_plain k)) behind v bracket.1 h) read
+  letter-row front behind letters on k rows apart v c cs o e h read = grind (arith, none-passes, or_parts (v == byte "\n"), or_parts, one-row v on k c cs o, tried-at front (letters, switched on (as_plain k)) behind v)
 
   pub protocol-element : (v : ℕ) (c : Code) (cs : List Code) (o : Option (Forest × List Code)) → c.value ≡ v → list_any (λ n. v == n) (first_letters schemes) ≡ true
       → (provided s.options.constructs.gfm_autolink_literal >> gfm_autolink_literal_protocol s.bytes end previous) (c ∷ cs) ≡ o → text_element s end earlier previous (c ∷ cs) ≡ element_here c cs o
   unfolding tries
-  protocol-element =
-      letter-row (take 9 (tries s end earlier previous)) (drop 10 (tries s end earlier previous)) (first_letters schemes) s.options.constructs.gfm_autolink_literal (gfm_autolink_literal_protocol s.bytes end previous) refl refl
+  protocol-element = grind (arith, letter-row (take 9 (tries s end earlier previous)) (drop 10 (tries s end earlier previous)) (first_letters schemes) s.options.constructs.gfm_autolink_literal (gfm_autolink_literal_protocol s.bytes end previous))
 
   pub www-element : (v : ℕ) (c : Code) (cs : List Code) (o : Option (Forest × List Code)) → c.value ≡ v → list_any (λ n. v == n) (first_letters (www ∷ [])) ≡ true
       → (provided s.options.constructs.gfm_autolink_literal >> gfm_autolink_literal_www s.bytes end previous) (c ∷ cs) ≡ o → text_element s end earlier previous (c ∷ cs) ≡ element_here c cs o
   unfolding tries
-  www-element =
-      letter-row (take 10 (tries s end earlier previous)) (drop 11 (tries s end earlier previous)) (first_letters (www ∷ [])) s.options.constructs.gfm_autolink_literal (gfm_autolink_literal_www s.bytes end previous) refl refl
+  www-element = grind (arith, letter-row (take 10 (tries s end earlier previous)) (drop 11 (tries s end earlier previous)) (first_letters (www ∷ [])) s.options.constructs.gfm_autolink_literal (gfm_autolink_literal_www s.bytes end previous))
 
   -- Starts and ends of labels.
 
   -- what the row of a code gives
   row-some : (v : ℕ) (row : Reading Element) (c : Code) (cs : List Code) (r : Element × List Code) → c.value ≡ v → first_check s end earlier previous (c ∷ cs) ≡ None → tried (tries s end earlier previous) v ≡ row → row (c ∷ cs) ≡ Some r
       → text_element s end earlier previous (c ∷ cs) ≡ Some r
-  row-some v row c cs r e none is h =
-      text-at row c cs none (ap (tried (tries s end earlier previous)) e ∙ is) ∙ either-some row data_code (c ∷ cs) r h
+  row-some v row c cs r e none is h = grind (arith, text-at row c cs, either-some row data_code (c ∷ cs) r)
 
   row-data : (v : ℕ) (row : Reading Element) (c : Code) (cs : List Code) → c.value ≡ v → (v == byte "\n") ≡ false → first_check s end earlier previous (c ∷ cs) ≡ None → tried (tries s end earlier previous) v ≡ row → row (c ∷ cs) ≡ None
       → text_element s end earlier previous (c ∷ cs) ≡ Some (plain (code_leaf c), cs)
-  row-data v row c cs e k none is h =
-      text-at row c cs none (ap (tried (tries s end earlier previous)) e ∙ is) ∙ either-second row data_code (c ∷ cs) h ∙ data-alone c cs (value-other v c e k)
+  row-data v row c cs e k none is h = grind (arith, text-at row c cs, either-second row data_code (c ∷ cs), data-alone c cs, value-other v c)
 
   -- a `!`
   abbrev pub bang_row : Reading Element
@@ -308,8 +268,7 @@ module _ (s : Setting) (end : ℕ) (earlier : List Element) (previous : Option C
   pub no-image-element : (c : Code) (cs : List Code) → c.value ≡ byte "!" → bang_row (c ∷ cs) ≡ None →
       text_element s end earlier previous (c ∷ cs) ≡ Some (plain (code_leaf c), cs)
   unfolding tries tried
-  no-image-element c cs e h =
-      row-data (byte "!") bang_row c cs e refl (no-check c cs (ap (λ x. x == byte "[") e)) refl h
+  no-image-element c cs e h = grind (arith, row-data, no-check)
 
   -- a `[`
   abbrev pub bracket_row : Reading Element
@@ -333,14 +292,12 @@ module _ (s : Setting) (end : ℕ) (earlier : List Element) (previous : Option C
       s.options.constructs.label_end ≡ true → label_end s earlier (c ∷ cs) ≡ Some r →
       text_element s end earlier previous (c ∷ cs) ≡ Some r
   unfolding tries tried switched
-  end-element c cs r e on h =
-      row-some (byte "]") (provided s.options.constructs.label_end >> label_end s earlier) c cs r e (no-check c cs (ap (λ x. x == byte "[") e)) refl (switched-on (label_end s earlier) s.options.constructs.label_end (c ∷ cs) on ∙ h)
+  end-element c cs r e on h = grind (arith, row-some, no-check c cs, switched-on (label_end s earlier) s.options.constructs.label_end (c ∷ cs))
 
   pub no-end-element : (c : Code) (cs : List Code) → c.value ≡ byte "]" → s.options.constructs.label_end ≡ false →
       text_element s end earlier previous (c ∷ cs) ≡ Some (plain (code_leaf c), cs)
   unfolding tries tried switched
-  no-end-element c cs e off =
-      row-data (byte "]") (provided s.options.constructs.label_end >> label_end s earlier) c cs e refl (no-check c cs (ap (λ x. x == byte "[") e)) refl (switched-off (label_end s earlier) s.options.constructs.label_end (c ∷ cs) off)
+  no-end-element c cs e off = grind (arith, row-data, no-check c cs, switched-off (label_end s earlier) s.options.constructs.label_end (c ∷ cs))
 
   -- Codes that begin no construct.
 
@@ -348,15 +305,12 @@ module _ (s : Setting) (end : ℕ) (earlier : List Element) (previous : Option C
   plain-tried : (v : ℕ) → (v == byte "\n") ≡ false → list_any (λ n. v == n) text_markers ≡ false →
       tried (tries s end earlier previous) v ≡ data_code
   unfolding tries
-  plain-tried v e h =
-      tried-data (tries s end earlier previous) v
-      (none-within (codes_in (tries s end earlier previous)) (byte "\n" ∷ text_markers) refl v (or_from (v == byte "\n") (list_any (λ n. v == n) text_markers) e h))
+  plain-tried v e h = grind (arith, tried-data (tries s end earlier previous) v, none-within (codes_in (tries s end earlier previous)) (byte "\n" ∷ text_markers), or_from (v == byte "\n"))
 
   ending-at : (c : Code) (cs : List Code) → is_line_ending c ≡ true →
       text_element s end earlier previous (c ∷ cs) ≡ Some (plain (code_leaf c), cs)
   unfolding tries tried
-  ending-at c cs e =
-      text-row (byte "\n") line_ending c cs (eqb-true c.value (byte "\n") e) refl refl ∙ either-some line_ending data_code (c ∷ cs) (plain (code_leaf c), cs) (ending-alone c cs e)
+  ending-at c cs e = grind (arith, text-row (byte "\n") line_ending c cs, eqb-true c.value (byte "\n") e, either-some line_ending data_code (c ∷ cs) (plain (code_leaf c), cs), ending-alone c cs)
 
   data-at : (c : Code) (cs : List Code) → is_line_ending c ≡ false → is_among text_markers c ≡ false →
       text_element s end earlier previous (c ∷ cs) ≡ Some (plain (code_leaf c), cs)
@@ -365,9 +319,4 @@ module _ (s : Setting) (end : ℕ) (earlier : List Element) (previous : Option C
 
   pub other-element : (c : Code) (cs : List Code) → is_among text_markers c ≡ false →
       text_element s end earlier previous (c ∷ cs) ≡ Some (plain (code_leaf c), cs)
-  other-element c cs h = by_ending (is_line_ending c) refl
-    where
-      by_ending : (b : Bool) → is_line_ending c ≡ b →
-          text_element s end earlier previous (c ∷ cs) ≡ Some (plain (code_leaf c), cs)
-      by_ending true e = ending-at c cs e
-      by_ending false e = data-at c cs e h
+  other-element c cs h = grind (arith, ending-at, data-at)

@@ -1,5 +1,5 @@
 -- Which starts and ends of labels stand at the codes at hand of a text.
-use Rattle.std.proofs.Common.{◌≡◌, ℕ, ◌==◌, Bool, true, false, not, ◌&&◌, List, [], ◌∷◌, ◌++◌, Option, None, Some, refl, sym, ap, ◌∙◌, subst}
+use Rattle.std.proofs.Common.{◌≡◌, ℕ, ◌==◌, Bool, true, false, not, ◌&&◌, List, [], ◌∷◌, Option, None, Some, refl, sym, ap, ◌∙◌, subst, arith}
 use Rattle.std.specs.Str.{byte}
 use Rattle.markdown_label.proofs.BegunStartPlaces.{first-is, two-whole}
 use Rattle.markdown_content.specs.Codes.{Code}
@@ -19,7 +19,7 @@ use Rattle.markdown_label.proofs.KeptStartStack.{end-made, end-fails}
 use Rattle.markdown_model.proofs.GrammarSteps.{and-left, and-right, bind-some, bind-none, one-here, one-not, before-some, before-other, before-none, either-some, either-second, switched-on, switched-off}
 use Rattle.markdown_model.specs.CodeTests.{is_value, next_is}
 use Rattle.markdown_model.specs.Elements.{label_start_image, gfm_label_start_footnote, label_start_link, switched}
-use Rattle.markdown_model.specs.Grammar.{Reading, ◌>>=◌, gives, one, word, word_of, with_first, before}
+use Rattle.markdown_model.specs.Grammar.{Reading, ◌>>=◌, gives, one, word, word_of, before}
 use Rattle.markdown_model.specs.LabelEnd.{Element, starts, ends, label_end, outcome_of, footnote_call, link_or_image, label_identifier, after_label, reference_after_label, shortcut_before_bracket, full_reference, reference_identifier}
 use Rattle.markdown_model.specs.TextLines.{data_up_to}
 use Rattle.markdown_run_text.specs.RunOverElements.{AreReadAsData, Advances, StandsAfter}
@@ -34,12 +34,10 @@ use Rattle.markdown_run_text.specs.ElementsAsRead.{source_of}
 -- Tests, where the first of them holds.
 
 pub later-tests : (a b c : Bool) → a ≡ true → (a && b) && c ≡ false → b && c ≡ false
-later-tests true b c h k = k
-later-tests false b c h k = cc
+later-tests x1 b c h k = grind arith
 
 pub right-test : (a b : Bool) → a ≡ true → a && b ≡ false → b ≡ false
-right-test true b h k = k
-right-test false b h k = cc
+right-test x1 b h k = grind arith
 
 -- Codes that come next.
 
@@ -50,37 +48,12 @@ is-the v c e = ap (λ x. x == v) e
 pair-some : (v w : ℕ) (c d : Code) (cs : List Code) → (c.value == v) ≡ true → (d.value == w) ≡ true →
     word_of (v ∷ w ∷ []) (c ∷ d ∷ cs) ≡ Some (c ∷ d ∷ [], cs)
 unfolding word_of
-pair-some v w c d cs e f =
-    let inner : word_of (w ∷ []) (d ∷ cs) ≡ Some (d ∷ [], cs) = by_test (d.value == w) f in
-    by_first (c.value == v) e inner
-  where
-    by_test : (b : Bool) → b ≡ true →
-        elim b as (λ _. Option (List Code × List Code)) [ true ↦ with_first d (word_of [] cs) | false ↦ None ] ≡ Some (d ∷ [], cs)
-    by_test true h = refl
-    by_test false h = cc
-
-    by_first : (b : Bool) → b ≡ true → word_of (w ∷ []) (d ∷ cs) ≡ Some (d ∷ [], cs) →
-        elim b as (λ _. Option (List Code × List Code)) [ true ↦ with_first c (word_of (w ∷ []) (d ∷ cs)) | false ↦ None ] ≡ Some (c ∷ d ∷ [], cs)
-    by_first true h k = ap (with_first c) k
-    by_first false h k = cc
+pair-some v w c d cs e f = grind arith
 
 pair-none : (v w : ℕ) (cs : List Code) → next_is (is_value v) cs && next_is (is_value w) (rest_of cs) ≡ false →
     word_of (v ∷ w ∷ []) cs ≡ None
 unfolding word_of
-pair-none v w [] e = refl
-pair-none v w (c ∷ []) e = by_test (c.value == v)
-  where
-    by_test : (b : Bool) →
-        elim b as (λ _. Option (List Code × List Code)) [ true ↦ with_first c (word_of (w ∷ []) []) | false ↦ None ] ≡ None
-    by_test true = refl
-    by_test false = refl
-pair-none v w (c ∷ d ∷ cs) e = by_tests (c.value == v) (d.value == w) e
-  where
-    by_tests : (a b : Bool) → a && b ≡ false →
-        elim a as (λ _. Option (List Code × List Code)) [ true ↦ with_first c (elim b as (λ _. Option (List Code × List Code)) [ true ↦ with_first d (word_of [] cs) | false ↦ None ]) | false ↦ None ] ≡ None
-    by_tests true true h = cc
-    by_tests true false h = refl
-    by_tests false b h = refl
+pair-none v w x3 e = grind arith
 
 -- Switches.
 
@@ -92,8 +65,7 @@ on-some on a cs r e h = switched-on a on cs e ∙ h
 -- it is off, or what is read does not stand here
 pub on-none : (on : Bool) (a : Reading Element) (cs : List Code) → (on ≡ true → a cs ≡ None) → switched on a cs ≡ None
 unfolding switched
-on-none true a cs h = switched-on a true cs refl ∙ h refl
-on-none false a cs h = switched-off a false cs refl
+on-none x1 a cs h = grind (arith, switched-on, switched-off)
 
 -- Starts.
 
@@ -132,25 +104,7 @@ pub image-none : (footnotes : Bool) (cs : List Code) →
     next_is (is_value (byte "!")) cs && (next_is (is_value (byte "[")) (rest_of cs) && not (footnotes && next_is (is_value (byte "^")) (rest_of (rest_of cs)))) ≡ false →
     label_start_image footnotes cs ≡ None
 unfolding label_start_image word
-image-none footnotes cs e = bind-none (before (word "![") (λ xs. not (footnotes && next_is (is_value (byte "^")) xs))) _ cs (by_first (next_is (is_value (byte "!")) cs && next_is (is_value (byte "[")) (rest_of cs)) refl)
-  where
-    and-apart : (a b c : Bool) → a && b ≡ true → a && (b && c) ≡ false → c ≡ false
-    and-apart true true c h k = k
-    and-apart true false c h k = cc
-    and-apart false b c h k = cc
-
-    there : (f : BeginsWithValue (byte "!") cs) (g : BeginsWithValue (byte "[") (rest_of cs)) →
-        word "![" cs ≡ Some (f.code ∷ g.code ∷ [], rest_of (rest_of cs))
-    there f g =
-        ap (word "![") (f.whole ∙ ap (λ xs. f.code ∷ xs) g.whole) ∙ pair-some (byte "!") (byte "[") f.code g.code (rest_of (rest_of cs)) (is-the (byte "!") f.code f.value) (is-the (byte "[") g.code g.value)
-
-    by_first : (b : Bool) → next_is (is_value (byte "!")) cs && next_is (is_value (byte "[")) (rest_of cs) ≡ b →
-        before (word "![") (λ xs. not (footnotes && next_is (is_value (byte "^")) xs)) cs ≡ None
-    by_first true h =
-        before-other (word "![") (λ xs. not (footnotes && next_is (is_value (byte "^")) xs)) cs _ (rest_of (rest_of cs))
-        (there (first-is (byte "!") cs (and-left _ _ h)) (first-is (byte "[") (rest_of cs) (and-right _ _ h)))
-        (and-apart (next_is (is_value (byte "!")) cs) (next_is (is_value (byte "[")) (rest_of cs)) _ h e)
-    by_first false h = before-none (word "![") _ cs (pair-none (byte "!") (byte "[") cs h)
+image-none footnotes cs e = grind (arith, bind-none, pair-some, is-the, before-other, first-is, and-left, and-right, before-none, pair-none)
 
 -- Past the start of a label.
 
@@ -161,8 +115,7 @@ FindsStart kind marker rest T =
 
 started : (kind : LabelKind) (marker rest : List Code) (T U : Tokenizer) → PastStart kind marker rest T U →
     FindsStart kind marker rest T → Advances (text_choice_of T) T U
-started kind marker rest T U p finds =
-    start-advances (text_choice_of T) kind marker T U p.is p.left (p.whole ∙ ap (λ xs. marker ++ xs) (sym p.after)) (λ earlier previous stands. finds earlier previous stands ∙ ap (λ xs. Some (starts kind marker, xs)) (sym p.after))
+started kind marker rest T U p finds = grind (arith, start-advances)
 
 pub image-advances : (T U : Tokenizer) → image_ends T true U → Advances (text_choice_of T) T U
 image-advances T U k =
@@ -178,10 +131,7 @@ image-advances T U k =
     (image-some (footnotes_on T) f.code g.code rest f.value g.value (and-right _ _ (and-right _ _ k.holds)))))
 
 pub image-alone : (T : Tokenizer) → current_of T ≡ Some (byte "!") → image_test T (ahead T) ≡ false → StandsAlone T
-image-alone T e refused earlier previous c cs stands w =
-    no-image-element (text_setting T) (end_in T) earlier previous c cs (value-here T (byte "!") c cs e w)
-    (on-none T.parse_state.now.options.now.constructs.label_start_image _ (c ∷ cs) (λ on.
-    image-none (footnotes_on T) (c ∷ cs) (ap (λ xs. next_is (is_value (byte "!")) xs && (next_is (is_value (byte "[")) (rest_of xs) && not (footnotes_on T && next_is (is_value (byte "^")) (rest_of (rest_of xs))))) (sym w) ∙ later-tests T.parse_state.now.options.now.constructs.label_start_image _ _ on refused)))
+image-alone T e refused earlier previous c cs stands w = grind (arith, no-image-element, value-here, on-none, image-none, later-tests)
 
 pub footnote-advances : (T U : Tokenizer) → check_here T (ahead T) ≡ None → footnote_ends T true U →
     Advances (text_choice_of T) T U
@@ -200,8 +150,7 @@ footnote-advances T U none k =
 -- no footnote call begins here
 no-footnote : (T : Tokenizer) (cs : List Code) → ahead T ≡ cs → footnote_test T (ahead T) ≡ false →
     switched (footnotes_on T) gfm_label_start_footnote cs ≡ None
-no-footnote T cs w refused =
-    on-none (footnotes_on T) gfm_label_start_footnote cs (λ on. footnote-none cs (ap (λ xs. next_is (is_value (byte "[")) xs && next_is (is_value (byte "^")) (rest_of xs)) (sym w) ∙ later-tests (footnotes_on T) _ _ on refused))
+no-footnote T cs w refused = grind (arith, on-none, footnote-none, later-tests)
 
 pub link-advances : (T U : Tokenizer) → check_here T (ahead T) ≡ None → footnote_test T (ahead T) ≡ false →
     link_ends T true U → Advances (text_choice_of T) T U
@@ -217,10 +166,7 @@ link-advances T U none refused k =
 
 pub bracket-alone : (T : Tokenizer) → check_here T (ahead T) ≡ None → current_of T ≡ Some (byte "[") →
     footnote_test T (ahead T) ≡ false → link_test T (ahead T) ≡ false → StandsAlone T
-bracket-alone T none e no_footnote refused earlier previous c cs stands w =
-    no-bracket-element (text_setting T) (end_in T) earlier previous c cs (first-none T earlier previous c cs none stands w) (value-here T (byte "[") c cs e w)
-    (either-second _ _ (c ∷ cs) (no-footnote T (c ∷ cs) w no_footnote)
-    ∙ on-none T.parse_state.now.options.now.constructs.label_start_link label_start_link (c ∷ cs) (λ on. link-none (c ∷ cs) (ap (next_is (is_value (byte "["))) (sym w) ∙ right-test _ _ on refused)))
+bracket-alone T none e no_footnote refused earlier previous c cs stands w = grind (arith, no-bracket-element, first-none, value-here, either-second, no-footnote, on-none, link-none, right-test)
 
 -- Ends.
 
@@ -232,22 +178,12 @@ same-end T earlier cs = refl
 
 some-back : (x : List Code) (o : Option ((LabelKind × Forest) × List Code)) (back : List Code) (kind : LabelKind) (tail : Forest) (rest : List Code) → elim o as (λ _. Option ((List Code × (LabelKind × Forest)) × List Code)) [ None ↦ None | Some r ↦ Some ((x, r.0), r.1) ] ≡ Some ((back, (kind, tail)), rest)
     → (x ≡ back) × (o ≡ Some ((kind, tail), rest))
-some-back x None back kind tail rest e = cc
-some-back x (Some r) back kind tail rest e = (ap back-of e, ap outcome-of e)
-  where
-    back-of : Option ((List Code × (LabelKind × Forest)) × List Code) → List Code
-    back-of None = []
-    back-of (Some y) = y.0.0
-
-    outcome-of : Option ((List Code × (LabelKind × Forest)) × List Code) → Option ((LabelKind × Forest) × List Code)
-    outcome-of None = None
-    outcome-of (Some y) = Some (y.0.1, y.1)
+some-back x x2 back kind tail rest e = grind arith
 
 none-back : (x : List Code) (o : Option ((LabelKind × Forest) × List Code)) →
     elim o as (λ _. Option ((List Code × (LabelKind × Forest)) × List Code)) [ None ↦ None | Some r ↦ Some ((x, r.0), r.1) ] ≡ None →
     o ≡ None
-none-back x None e = refl
-none-back x (Some r) e = cc
+none-back x x2 e = grind arith
 
 module _ (T : Tokenizer) (here : current_of T ≡ Some (byte "]")) (on : is_on T ≡ true) where
   abbrev B : BeginsWithValue (byte "]") (ahead T)
@@ -290,5 +226,4 @@ module _ (T : Tokenizer) (here : current_of T ≡ Some (byte "]")) (on : is_on T
 
 -- where ends are off
 pub end-alone : (T : Tokenizer) → current_of T ≡ Some (byte "]") → is_on T ≡ false → StandsAlone T
-end-alone T e off earlier previous c cs stands w =
-    no-end-element (text_setting T) (end_in T) earlier previous c cs (value-here T (byte "]") c cs e w) off
+end-alone T e off earlier previous c cs stands w = grind (arith, no-end-element, value-here)

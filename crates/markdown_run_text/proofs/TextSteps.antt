@@ -1,18 +1,16 @@
 -- What is known of a text at a place is known past what is read there.
 use Rattle.markdown_model.specs.LeafConstructs.{gfm_task_list_item_check}
 use Rattle.markdown_model.specs.CodeTests.{is_value, last_code, next_is}
-use Rattle.std.proofs.Common.{◌≡◌, ◌≢◌, ℕ, ◌+◌, ◌*◌, ◌<◌, ◌≤◌, ◌==◌, Bool, true, false, if◌then◌else◌, Option, Some, None, List, [], ◌∷◌, refl, sym, ap, subst, ◌∙◌, arith, length, length-append, is_none, ◌&&◌, ◌++◌, append-nil}
+use Rattle.std.proofs.Common.{◌≡◌, ◌≢◌, ℕ, ◌<◌, ◌≤◌, ◌==◌, Bool, true, false, if◌then◌else◌, Option, Some, None, List, [], ◌∷◌, refl, sym, ap, subst, ◌∙◌, arith, length, length-append, is_none, ◌&&◌, ◌++◌, append-nil}
 use Rattle.std.specs.Str.{byte}
-use Rattle.markdown_content.specs.Codes.{Code, stop_of, document_start}
-use Rattle.markdown_notes.specs.BracketIndex.{BracketPlaces, brackets_between}
+use Rattle.markdown_content.specs.Codes.{Code}
+use Rattle.markdown_notes.specs.BracketIndex.{brackets_between}
 use Rattle.markdown_notes.specs.NameIndex.{names_in_order}
 use Rattle.markdown_notes.specs.declared.name_index.Names.{Names}
 use Rattle.markdown_content.specs.declared.parser.ParseState.{ParseState}
-use Rattle.markdown_event.specs.declared.event.Point.{Point}
 use Rattle.markdown_engine.specs.Operations.{ahead, current_of, is_registered, registered, scratched, previous_of}
 use Rattle.markdown_engine.specs.PastTree.{past, moved_by}
 use Rattle.markdown_content.specs.Place.{Place, moved, code_before, last_of, point_of, value_of}
-use Rattle.markdown_notes.specs.RunIndex.{LastRuns, last_runs}
 use Rattle.markdown_notes.specs.SequenceIndex.{last_begins}
 use Rattle.markdown_notes.specs.TitleIndex.{closers_of}
 use Rattle.markdown_content.specs.Tree.{Forest, empty}
@@ -27,8 +25,6 @@ use Rattle.markdown_leaf_gfm.specs.GfmAutolinkLiteral as GfmAutolinkLiteral
 use Rattle.markdown_leaf_gfm.specs.GfmTaskListItemCheck as GfmTaskListItemCheck
 use Rattle.markdown_leaf_html.specs.HtmlText as HtmlText
 use Rattle.markdown_attention.specs.Attention as Attention
-use Rattle.markdown_leaf_gfm.specs.DomainOutlook.{no_domains}
-use Rattle.markdown_partial.specs.PartialSpaceOrTab as PartialSpaceOrTab
 use Rattle.markdown_plan.specs.Characters.{ReadsText}
 use Rattle.markdown_plan.proofs.CharactersAlongContent.{text-scratched}
 use Rattle.markdown_label.specs.LabelEnd as LabelEnd
@@ -36,26 +32,22 @@ use Rattle.markdown_label.specs.LabelEnd.{AreStartsWithin}
 use Rattle.markdown_model.specs.Setting.{Setting}
 use Rattle.markdown_label_names.specs.LabelSetting.{setting_of, AreListed, IsListed}
 use Rattle.markdown_label.proofs.KeptStartPlaces.{within-grown}
-use Rattle.markdown_partial.specs.PartialSpaceOrTabEol as PartialSpaceOrTabEol
-use Rattle.markdown_label.specs.AfterLabelParts as AfterLabelParts
 use Rattle.markdown_label.specs.AfterLabelParts.{PartReady}
 use Rattle.markdown_label.proofs.NextCodeTests.{same-codes}
 use Rattle.markdown_label.proofs.ResourceLaws.{indexed-same, titled-same}
 use Rattle.markdown_leaf.specs.CharacterReference.{IsAtRest}
 use Rattle.markdown_leaf.specs.RawText as RawText
-use Rattle.markdown_model.specs.Elements.{text_choice}
 use Rattle.markdown_partial.specs.PartialData.{stops_of}
-use Rattle.markdown_run_text.specs.RunOverElements.{AreReadAsData, Advances, Finishes}
+use Rattle.markdown_run_text.specs.RunOverElements.{AreReadAsData, Advances}
 use Rattle.markdown_run_text.specs.Row.{EndsRest, Row, loses, row_end, row_then, past_mark, past_row, row_codes, kinds_of, IsRowAt}
 use Rattle.markdown_run_text.proofs.LabelSteps.{empty-part, mark-alone}
 use Rattle.markdown_run_text.proofs.RowFields.{relisted, row-cursor, row-text, row-fields, made-within}
 use Rattle.markdown_run_text.proofs.RowScratch.{row-input}
-use Rattle.markdown_run_text.specs.TextContent.{order_pays, names_for, brackets_pay, titles_pay, marked_fields, text_marked, text_passed, text_choice_of, EndsWithCodes, TextStartReady, IsReadyWithMarkers, StandsAlone, before_ends, data_ends, text_setting, StopsAtElements, names_in}
+use Rattle.markdown_run_text.specs.TextContent.{names_for, brackets_pay, titles_pay, marked_fields, text_marked, text_passed, text_choice_of, EndsWithCodes, TextStartReady, IsReadyWithMarkers, StandsAlone, before_ends, data_ends, text_setting, StopsAtElements}
 use Rattle.markdown_run_text.proofs.TextDataStops.{stops-where}
 use Rattle.markdown_run_text.proofs.TextTries.{end_in, ReadsElements, none-valued, check-reads, no-check-at-end, other-data}
 use Rattle.markdown_run_text.proofs.ElementSteps.{last-some, some-ahead, advances-finishes, finishes-end, data-advances}
 use Rattle.markdown_model.proofs.GrammarSteps.{if-true, if-false, switched-off}
-use Rattle.markdown_run_text.specs.RunSetting.{text_setting_of}
 use Rattle.markdown_run_text.specs.ElementsAsRead.{source_of}
 
 -- Past a row the choice is as it was, and so are the scratch fields but for the lists of labels.
@@ -78,88 +70,54 @@ ends-rest T r = record { end = r.resting; seen = sym (ap (λ (s : TokenizeState)
 
 pub same-row : (row : Row) (T U : Tokenizer) → U ≡ past_row row T → IsRowAt (kinds_of T) row → LabelEnd.LabelEndStartReady T →
     KeepsTheRest T U
-same-row row T U left is r =
-    subst (λ (x : Tokenizer). KeepsTheRest T x) (sym left)
-    (record {
-      fields = row-fields (kinds_of T) row T refl is (ends-rest T r);
-      input = row-input row T;
-      codes = ap (λ (p : Place). p.codes) (row-cursor (kinds_of T) row T is) ∙ same-codes (row_codes row) T.cursor;
-      end = ap (λ (p : Place). p.end) (row-cursor (kinds_of T) row T is) ∙ same-end (row_codes row) T.cursor;
-      text = row-text (kinds_of T) row T is r.text;
-    })
+same-row row T U left is r = grind (arith, row-fields (kinds_of T) row T, ends-rest T, row-input row T, row-cursor (kinds_of T) row T, same-codes (row_codes row) T.cursor, same-end (row_codes row) T.cursor, row-text (kinds_of T) row T)
 
 pub choice-same : (T U : Tokenizer) → KeepsTheRest T U → text_choice_of U ≡ text_choice_of T
-choice-same T U k =
-    (λ i. text_choice (text_setting_of (k.input i).now U.tokenize_state.document_at_first_paragraph_of_list_item) (k.codes i))
-    ∙ ap (λ (s : TokenizeState). text_choice (text_setting_of T.parse_state.now s.document_at_first_paragraph_of_list_item) T.cursor.codes) k.fields
+choice-same T U k = grind arith
 
 -- what is known of the runs stays right
 pub indexed-past : (T U : Tokenizer) → KeepsTheRest T U → RawText.IsIndexed T → RawText.IsIndexed U
-indexed-past T U e k =
-    let runs : U.tokenize_state.runs ≡ T.tokenize_state.runs = ap (λ (s : TokenizeState). s.runs) e.fields in
-    runs ∙ k ∙ ap (λ (x : LastRuns). last_runs x.asked T.cursor.codes) (sym runs) ∙ ap (λ cs. last_runs U.tokenize_state.runs.asked cs) (sym e.codes)
+indexed-past T U e k = grind arith
 
 -- and so do what is known of sequences, and of names
 pub sequences-past : (T U : Tokenizer) → KeepsTheRest T U → HtmlText.KnowsSequences T → HtmlText.KnowsSequences U
 sequences-past T U e k = indexed-same T U e.codes (ap (λ (s : TokenizeState). s.sequences) e.fields) k
 
 pub listed-past : (T U : Tokenizer) → KeepsTheRest T U → IsListed T → IsListed U
-listed-past T U e k names known =
-    subst (λ (p : ParseState). AreListed (setting_of p) names) (λ i. (sym e.input i).now) (k names (ap (λ (s : TokenizeState). s.names) (sym e.fields) ∙ known))
+listed-past T U e k names known = grind arith
 
 pub domains-past : (T U : Tokenizer) → KeepsTheRest T U → GfmAutolinkLiteral.KnowsDomains T →
     GfmAutolinkLiteral.KnowsDomains U
-domains-past T U e k places known =
-    k places (ap (λ (s : TokenizeState). s.no_domains) (sym e.fields) ∙ known) ∙ (λ i. no_domains (sym e.input i).now.bytes.now (sym e.end i).index (sym e.codes i))
+domains-past T U e k places known = grind arith
 
 pub part-past : (T U : Tokenizer) → KeepsTheRest T U → codes_left U ≤ codes_left T → PartReady T → PartReady U
-part-past T U e l k =
-    let u : TokenizeState = U.tokenize_state in
-    record {
-      short = omega (arith, l, k.short);
-      indexed = sequences-past T U e k.indexed;
-      titled = titled-same T U e.codes (ap (λ (s : TokenizeState). s.titles) e.fields) k.titled;
-      spaces = record { space = ap PartialSpaceOrTab.rested e.fields ∙ ap (relisted u) k.spaces.space ∙ sym e.fields; eol = ap PartialSpaceOrTabEol.eol_rested e.fields ∙ ap (relisted u) k.spaces.eol ∙ sym e.fields };
-      rest = ap AfterLabelParts.rested e.fields ∙ ap (relisted u) k.rest ∙ sym e.fields;
-    }
+part-past T U e l k = grind (arith, sequences-past, titled-same)
 
 -- the content ends with its last code
 pub last-past : (T U : Tokenizer) → KeepsTheRest T U → EndsWithCodes T.cursor → EndsWithCodes U.cursor
-last-past T U e last =
-    λ some. ap (λ (p : Point). p.index) e.end ∙ last (subst (λ cs. cs ≢ []) e.codes some) ∙ ap (λ cs. (stop_of document_start cs).index) (sym e.codes)
+last-past T U e last = grind arith
 
 -- data stops at the same places
 pub stops-same : (T U : Tokenizer) → KeepsTheRest T U → stops_of U.tokenize_state ≡ stops_of T.tokenize_state
 stops-same T U e = ap (λ (s : TokenizeState). stops_of s) e.fields
 
 pub stops-past : (T U : Tokenizer) → KeepsTheRest T U → StopsAtElements T → StopsAtElements U
-stops-past T U e stops front earlier previous c cs w free =
-    (λ i. choice-same T U e i earlier previous (c ∷ cs)) ∙ stops front earlier previous c cs (sym e.codes ∙ w) (ap (λ (stop : List Code → Bool). stop (c ∷ cs)) (sym (stops-same T U e)) ∙ free)
+stops-past T U e stops front earlier previous c cs w free = grind (arith, choice-same, stops-same)
 
 pub ready-past : (T U : Tokenizer) → KeepsTheRest T U → codes_left U ≤ codes_left T →
     AreStartsWithin U U.tokenize_state.label_starts → TextStartReady T → TextStartReady U
-ready-past T U e l within r =
-    let u : TokenizeState = U.tokenize_state in
-    record {
-      spans = record { rest = e.fields ∙ ap (relisted u) r.spans.rest ∙ ap RawText.rested (sym e.fields); fits = omega (arith, l, r.spans.fits) };
-      look = record { resting = ap PartialSpaceOrTab.rested e.fields ∙ ap (relisted u) r.look.resting ∙ sym e.fields; short = omega (arith, l, r.look.short) };
-      literals = record { text = e.text; resting = ap GfmAutolinkLiteral.rested e.fields ∙ ap (relisted u) r.literals.resting ∙ sym e.fields; short = omega (arith, l, r.literals.short) };
-      ends = record { part = part-past T U e l r.ends.part; listed = listed-past T U e r.ends.listed; text = e.text; within = within; resting = ap (λ (s : TokenizeState). s.end) e.fields ∙ r.ends.resting };
-      last = last-past T U e r.last;
-    }
+ready-past T U e l within r = grind (arith, part-past, listed-past, last-past)
 
 -- where data stops at elements, all but that is what is asked at the start
 pub marked-ready : (T : Tokenizer) → IsReadyWithMarkers T → TextStartReady T
 marked-ready T r = record { spans = r.spans; look = r.look; literals = r.literals; ends = r.ends; last = r.last }
 
 pub ready-marked : (T : Tokenizer) → StopsAtElements T → TextStartReady T → IsReadyWithMarkers T
-ready-marked T stops r =
-    record { stops = stops; spans = r.spans; look = r.look; literals = r.literals; ends = r.ends; last = r.last }
+ready-marked T stops r = grind arith
 
 pub marked-past : (T U : Tokenizer) → KeepsTheRest T U → codes_left U ≤ codes_left T →
     AreStartsWithin U U.tokenize_state.label_starts → IsReadyWithMarkers T → IsReadyWithMarkers U
-marked-past T U e l within r =
-    ready-marked U (stops-past T U e r.stops) (ready-past T U e l within (marked-ready T r))
+marked-past T U e l within r = grind (arith, ready-marked, stops-past, ready-past, marked-ready)
 
 -- past an element no check may begin
 
@@ -169,9 +127,7 @@ some-last (c ∷ []) h = refl
 some-last (c ∷ d ∷ cs) h = some-last (d ∷ cs) (omega arith)
 
 pub and-none : (a b : Bool) (o : Option ℕ) → is_none o ≡ false → a && (b && is_none o) ≡ false
-and-none true true o e = e
-and-none true false o e = refl
-and-none false b o e = refl
+and-none x1 b o e = grind arith
 
 pub no-check-behind : (cs : List Code) (T U : Tokenizer) → U.cursor ≡ moved_by cs T.cursor → ahead T ≡ cs ++ ahead U →
     codes_left U < codes_left T → GfmTaskListItemCheck.check_here U (ahead U) ≡ None
@@ -183,15 +139,12 @@ no-check-behind cs T U place whole less =
 
 pub no-check-past : (T U : Tokenizer) (a : Advances (text_choice_of T) T U) →
     GfmTaskListItemCheck.check_here U (ahead U) ≡ None
-no-check-past T U a =
-    no-check-behind (row_codes a.row) T U (ap (λ (x : Tokenizer). x.cursor) a.left ∙ row-cursor (kinds_of T) a.row T a.is_row) a.whole a.less
+no-check-past T U a = grind (arith, no-check-behind, row-cursor)
 
 -- what follows an element, follows from before it
 pub advances-ends : (T U : Tokenizer) → KeepsTheRest T U → Advances (text_choice_of T) T U → (ok : Bool) (V : Tokenizer) →
     before_ends U ok V → before_ends T ok V
-advances-ends T U e a true V k =
-    advances-finishes (text_choice_of T) text_passed T U V a (subst (λ c. Finishes c text_passed U V) (choice-same T U e) k)
-advances-ends T U e a false V k = k
+advances-ends T U e a x5 V k = grind (arith, advances-finishes (text_choice_of T) text_passed T U V, choice-same T U)
 
 -- Data, where the code at hand is an element by itself.
 
@@ -210,9 +163,7 @@ alone-ends T stops some alone false V k = k
 pub tree-kept : (T U : Tokenizer) (t : Forest) → U ≡ past None t T → AreStartsWithin T T.tokenize_state.label_starts →
     AreStartsWithin U U.tokenize_state.label_starts
 unfolding past
-tree-kept T U t left k =
-    subst (λ (x : Tokenizer). AreStartsWithin x x.tokenize_state.label_starts) (sym left)
-    (within-grown T (past None t T) _ refl refl T.tokenize_state.label_starts k)
+tree-kept T U t left k = grind (arith, within-grown)
 
 pub registered-within : (b : Bool) (V W : Tokenizer) → W ≡ record V { resolvers = W.resolvers } →
     AreStartsWithin V V.tokenize_state.label_starts →
@@ -224,15 +175,12 @@ registered-within false V W e k =
 pub registered-kept : (T U V : Tokenizer) (t : Forest) → V ≡ past None t T → U ≡ registered R.Attention V →
     AreStartsWithin T T.tokenize_state.label_starts → AreStartsWithin U U.tokenize_state.label_starts
 unfolding registered
-registered-kept T U V t left e k =
-    subst (λ (x : Tokenizer). AreStartsWithin x x.tokenize_state.label_starts) (sym e)
-    (registered-within (is_registered R.Attention V.resolvers) V (record V { resolvers = V.resolvers ++ R.Attention ∷ [] }) refl (tree-kept T V t left k))
+registered-kept T U V t left e k = grind (arith, registered-within (is_registered R.Attention V.resolvers) V (record V { resolvers = V.resolvers ++ R.Attention ∷ [] }), tree-kept T V t)
 
 pub made-kept : (T U : Tokenizer) → LabelEnd.Ends T U → AreStartsWithin T T.tokenize_state.label_starts →
     AreStartsWithin U U.tokenize_state.label_starts
 unfolding past_mark
-made-kept T U r k =
-    subst (λ (x : Tokenizer). AreStartsWithin x x.tokenize_state.label_starts) (sym r.left) (made-within r.back r.kind r.tail T k)
+made-kept T U r k = grind (arith, made-within)
 
 -- Going on where a construct does not hold.
 
@@ -242,12 +190,10 @@ some-none o v e = λ h. cc
 -- The laws.
 
 pub weight-marked : (T : Tokenizer) → weight_at 9 (text_marked T) ≡ weight_at 9 T
-weight-marked T =
-    ap (λ n. 256 * n + 9 + 1) (left-scratched (marked_fields T.cursor T.parse_state.now T.tokenize_state) T)
+weight-marked T = grind (arith, left-scratched)
 
 pub at-rest-reference : (T : Tokenizer) → RawText.RawTextStartReady T → IsAtRest T
-at-rest-reference T r =
-    record { marker = ap (λ (s : TokenizeState). s.marker) r.rest; size = ap (λ (s : TokenizeState). s.size) r.rest }
+at-rest-reference T r = grind arith
 
 pub run-ready : (T : Tokenizer) → RawText.RawTextStartReady T → Attention.AttentionStartReady T
 run-ready T r = r.rest ∙ ap (Attention.with_marker 0) (sym r.rest)
@@ -257,22 +203,13 @@ passed-attempts T alone = attempts-registered R.Text (registered R.Data T) ∙ a
 
 pub at-end : (T : Tokenizer) → current_of T ≡ None → (ok : Bool) (U : Tokenizer) → (ok ≡ true) × (U ≡ text_passed T) →
     before_ends T ok U
-at-end T e true U k = finishes-end (text_choice_of T) text_passed T U e k.1
-at-end T e false U k = cc
+at-end T e x3 U k = grind (arith, finishes-end)
 
 -- Ends of labels.
 
 -- where one makes a label, ends are on
 pub ends-on : (T U : Tokenizer) → LabelEnd.Ends T U → LabelEnd.is_on T ≡ true
-ends-on T U r = by_switch (LabelEnd.is_on T) refl
-  where
-    by_switch : (b : Bool) → LabelEnd.is_on T ≡ b → LabelEnd.is_on T ≡ true
-    by_switch true e = e
-    by_switch false e = absurd (no-reading _ (switched-off _ (LabelEnd.is_on T) (ahead T) e) r.holds)
-      where
-        no-reading : {A : Type 0} {x : A} (o : Option A) → o ≡ None → o ≡ Some x → ⊥
-        no-reading None h k = cc
-        no-reading (Some y) h k = cc
+ends-on T U r = grind (arith, switched-off)
 
 -- where one makes none, its start is used up
 pub lost-there : (T : Tokenizer) → current_of T ≡ Some (byte "]") → LabelEnd.is_on T ≡ true →
@@ -285,8 +222,7 @@ lost-there T d on = ap (λ s. scratched s T) (if-true _ _ _ (ap (λ b. b && next
         let b : BeginsWithValue (byte "]") (ahead T) = ahead-some T (byte "]") d in ap (next_is (is_value (byte "]"))) b.whole ∙ ap (λ v. v == byte "]") b.value
 
 pub not-lost : (T : Tokenizer) → LabelEnd.is_on T ≡ false → scratched (LabelEnd.lost_fields T) T ≡ T
-not-lost T off =
-    ap (λ s. scratched s T) (if-false _ _ _ (ap (λ b. b && next_is (is_value (byte "]")) (ahead T)) off)) ∙ scratched-same T
+not-lost T off = grind (arith, if-false, scratched-same)
 
 pub lost-left : (T : Tokenizer) → codes_left (past_mark loses T) ≤ codes_left T
 unfolding past_mark
@@ -302,52 +238,39 @@ same-lost T r =
     same-row row T (past_mark loses T) (mark-alone loses T) (empty-part, (tt, empty-part)) r
 
 pub html-ready : (T : Tokenizer) → TextStartReady T → HtmlText.HtmlStartReady T
-html-ready T r =
-    record { spaces = record { resting = r.look.resting; short = r.look.short }; rest = sym (html-rest T r.spans) }
-  where
-    html-rest : (T : Tokenizer) → RawText.RawTextStartReady T → T.tokenize_state ≡ HtmlText.rested T.tokenize_state
-    html-rest T k = k.rest ∙ ap HtmlText.rested (sym k.rest)
+html-ready T r = grind arith
 
 pub spans-marked : (T : Tokenizer) → RawText.RawTextStartReady T → RawText.RawTextStartReady (text_marked T)
 unfolding scratched
-spans-marked T r =
-    record { rest = ap {A = TokenizeState} (λ s. marked_fields T.cursor T.parse_state.now s) r.rest; fits = r.fits }
+spans-marked T r = grind arith
 
 pub look-marked : (T : Tokenizer) → GfmTaskListItemCheck.MayLook T → GfmTaskListItemCheck.MayLook (text_marked T)
 unfolding scratched
-look-marked T r =
-    record { resting = ap {A = TokenizeState} (λ s. marked_fields T.cursor T.parse_state.now s) r.resting; short = r.short }
+look-marked T r = grind arith
 
 -- what is known is what was made, where that pays
 pub made-known : {A : Type 0} (pays : Bool) (made known : A) → (if pays then Some made else None) ≡ Some known →
     known ≡ made
-made-known true made known e = cc
-made-known false made known e = cc
+made-known x1 made known e = grind arith
 
 pub literals-marked : (T : Tokenizer) → GfmAutolinkLiteral.LiteralStartReady T → GfmAutolinkLiteral.LiteralStartReady (text_marked T)
 unfolding scratched
-literals-marked T r =
-    let s : TokenizeState → TokenizeState = marked_fields T.cursor T.parse_state.now in
-    record { text = text-scratched (s T.tokenize_state) T r.text; resting = ap s r.resting; short = r.short }
+literals-marked T r = grind (arith, text-scratched)
 
 -- and of the names, whichever part of the document the brackets are of
 pub listed-made : (s : Setting) (start end : ℕ) (names : Names) →
     names ≡ names_in_order s.definitions s.footnotes (brackets_between s.bytes start end) → AreListed s names
-listed-made s start end names e =
-    e ∙ ap (λ (b : BracketPlaces). names_in_order s.definitions s.footnotes (brackets_between s.bytes b.start b.end)) (sym (ap (λ (x : Names). x.brackets) e))
+listed-made s start end names e = grind arith
 
 -- what is lent is right with the brackets of a part too
 lent-known : (s : Setting) (start end : ℕ) (lent known : Names) (pays : Bool) → AreListed s lent →
     Some (record lent { brackets = if pays then brackets_between s.bytes start end else lent.brackets }) ≡ Some known → AreListed s known
-lent-known s start end lent known true h e =
-    listed-made s start end known (made-known true (record lent { brackets = brackets_between s.bytes start end }) known e ∙ ap (λ (n : Names). record n { brackets = brackets_between s.bytes start end }) h)
-lent-known s start end lent known false h e = subst (λ (n : Names). AreListed s n) (sym (made-known true lent known e)) h
+lent-known s start end lent known x6 h e = grind (arith, listed-made, made-known)
 
 -- and so are the names that a text is read with
 pub names-known : (c : Place) (p : ParseState) (lent : Option Names) (known : Names) →
     ((names : Names) → lent ≡ Some names → AreListed (setting_of p) names) → names_for lent c p ≡ Some known → AreListed (setting_of p) known
-names-known c p None known h e =
-    listed-made (setting_of p) (point_of (record c { at = 0 })).index c.end.index known (made-known (order_pays c.codes p) (names_in c p) known e)
+names-known c p None known h e = grind (arith, listed-made, made-known)
 names-known c p (Some lent) known h e =
     lent-known (setting_of p) (point_of (record c { at = 0 })).index c.end.index lent known (brackets_pay c.codes p) (h lent refl) e
 
@@ -370,17 +293,8 @@ stops-marked T = stops-where (text_setting T) (end_in T) T.cursor.codes
 
 pub marked-start : (T : Tokenizer) → TextStartReady T → IsReadyWithMarkers (text_marked T)
 unfolding scratched
-marked-start T r =
-    record {
-      stops = stops-marked T;
-      spans = spans-marked T r.spans;
-      look = look-marked T r.look;
-      literals = literals-marked T r.literals;
-      ends = ends-marked T r.ends;
-      last = r.last;
-    }
+marked-start T r = grind (arith, stops-marked, spans-marked, look-marked, literals-marked, ends-marked)
 
 pub check-elements : (T : Tokenizer) (o : Option ℕ) → current_of T ≡ o →
     ReadsElements (GfmTaskListItemCheck.check_here T) T
-check-elements T None e = no-check-at-end T e
-check-elements T (Some v) e = check-reads T v e
+check-elements T x2 e = grind (arith, no-check-at-end, check-reads)

@@ -1,7 +1,7 @@
 -- What is tried at a code of a text: where it holds, it is the element at hand, and where nothing holds, the code is one by itself.
 use Rattle.markdown_model.specs.Elements.{Choice, first_check}
 use Rattle.markdown_model.specs.Grammar.{Reading, ◌>>◌, provided, one}
-use Rattle.std.proofs.Common.{◌≡◌, ℕ, zero, suc, drop, ◌==◌, ◌||◌, true, false, Option, Some, None, List, ◌∷◌, refl, sym, ap, ◌∙◌, Bool, ◌&&◌, is_none, [], take, ◌++◌, append_assoc}
+use Rattle.std.proofs.Common.{◌≡◌, ℕ, zero, suc, drop, ◌==◌, ◌||◌, true, false, Option, Some, None, List, ◌∷◌, refl, sym, ap, ◌∙◌, Bool, ◌&&◌, is_none, [], take, ◌++◌, append_assoc, arith}
 use Rattle.std.proofs.lemmas.Option.{same_Some}
 use Rattle.std.specs.Str.{byte}
 use Rattle.std.specs.List.{list_any}
@@ -17,13 +17,11 @@ use Rattle.markdown_engine.proofs.OperationFields.{BeginsWithValue, ahead-some, 
 use Rattle.markdown_plan.specs.Characters.{bytes_of}
 use Rattle.markdown_leaf_gfm.specs.GfmAutolinkLiteral.{is_on, end_of, protocol_here, www_here}
 use Rattle.markdown_leaf_gfm.specs.GfmTaskListItemCheck.{check_here, may_begin}
-use Rattle.markdown_leaf.specs.RawText.{span_at, code_just_before}
+use Rattle.markdown_leaf.specs.RawText.{span_at}
 use Rattle.markdown_model.specs.TextLines.{code_leaf}
-use Rattle.markdown_model.specs.CodeTests.{is_value}
 use Rattle.markdown_model.specs.LeafConstructs.{gfm_task_list_item_check}
 use Rattle.markdown_model.specs.GfmAutolinkLiteral.{schemes, www, first_letters, gfm_autolink_literal_protocol, gfm_autolink_literal_www}
 use Rattle.markdown_model.specs.LabelEnd.{Element, plain}
-use Rattle.markdown_model.specs.Setting.{Setting}
 use Rattle.markdown_partial.specs.PartialData.{stops_of}
 use Rattle.markdown_run_text.specs.RunOverElements.{AreSingle, AreReadAsData, StandsAfter}
 use Rattle.markdown_run_text.specs.RowTreeNames.{IsRunLeaf}
@@ -59,15 +57,12 @@ value-here T v c cs e w = same_Some c.value v (sym (current-ahead T ∙ ap (λ x
 at-hand : (reading : TreeReading) (T : Tokenizer) (v : ℕ) → current_of T ≡ Some v
     → ((c : Code) (cs : List Code) (t : Forest) (rest : List Code) → c.value ≡ v → reading (c ∷ cs) ≡ Some (t, rest) → (earlier : List Element) (previous : Option Code) → StandsAfter earlier previous T → text_choice_of T earlier previous (c ∷ cs) ≡ Some (plain t, rest))
     → ReadsElements reading T
-at-hand reading T v e h t rest holds earlier previous stands =
-    let b : BeginsWithValue v (ahead T) = ahead-some T v e in
-    ap (text_choice_of T earlier previous) b.whole ∙ h b.code (rest_of (ahead T)) t rest b.value (ap reading (sym b.whole) ∙ holds) earlier previous stands
+at-hand reading T v e h t rest holds earlier previous stands = grind (arith, ahead-some T v)
 
 alone-at : (reading : TreeReading) (T : Tokenizer) (v : ℕ) → current_of T ≡ Some v
     → ((c : Code) (cs : List Code) → c.value ≡ v → reading (c ∷ cs) ≡ None → (earlier : List Element) (previous : Option Code) → StandsAfter earlier previous T → text_choice_of T earlier previous (c ∷ cs) ≡ Some (plain (code_leaf c), cs))
     → OrStandsAlone reading T
-alone-at reading T v e h none earlier previous c cs stands w =
-    h c cs (value-here T v c cs e w) (ap reading (sym w) ∙ none) earlier previous stands
+alone-at reading T v e h none earlier previous c cs stands w = grind (arith, value-here)
 
 -- One construct at a code.
 
@@ -177,14 +172,10 @@ www-alone T v last e h =
 -- Runs of markers.
 
 pub run-reads : (T : Tokenizer) (v : ℕ) → current_of T ≡ Some v → is_marker v ≡ true → ReadsElements (run_tree T) T
-run-reads T v e m =
-    at-hand (run_tree T) T v e (λ c cs t rest k holds earlier previous stands.
-    run-element (text_setting T) (end_in T) earlier previous v c cs t rest m k (run-some t rest v (begins_run (switches_of T) v) (c ∷ cs) (sym (run-at T v c cs k) ∙ holds)))
+run-reads T v e m = grind (arith, at-hand (run_tree T) T v, run-element (text_setting T) (end_in T), run-some, run-at T v)
 
 pub run-alone : (T : Tokenizer) (v : ℕ) → current_of T ≡ Some v → is_marker v ≡ true → OrStandsAlone (run_tree T) T
-run-alone T v e m =
-    alone-at (run_tree T) T v e (λ c cs k none earlier previous stands.
-    run-off (text_setting T) (end_in T) earlier previous v c cs m k (run-none v (begins_run (switches_of T) v) (c ∷ cs) (sym (run-at T v c cs k) ∙ none)))
+run-alone T v e m = grind (arith, alone-at (run_tree T) T v, run-off (text_setting T) (end_in T), run-none v (begins_run (switches_of T) v), run-at T v)
 
 -- and it is a leaf that stands by itself
 pub run-leaf : (T : Tokenizer) (v : ℕ) (t : Forest) (rest : List Code) → current_of T ≡ Some v → is_marker v ≡ true →
@@ -198,34 +189,21 @@ run-leaf T v t rest e m holds =
 -- Checks.
 
 and-turned : (a b c : Bool) → (a && b) && c ≡ c && (b && a)
-and-turned true true true = refl
-and-turned true true false = refl
-and-turned true false true = refl
-and-turned true false false = refl
-and-turned false true true = refl
-and-turned false true false = refl
-and-turned false false true = refl
-and-turned false false false = refl
+and-turned x1 x2 x3 = grind arith
 
 pub none-valued : (o : Option Code) → is_none (value_of o) ≡ is_none o
-none-valued None = refl
-none-valued (Some c) = refl
+none-valued x1 = grind arith
 
 -- where a check may begin
 check-is : (T : Tokenizer) (earlier : List Element) (previous : Option Code) → StandsAfter earlier previous T →
     (is_none previous && (text_setting T).first_of_item) && (text_setting T).options.constructs.gfm_task_list_item ≡ may_begin T
 unfolding code_before
-check-is T earlier previous k =
-    let s : Setting = text_setting T in
-    and-turned (is_none previous) s.first_of_item s.options.constructs.gfm_task_list_item
-    ∙ ap (λ o. s.options.constructs.gfm_task_list_item && (s.first_of_item && is_none o)) (sym k.before)
-    ∙ ap (λ b. s.options.constructs.gfm_task_list_item && (s.first_of_item && b)) (sym (none-valued (code_just_before T)))
+check-is T earlier previous k = grind (arith, and-turned, none-valued)
 
 checks-so : (T : Tokenizer) (earlier : List Element) (previous : Option Code) (cs : List Code) →
     StandsAfter earlier previous T →
     (provided ((is_none previous && (text_setting T).first_of_item) && (text_setting T).options.constructs.gfm_task_list_item) >> gfm_task_list_item_check) cs ≡ check_here T cs
-checks-so T earlier previous cs k =
-    ap (λ b. (provided b >> gfm_task_list_item_check) cs) (check-is T earlier previous k)
+checks-so T earlier previous cs k = grind (arith, check-is)
 
 pub check-reads : (T : Tokenizer) (v : ℕ) → current_of T ≡ Some v → ReadsElements (check_here T) T
 check-reads T v e =
@@ -235,26 +213,20 @@ check-reads T v e =
 -- no check is read at no code
 pub no-check-at-end : (T : Tokenizer) → current_of T ≡ None → ReadsElements (check_here T) T
 unfolding gfm_task_list_item_check one
-no-check-at-end T e t rest holds earlier previous stands = absurd (no-end (check_here T []) (off-or-none (may_begin T) gfm_task_list_item_check [] (bind-none (one (is_value (byte "["))) _ [] refl)) (ap (check_here T) (sym (ahead-none T e)) ∙ holds))
-  where
-    no-end : (o : Option (Forest × List Code)) → o ≡ None → o ≡ Some (t, rest) → ⊥
-    no-end None h k = cc
-    no-end (Some r) h k = cc
+no-check-at-end T e t rest holds earlier previous stands = grind (arith, off-or-none, bind-none, ahead-none)
 
 -- no check stands here
 pub first-none : (T : Tokenizer) (earlier : List Element) (previous : Option Code) (c : Code) (cs : List Code) →
     check_here T (ahead T) ≡ None → StandsAfter earlier previous T → ahead T ≡ c ∷ cs →
     first_check (text_setting T) (end_in T) earlier previous (c ∷ cs) ≡ None
 unfolding first_check plain_of
-first-none T earlier previous c cs none k w =
-    plain-switched _ gfm_task_list_item_check (c ∷ cs) ∙ ap plain_of (checks-so T earlier previous (c ∷ cs) k ∙ ap (check_here T) (sym w) ∙ none)
+first-none T earlier previous c cs none k w = grind (arith, plain-switched, checks-so)
 
 -- Codes at which nothing is tried.
 
 pub other-alone : (T : Tokenizer) (v : ℕ) → current_of T ≡ Some v → list_any (λ n. v == n) text_markers ≡ false →
     StandsAlone T
-other-alone T v e h earlier previous c cs stands w =
-    other-element (text_setting T) (end_in T) earlier previous c cs (ap (λ x. list_any (λ n. x == n) text_markers) (value-here T v c cs e w) ∙ h)
+other-alone T v e h earlier previous c cs stands w = grind (arith, other-element (text_setting T) (end_in T), value-here T v c cs)
 
 -- each other code of data
 
@@ -266,8 +238,7 @@ whole-ahead T front c cs w =
 
 pub single-ahead : (choice : Choice) (stops : List Code → Bool) (T : Tokenizer) → AreSingle choice stops T.cursor.codes →
     AreSingle choice stops (ahead T)
-single-ahead choice stops T single front earlier previous c cs w free =
-    single (take T.cursor.at T.cursor.codes ++ front) earlier previous c cs (whole-ahead T front c cs w) free
+single-ahead choice stops T single front earlier previous c cs w free = grind (arith, whole-ahead T front c cs)
 
 pub read-ahead : (source : Source) (choice : Choice) (stops : List Code → Bool) (T : Tokenizer) →
     AreReadAsData source choice stops T.cursor.codes → AreReadAsData source choice stops (ahead T)

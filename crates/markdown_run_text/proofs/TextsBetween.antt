@@ -1,23 +1,16 @@
 -- The text from one index to another is that up to the later of the two: where the second is not behind the first, it is empty.
-use Rattle.std.proofs.Common.{◌≡◌, ℕ, zero, suc, ◌-◌, ◌++◌, Bool, true, false, if◌then◌else◌, ◌&&◌, List, [], ◌∷◌, None, Some, take, drop, slice_range, refl, sym, ap, ◌∙◌, arith}
+use Rattle.std.proofs.Common.{◌≡◌, ℕ, ◌-◌, ◌++◌, List, [], ◌∷◌, take, drop, refl, ap, ◌∙◌, arith}
 use Rattle.std.specs.Prelude.{max, min}
 use Rattle.std.proofs.Math.Nat.{le-max_left, min-le_left, sub-add-eq-max}
 use Rattle.markdown_content.specs.Codes.{Code}
 use Rattle.markdown_content.specs.ContentBytes.{bytes_of_code, bytes_within}
 use Rattle.markdown_content.specs.declared.label_kind.LabelKind.{LabelKind}
-use Rattle.markdown_model.specs.LabelEnd.{is_too_long, label_name, name_between, text_between, with_caret}
+use Rattle.markdown_model.specs.LabelEnd.{label_name, name_between, text_between}
 use Rattle.markdown_model.specs.Setting.{Setting, rules}
 use Rattle.markdown_util.specs.Identifier.{identifier_by}
 
 min-size : (i j a b : ℕ) → min (max j i) b - max i a ≡ min j b - max i a
-min-size i j a b = by-size (j - i) refl
-  where
-    by-size : (d : ℕ) → j - i ≡ d → min (max j i) b - max i a ≡ min j b - max i a
-    by-size zero e =
-        omega (arith, e, sub-add-eq-max j i, min-le_left (max j i) b, min-le_left j b, le-max_left i a)
-    by-size (suc d) e =
-        let same : max j i ≡ j = omega (arith, e, sub-add-eq-max j i) in
-        ap (λ n. min n b - max i a) same
+min-size i j a b = grind (arith, sub-add-eq-max, min-le_left, le-max_left)
 
 of-code : (bs : List ℕ) (i j : ℕ) (c : Code) → bytes_of_code bs i (max j i) c ≡ bytes_of_code bs i j c
 of-code bs i j c = ap (λ n. take n (drop (max i c.start.index) bs)) (min-size i j c.start.index c.stop.index)
@@ -27,11 +20,7 @@ of-codes bs i j [] = refl
 of-codes bs i j (c ∷ cs) = λ k. of-code bs i j c k ++ of-codes bs i j cs k
 
 text-max : (s : Setting) (i j : ℕ) → text_between s i (max j i) ≡ text_between s i j
-text-max s i j =
-    elim (rules s).labels_by_text as (λ b. (if b then bytes_within s.bytes i (max j i) s.content else slice_range s.bytes i (max j i)) ≡ (if b then bytes_within s.bytes i j s.content else slice_range s.bytes i j)) [
-      | true ↦ of-codes s.bytes i j s.content
-      | false ↦ ap (λ n. take n (drop i s.bytes)) (omega (arith, sub-add-eq-max j i))
-    ]
+text-max s i j = grind (arith, of-codes, sub-add-eq-max)
 
 text-between : (s : Setting) (i j start end : ℕ) → start ≡ i → end ≡ max j start → text_between s start end ≡ text_between s i j
 text-between s i j start end e h = (λ k. text_between s (e k) ((h ∙ ap (max j) e) k)) ∙ text-max s i j
@@ -42,5 +31,4 @@ name-between s i j start end e h = ap (identifier_by (rules s).nul_is_replaced) 
 
 pub label-between : (s : Setting) (kind : LabelKind) (i j start end : ℕ) → start ≡ i → end ≡ max j start →
     label_name s kind start end ≡ label_name s kind i j
-label-between s kind i j start end e h =
-    ap (λ text. if (rules s).definitions_have_labels && is_too_long (with_caret kind text) then None else Some (identifier_by (rules s).nul_is_replaced text)) (text-between s i j start end e h)
+label-between s kind i j start end e h = grind (arith, text-between)

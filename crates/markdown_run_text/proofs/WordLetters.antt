@@ -1,5 +1,5 @@
 -- A word that stands at a place, letter by letter.
-use Rattle.std.proofs.Common.{◌≡◌, ℕ, Bool, true, false, not, ◌||◌, ◌&&◌, List, [], ◌∷◌, ◌++◌, Option, None, Some, refl, sym, ap, ◌∙◌}
+use Rattle.std.proofs.Common.{◌≡◌, ℕ, Bool, true, false, not, ◌||◌, List, [], ◌∷◌, ◌++◌, Option, None, Some, refl, sym, ap, ◌∙◌, arith}
 use Rattle.std.specs.Prelude.{is_none}
 use Rattle.std.specs.List.{list_any}
 use Rattle.std.proofs.lemmas.Bool.{or_parts}
@@ -13,8 +13,7 @@ use Rattle.markdown_run_text.specs.TextStops.{begins_word}
 use Rattle.markdown_run_text.specs.PlacesPassed.{begins_as, is_some_letter, is_word, letter_is, may_begin, one_stands}
 
 none-first : (c : Code) (o : Option (List Code × List Code)) → is_none (with_first c o) ≡ is_none o
-none-first c None = refl
-none-first c (Some r) = refl
+none-first c x2 = grind arith
 
 pub word-goes : (n : ℕ) (ns : List ℕ) (p : Place) → is_some_letter n (code_at p) ≡ true → is_word (n ∷ ns) p ≡ is_word ns (moved p)
 word-goes n ns p h = by_code (code_at p) refl h
@@ -42,36 +41,24 @@ pub word-ends : (p : Place) → is_word [] p ≡ true
 word-ends p = ap (λ o. not (is_none o)) (letters-nil (ahead_at p))
 
 pub some-letter : (n : ℕ) (p : Place) → is_some_letter n (code_at p) ≡ true → (v : ℕ) × (code_at p ≡ Some v)
-some-letter n p h = by_code (code_at p) refl h
-  where
-    by_code : (o : Option ℕ) → code_at p ≡ o → is_some_letter n o ≡ true → (v : ℕ) × (code_at p ≡ Some v)
-    by_code None e k = cc
-    by_code (Some v) e k = (v, e)
+some-letter n p h = grind arith
 
 -- one of two readings holds where their choice does
 either-some-of : (a b : List Code → Option (List Code × List Code)) (cs : List Code) → not (is_none (either a b cs)) ≡ (not (is_none (a cs)) || not (is_none (b cs)))
 unfolding either
-either-some-of a b cs = by_first (a cs) refl
-  where
-    by_first : (o : Option (List Code × List Code)) → a cs ≡ o
-        → not (is_none (elim o as (λ _. Option (List Code × List Code)) [ None ↦ b cs | Some r ↦ Some r ])) ≡ (not (is_none o) || not (is_none (b cs)))
-    by_first None e = refl
-    by_first (Some r) e = refl
+either-some-of a b cs = grind arith
 
 -- the first of these words that stands at a place
 pub one-read : (words : List (List ℕ)) (p : Place) → one_stands words p ≡ not (is_none (one_word_of words (ahead_at p)))
 unfolding one_word_of
 one-read [] p = refl
-one-read (word ∷ words) p =
-    ap (λ b. is_word word p || b) (one-read words p) ∙ sym (either-some-of (letters word) (one_word_of words) (ahead_at p))
+one-read (word ∷ words) p = grind (arith, either-some-of, one-read words p)
 
 or-false : (b : Bool) → (b || false) ≡ b
-or-false true = refl
-or-false false = refl
+or-false x1 = grind arith
 
 or-again : (a b c : Bool) → (a || (b || c)) ≡ ((a || b) || c)
-or-again true b c = refl
-or-again false b c = refl
+or-again x1 b c = grind arith
 
 -- and where one is added behind these
 pub one-behind : (words : List (List ℕ)) (word : List ℕ) (p : Place) → one_stands (words ++ word ∷ []) p ≡ (one_stands words p || is_word word p)
@@ -81,19 +68,11 @@ one-behind (w ∷ ws) word p = ap (λ b. is_word w p || b) (one-behind ws word p
 -- where no word may begin, none stands
 
 not-as : (word : List ℕ) (p : Place) → begins_as word (code_at p) (code_at (moved p)) ≡ false → is_word word p ≡ false
-not-as [] p h = cc
-not-as (n ∷ []) p h = word-stops n [] p h
-not-as (n ∷ m ∷ ns) p h = by_first (is_some_letter n (code_at p)) refl h
-  where
-    by_first : (b : Bool) → is_some_letter n (code_at p) ≡ b → b && is_some_letter m (code_at (moved p)) ≡ false → is_word (n ∷ m ∷ ns) p ≡ false
-    by_first true e k = word-goes n (m ∷ ns) p e ∙ word-stops m ns (moved p) k
-    by_first false e k = word-stops n (m ∷ ns) p e
+not-as x1 p h = grind (arith, word-stops, word-goes)
 
 none-of : (words : List (List ℕ)) (p : Place) → list_any (λ word. begins_as word (code_at p) (code_at (moved p))) words ≡ false → one_stands words p ≡ false
 none-of [] p h = refl
-none-of (word ∷ words) p h =
-    let k = or_parts (begins_as word (code_at p) (code_at (moved p))) (list_any (λ w. begins_as w (code_at p) (code_at (moved p))) words) h in
-    ap (λ b. b || one_stands words p) (not-as word p k.0) ∙ none-of words p k.1
+none-of (word ∷ words) p h = grind (arith, or_parts, not-as, none-of words p)
 
 pub no-first : (p : Place) → may_begin p ≡ false → begins_word (ahead_at p) ≡ false
 no-first p h = sym (one-read literal_words p) ∙ none-of literal_words p h

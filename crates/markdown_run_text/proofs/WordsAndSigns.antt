@@ -1,5 +1,5 @@
 -- Words with which literals begin are letters and then a sign. So none begins in a stretch that ends at no sign of theirs.
-use Rattle.std.proofs.Common.{◌≡◌, ℕ, ◌-◌, ◌&&◌, ◌==◌, Bool, true, false, not, if◌then◌else◌, List, [], ◌∷◌, Option, None, Some, refl, sym, ap, ◌∙◌, arith, add-one}
+use Rattle.std.proofs.Common.{◌≡◌, ℕ, ◌-◌, ◌&&◌, ◌==◌, Bool, true, false, not, if◌then◌else◌, List, [], ◌∷◌, Option, None, Some, refl, ap, ◌∙◌, arith, add-one}
 use Rattle.std.specs.Prelude.{codes, is_none}
 use Rattle.std.proofs.lemmas.Bool.{eqb-true}
 use Rattle.std.proofs.lemmas.Bool.Decides.{nat_tests}
@@ -17,8 +17,7 @@ use Rattle.markdown_run_text.specs.PlacesPassed.{holds_sign, markers_and_signs, 
 use Rattle.markdown_run_text.specs.TextStops.{begins_word}
 
 clash : {A : Type 0} → (b : Bool) → b ≡ true → b ≡ false → A
-clash true h k = cc
-clash false h k = cc
+clash x1 h k = grind arith
 
 -- the code before the place behind a code is that code
 pub before-moved : (p : Place) → code_before (moved p) ≡ code_at p
@@ -37,19 +36,11 @@ record FirstLetter (n : ℕ) (ns : List ℕ) (cs : List Code) : Type 0 where
 
 with-some : (c : Code) (o : Option (List Code × List Code)) (r : List Code × List Code) → with_first c o ≡ Some r →
     (read : List Code × List Code) × (o ≡ Some read)
-with-some c None r e = cc
-with-some c (Some s) r e = (s, refl)
+with-some c x2 r e = grind arith
 
 first-letter : (n : ℕ) (ns : List ℕ) (cs : List Code) (r : List Code × List Code) → letters (n ∷ ns) cs ≡ Some r →
     FirstLetter n ns cs
-first-letter n ns [] r e = let none = sym (letters-none n ns [] refl) ∙ e in cc
-first-letter n ns (c ∷ cs) r e = by_test (letter_test n c) refl
-  where
-    by_test : (b : Bool) → letter_test n c ≡ b → FirstLetter n ns (c ∷ cs)
-    by_test true h =
-        let more = with-some c (letters ns cs) r (sym (letters-more n ns c cs h) ∙ e) in
-        record { code = c; behind = cs; whole = refl; letter = h; read = more.0; more = more.1 }
-    by_test false h = let none = sym (letters-none n ns (c ∷ cs) h) ∙ e in cc
+first-letter n ns x3 r e = grind (arith, letters-none, with-some, letters-more)
 
 -- Letters and signs.
 
@@ -83,11 +74,7 @@ upper-value n c h e = grind (arith, nat_tests)
 
 -- a code that stands for a letter is free where the letter is in both cases
 letter-free : (n : ℕ) (c : Code) → free n && free (n - 32) ≡ true → letter_test n c ≡ true → free c.value ≡ true
-letter-free n c h e = by_test (c.value == n) refl
-  where
-    by_test : (b : Bool) → (c.value == n) ≡ b → free c.value ≡ true
-    by_test true k = ap free (eqb-true c.value n k) ∙ and-left (free n) (free (n - 32)) h
-    by_test false k = ap free (upper-value n c k e) ∙ and-right (free n) (free (n - 32)) h
+letter-free n c h e = grind (arith, eqb-true, and-left, upper-value, and-right)
 
 -- where the stretch at a place ends
 abbrev stretch_end : Place → Place
@@ -98,8 +85,7 @@ here p v e h = past-none markers_and_signs p (ap (is_free markers_and_signs) e �
 
 sign-here : (p : Place) (v : ℕ) → code_at p ≡ Some v → free v ≡ false →
     holds_sign (code_before p) (Some v) (code_at (moved p)) ≡ true → sign_at (stretch_end p) ≡ true
-sign-here p v e h k =
-    ap sign_at (here p v e h) ∙ ap (λ o. holds_sign (code_before p) o (code_at (moved p))) e ∙ k
+sign-here p v e h k = grind (arith, here)
 
 -- the stretch from a place where such a word stands ends at a sign that it holds
 at-sign : (w : Bool) (word : List ℕ) (p : Place) (r : List Code × List Code) → leads_to_sign w word ≡ true →
@@ -152,18 +138,13 @@ all_lead (word ∷ words) = leads_to_sign false word && all_lead words
 
 not-read : (word : List ℕ) (p : Place) → leads_to_sign false word ≡ true → sign_at (stretch_end p) ≡ false →
     letters word (ahead_at p) ≡ None
-not-read word p h none = by_what (letters word (ahead_at p)) refl
-  where
-    by_what : (o : Option (List Code × List Code)) → letters word (ahead_at p) ≡ o → letters word (ahead_at p) ≡ None
-    by_what None e = e
-    by_what (Some r) e = clash (sign_at (stretch_end p)) (at-sign false word p r h (λ t. cc) e) none
+not-read word p h none = grind (arith, clash, at-sign)
 
 no-words : (words : List (List ℕ)) (p : Place) → all_lead words ≡ true → sign_at (stretch_end p) ≡ false →
     one_word_of words (ahead_at p) ≡ None
 unfolding one_word_of all_lead
 no-words [] p h none = refl
-no-words (word ∷ words) p h none =
-    either-second (letters word) (one_word_of words) (ahead_at p) (not-read word p (and-left (leads_to_sign false word) (all_lead words) h) none) ∙ no-words words p (and-right (leads_to_sign false word) (all_lead words) h) none
+no-words (word ∷ words) p h none = grind (arith, either-second, not-read, and-left, leads_to_sign, all_lead, and-right, no-words words p)
 
 -- where the stretch from a place ends at no sign of words, none stands there
 pub no-word : (p : Place) → sign_at (stretch_end p) ≡ false → begins_word (ahead_at p) ≡ false

@@ -1,4 +1,4 @@
-use Rattle.std.proofs.Common.{◌≡◌, ◌∙◌, ◌&&◌, ◌||◌, Bool, true, false, sym, ap}
+use Rattle.std.proofs.Common.{◌≡◌, ◌∙◌, ◌&&◌, ◌||◌, Bool, true, false, sym, ap, arith}
 use Rattle.markdown_run_text.proofs.text.order_pays.Goals as goal
 use Rattle.markdown_run_text.proofs.text.order_pays.Goals.{then-names_pay, else-names_pay}
 
@@ -17,18 +17,7 @@ none-pays : (v w n : Bool) → v ≡ false → v ≡ w → v ≡ (w && n)
 none-pays v w n is same = is ∙ ap (λ x. x && n) (sym is ∙ same)
 
 pub returns-then-names_pay-2 : goal.returns-then-names_pay-2
-returns-then-names_pay-2 c =
-    both-pay c.if-names_pay.value _ _ c.holds.result c.if-names_pay-2.true
-    (elim c.if-names_pay.branch [
-      | then-names_pay w ↦ first-pays _ _ _ _ w.value-is w.if-names_pay.true (rw c.as_slice.ensures.value at c.names_pay.ensures)
-      | else-names_pay w ↦ second-pays _ _ _ _ _ w.value-is (rw w.as_slice-else-names_pay.ensures.value at w.names_pay-else-names_pay.ensures) w.if-names_pay.false (rw c.as_slice.ensures.value at c.names_pay.ensures)
-    ])
-    (rw c.new.ensures at c.holds.ensures)
+returns-then-names_pay-2 c = grind (arith, both-pay, first-pays, second-pays, c.if-names_pay-2.true, c.as_slice.ensures.value, c.names_pay.ensures, c.new.ensures, c.holds.ensures)
 
 pub returns-else-names_pay-2 : goal.returns-else-names_pay-2
-returns-else-names_pay-2 c =
-    none-pays c.if-names_pay.value _ _ c.if-names_pay-2.false
-    (elim c.if-names_pay.branch [
-      | then-names_pay w ↦ first-pays _ _ _ _ w.value-is w.if-names_pay.true (rw c.as_slice.ensures.value at c.names_pay.ensures)
-      | else-names_pay w ↦ second-pays _ _ _ _ _ w.value-is (rw w.as_slice-else-names_pay.ensures.value at w.names_pay-else-names_pay.ensures) w.if-names_pay.false (rw c.as_slice.ensures.value at c.names_pay.ensures)
-    ])
+returns-else-names_pay-2 c = grind (arith, none-pays, first-pays, second-pays, c.if-names_pay-2.false, c.as_slice.ensures.value, c.names_pay.ensures)

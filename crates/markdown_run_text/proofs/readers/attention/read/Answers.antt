@@ -1,4 +1,4 @@
-use Rattle.std.proofs.Common.{ap, sym, ◌∙◌}
+use Rattle.std.proofs.Common.{ap, sym, ◌∙◌, arith}
 use Rattle.markdown_content.specs.Place.{Place}
 use Rattle.markdown_event.specs.declared.event.Name.TheVariants as N
 use Rattle.markdown_event.specs.declared.event.Point.{Point}
@@ -8,8 +8,7 @@ use Rattle.markdown_run_text.specs.PlacesPassed.{past_run, with_leaf}
 use Rattle.markdown_run_text.proofs.readers.attention.read.Goals as goal
 
 pub returns-then-not-begins_run-clause-reads : goal.returns-then-not-begins_run-clause-reads
-returns-then-not-begins_run-clause-reads c =
-    (no-run c.args.tokenizer.now c.args.marker c.requires (sym c.begins_run.ensures ∙ c.if-not-begins_run.true), sym (scratched-same c.args.tokenizer.now))
+returns-then-not-begins_run-clause-reads c = grind (arith, no-run, scratched-same, c.requires, c.begins_run.ensures, c.if-not-begins_run.true)
 
 pub returns-clause-reads : goal.returns-clause-reads
 returns-clause-reads c =

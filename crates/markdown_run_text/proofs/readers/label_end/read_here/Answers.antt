@@ -1,4 +1,4 @@
-use Rattle.std.proofs.Common.{◌≡◌, ap, sym, ◌∙◌}
+use Rattle.std.proofs.Common.{◌≡◌, ap, sym, ◌∙◌, arith}
 use Rattle.markdown_engine.specs.Operations.{current_of, done}
 use Rattle.markdown_engine.specs.StateRuns.{Stepped}
 use Rattle.markdown_engine.specs.declared.tokenizer.Tokenizer.{Tokenizer}
@@ -15,18 +15,10 @@ pub read_marker_in-requires : goal.read_marker_in-requires
 read_marker_in-requires c = bracket-here c.args.tokenizer.now c.requires.here
 
 pub read_resource-requires : goal.read_resource-requires
-read_resource-requires c =
-    let T : Tokenizer = c.args.tokenizer.now in
-    let E : Tokenizer = c.read_marker_in.new.tokenizer in
-    let read : E ≡ done end_ops (ended T) = ended-is T E c.len-tokenizer.result c.len-tokenizer.ensures c.in_ok-read_marker_in.ensures.ok in
-    resource-follows T E (plain-there T E c.requires.here read (ap (is_some_value 40) (sym c.current.ensures) ∙ sym c.is_same.ensures ∙ c.if-is_same.true)) read
+read_resource-requires c = grind (arith, ended-is, resource-follows, plain-there, c.len-tokenizer.ensures, c.in_ok-read_marker_in.ensures.ok, c.requires.here, c.current.ensures, c.is_same.ensures, c.if-is_same.true)
 
 pub read_reference-requires : goal.read_reference-requires
-read_reference-requires c =
-    let T : Tokenizer = c.args.tokenizer.now in
-    let E : Tokenizer = c.read_marker_in.new.tokenizer in
-    let read : E ≡ done end_ops (ended T) = ended-is T E c.len-tokenizer.result c.len-tokenizer.ensures c.in_ok-read_marker_in.ensures.ok in
-    markers-there T E (reference-there T E c.requires.here read (ap (is_some_value 40) (sym c.current.ensures) ∙ sym c.is_same.ensures ∙ c.if-is_same.false)) read
+read_reference-requires c = grind (arith, ended-is, markers-there, reference-there, c.len-tokenizer.ensures, c.in_ok-read_marker_in.ensures.ok, c.requires.here, c.current.ensures, c.is_same.ensures, c.if-is_same.false)
 
 pub ok-requires : goal.ok-requires
 ok-requires c =

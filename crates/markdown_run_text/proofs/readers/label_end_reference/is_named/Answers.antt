@@ -1,6 +1,5 @@
-use Rattle.std.proofs.Common.{ap, ◌∙◌}
+use Rattle.std.proofs.Common.{ap, ◌∙◌, arith}
 use Rattle.std.specs.Prelude.{max}
-use Rattle.std.proofs.lemmas.Result.{IfOk-weaker}
 use Rattle.markdown_event.specs.declared.event.Point.{Point}
 use Rattle.markdown_engine.specs.declared.tokenizer.Tokenizer.{Tokenizer}
 use Rattle.markdown_label_names.proofs.BytesBetween.{place-lent}
@@ -19,11 +18,4 @@ is_label_from-requires-clause-cuts c =
     (c.max-end.ensures ∙ ap (λ (q : Point). max q.index c.at-start.result.point.index) c.point.ensures)
 
 pub returns-clause-named : goal.returns-clause-named
-returns-clause-named c =
-    let T : Tokenizer = c.args.tokenizer.now in
-    let l = c.in-Some.top.now in
-    IfOk-weaker c.is_label_from.result _ _
-    (λ named k. k ∙ named-is T c.requires.ready c.requires.here l _ c.in-Some.ensures c.at-start.result.point.index c.max-end.result
-    (ap (λ (q : Point). q.index) (place-lent T.events l.start.1 c.at-start.result (start-within T c.requires.ready c.requires.here l _ c.in-Some.ensures) c.at-start.ensures))
-    (c.max-end.ensures ∙ ap (λ (q : Point). max q.index c.at-start.result.point.index) c.point.ensures))
-    c.is_label_from.ensures.defined
+returns-clause-named c = grind (arith, named-is, place-lent, start-within, c.requires.ready, c.requires.here, c.in-Some.ensures, c.at-start.ensures, c.max-end.ensures, c.point.ensures, c.is_label_from.ensures.defined)

@@ -1,4 +1,4 @@
-use Rattle.std.proofs.Common.{◌≡◌, true, sym, ◌∙◌}
+use Rattle.std.proofs.Common.{◌≡◌, true, sym, ◌∙◌, arith}
 use Rattle.markdown_engine.specs.Operations.{ahead}
 use Rattle.markdown_engine.specs.declared.tokenizer.Tokenizer.{Tokenizer}
 use Rattle.markdown_label.specs.LabelStarts.{image_test}
@@ -6,12 +6,10 @@ use Rattle.markdown_run_text.proofs.ImageStarts.{image-codes, image-here, image-
 use Rattle.markdown_run_text.proofs.readers.label_start_image.read.Goals as goal
 
 pub returns-then-not-is_here-clause-reads : goal.returns-then-not-is_here-clause-reads
-returns-then-not-is_here-clause-reads c =
-    let T : Tokenizer = c.args.tokenizer.now in no-image T (sym (image-here T) ∙ sym c.is_here.ensures ∙ c.if-not-is_here.true)
+returns-then-not-is_here-clause-reads c = grind (arith, no-image, image-here, c.is_here.ensures, c.if-not-is_here.true)
 
 pub read_front-requires : goal.read_front-requires
-read_front-requires c =
-    let T : Tokenizer = c.args.tokenizer.now in image-codes T (sym (image-here T) ∙ sym c.is_here.ensures ∙ c.if-not-is_here.false)
+read_front-requires c = grind (arith, image-codes, image-here, c.is_here.ensures, c.if-not-is_here.false)
 
 pub after-requires : goal.after-requires
 after-requires c = image-ready c.args.tokenizer.now c.read_front.new.tokenizer c.in_ok-read_front.ensures.ok

@@ -1,4 +1,4 @@
-use Rattle.std.proofs.Common.{refl, sym, ◌∙◌}
+use Rattle.std.proofs.Common.{refl, sym, ◌∙◌, arith}
 use Rattle.markdown_run_text.proofs.DataReads.{Line, has-code, last-line, line-is, more-lines, on-past}
 use Rattle.markdown_run_text.proofs.readers.partial_data.read.Goals as goal
 
@@ -9,8 +9,7 @@ pub read_line-requires : goal.read_line-requires
 read_line-requires c = c.loop-on.invariant.1.1.1
 
 pub loop-on-smaller : goal.loop-on-smaller
-loop-on-smaller c =
-    (line-is c.args.tokenizer.now.cursor.codes c.args.literals c.loop-on.tokenizer c.read_line.new.tokenizer c.loop-on.invariant.1.1.0 c.loop-on.invariant.1.1.1 c.in_ok-on.ensures.ok).less
+loop-on-smaller c = grind (arith, line-is c.args.tokenizer.now.cursor.codes c.args.literals, c.loop-on.invariant.1.1.0, c.loop-on.invariant.1.1.1, c.in_ok-on.ensures.ok)
 
 pub loop-on-preserved : goal.loop-on-preserved
 loop-on-preserved c =

@@ -1,8 +1,6 @@
-use Rattle.std.proofs.Common.{Some, ap, sym, ◌∙◌}
+use Rattle.std.proofs.Common.{arith}
 use Rattle.markdown_run_text.proofs.DataReads.{ending-tells}
 use Rattle.markdown_run_text.proofs.readers.partial_data.read_line.Goals as goal
 
 pub returns-in-Some-eq10-clause-on : goal.returns-in-Some-eq10-clause-on
-returns-in-Some-eq10-clause-on c =
-    ending-tells c.args.literals c.args.tokenizer.now c.read_ending.new.tokenizer c.read_ending.result
-    (sym c.current.ensures ∙ c.in-Some-eq10.is ∙ ap Some c.in-Some-eq10.field-0-test) c.read_ending.ensures.ok c.read_ending.ensures.on
+returns-in-Some-eq10-clause-on c = grind (arith, ending-tells c.args.literals c.args.tokenizer.now c.read_ending.new.tokenizer c.read_ending.result, c.current.ensures, c.read_ending.ensures.ok, c.read_ending.ensures.on)

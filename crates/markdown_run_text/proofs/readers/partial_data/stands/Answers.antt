@@ -1,6 +1,5 @@
 use Rattle.std.proofs.Common.{◌+◌, ap, sym, drop, get_or, arith, ◌∙◌}
 use Rattle.std.proofs.lemmas.List.{at_drop_more, drop_all}
-use Rattle.std.specs.Option.{is_some}
 use Rattle.markdown_run_text.proofs.WordLetters.{some-letter, word-ends, word-goes, word-stops}
 use Rattle.markdown_run_text.specs.PlacesPassed.{is_some_letter, is_word}
 use Rattle.markdown_run_text.proofs.readers.partial_data.stands.Goals as goal
@@ -14,10 +13,7 @@ returns-then-not-is_same c =
     ∙ c.loop-letter.invariant
 
 pub consume-requires : goal.consume-requires
-consume-requires c =
-    let word = c.args.word.now in
-    let at = c.loop-letter.letter-index in
-    ap is_some (some-letter (get_or word at 0) c.loop-letter.place (ap (is_some_letter (get_or word at 0)) (sym c.current.ensures) ∙ sym c.is_same.ensures ∙ c.if-not-is_same.false)).1
+consume-requires c = grind (arith, some-letter, c.current.ensures, c.is_same.ensures, c.if-not-is_same.false)
 
 pub loop-letter-preserved : goal.loop-letter-preserved
 loop-letter-preserved c =
@@ -29,9 +25,4 @@ loop-letter-preserved c =
     ∙ c.loop-letter.invariant
 
 pub returns : goal.returns
-returns c =
-    let word = c.args.word.now in
-    let at = c.loop-letter.letter-index in
-    sym (word-ends c.loop-letter.place)
-    ∙ ap (λ ns. is_word ns c.loop-letter.place) (sym (drop_all at word (omega (arith, c.loop-letter-test.false))))
-    ∙ c.loop-letter.invariant
+returns c = grind (arith, word-ends, drop_all, c.loop-letter-test.false, c.loop-letter.invariant)

@@ -10,9 +10,7 @@ behind-at : (m at : ℕ) (start behind : Place) → at ≡ behind.at → behind 
 behind-at m at start behind e passes = e ∙ ap (λ (p : Place). p.at) passes ∙ run-at m start
 
 pub overflow_sub-result : goal.overflow_sub-result
-overflow_sub-result c =
-    omega (arith, behind-at c.args.marker c.passed.result c.args.cursor.now c.pass_markers.new.cursor c.passed.ensures c.pass_markers.ensures, c.passed-start.ensures)
+overflow_sub-result c = grind (arith, behind-at c.args.marker c.passed.result c.args.cursor.now c.pass_markers.new.cursor, c.passed.ensures, c.pass_markers.ensures, c.passed-start.ensures)
 
 pub returns-clause-size : goal.returns-clause-size
-returns-clause-size c =
-    omega (arith, behind-at c.args.marker c.passed.result c.args.cursor.now c.pass_markers.new.cursor c.passed.ensures c.pass_markers.ensures, c.passed-start.ensures)
+returns-clause-size c = grind (arith, behind-at c.args.marker c.passed.result c.args.cursor.now c.pass_markers.new.cursor, c.passed.ensures, c.pass_markers.ensures, c.passed-start.ensures)

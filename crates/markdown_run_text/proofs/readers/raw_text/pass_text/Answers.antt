@@ -1,4 +1,4 @@
-use Rattle.std.proofs.Common.{◌≡◌, ◌≢◌, ◌==◌, ◌||◌, ℕ, List, [], ◌∷◌, Bool, true, false, ap, sym, ◌∙◌}
+use Rattle.std.proofs.Common.{◌≡◌, ◌≢◌, ◌==◌, ◌||◌, ℕ, List, [], ◌∷◌, true, false, ap, ◌∙◌, arith}
 use Rattle.std.proofs.lemmas.Bool.{eqb-true, ne_eqb}
 use Rattle.markdown_content.specs.Place.{Place}
 use Rattle.markdown_content.specs.Stretch.{past_stretch}
@@ -11,19 +11,10 @@ passed-by : (m : ℕ) (ms : List ℕ) (p q : Place) → q ≡ past_stretch ms p 
 passed-by m ms p q e h = e ∙ ap (λ ns. past_stretch ns p) h ∙ text-passed m p
 
 one-left : (m : ℕ) → m ≢ 96 → ((m == 96) || ((m == 36) || false)) ≡ true → m ≡ 36
-one-left m h k = eqb-true m 36 (by_tests (m == 96) (m == 36) (ne_eqb m 96 h) k)
-  where
-    by_tests : (a b : Bool) → a ≡ false → (a || (b || false)) ≡ true → b ≡ true
-    by_tests true b e g = cc
-    by_tests false true e g = cc
-    by_tests false false e g = g
+one-left m h k = grind (arith, eqb-true, ne_eqb)
 
 pub returns-then-marker-eq96 : goal.returns-then-marker-eq96
-returns-then-marker-eq96 c =
-    passed-by c.args.marker c.new.result c.args.cursor.now c.consume_stretch.new.self c.consume_stretch.ensures
-    (c.new.ensures ∙ ap (λ n. n ∷ []) (sym c.if-marker-eq96.true))
+returns-then-marker-eq96 c = grind (arith, passed-by c.args.marker c.new.result c.args.cursor.now c.consume_stretch.new.self, c.consume_stretch.ensures, c.new.ensures, c.if-marker-eq96.true)
 
 pub returns-else-marker-eq96 : goal.returns-else-marker-eq96
-returns-else-marker-eq96 c =
-    passed-by c.args.marker c.new-else-marker-eq96.result c.args.cursor.now c.consume_stretch-else-marker-eq96.new.self c.consume_stretch-else-marker-eq96.ensures
-    (c.new-else-marker-eq96.ensures ∙ ap (λ n. n ∷ []) (sym (one-left c.args.marker c.if-marker-eq96.false c.requires)))
+returns-else-marker-eq96 c = grind (arith, passed-by c.args.marker c.new-else-marker-eq96.result c.args.cursor.now c.consume_stretch-else-marker-eq96.new.self, one-left c.args.marker, c.consume_stretch-else-marker-eq96.ensures, c.new-else-marker-eq96.ensures, c.if-marker-eq96.false, c.requires)

@@ -1,12 +1,10 @@
-use Rattle.std.proofs.Common.{◌≡◌, ◌&&◌, not, Bool, true, false, refl, sym, ◌∙◌}
+use Rattle.std.proofs.Common.{◌≡◌, ◌&&◌, not, Bool, true, false, sym, ◌∙◌, arith}
 use Rattle.markdown_engine.specs.declared.tokenizer.Tokenizer.{Tokenizer}
 use Rattle.markdown_run_text.proofs.PlainSpanReads.{walk-reads}
 use Rattle.markdown_run_text.proofs.readers.raw_text.read.Goals as goal
 
 both : (a b : Bool) → a ≡ true → b ≡ false → (a && not b) ≡ true
-both true true e h = cc
-both true false e h = refl
-both false b e h = cc
+both x1 b e h = grind arith
 
 pub returns-clause-reads : goal.returns-clause-reads
 returns-clause-reads c =
