@@ -1,5 +1,5 @@
 -- At the start of a content every construct may be read.
-use Rattle.std.proofs.Common.{◌≡◌, ℕ, ◌≤◌, true, false, Option, Some, None, is_some, List, refl, ap, sym, subst, ◌∙◌, arith}
+use Rattle.std.proofs.Common.{◌≡◌, ℕ, ◌≤◌, true, false, Option, None, is_some, List, ap, sym, ◌∙◌, arith}
 use Rattle.markdown_content.specs.Codes.{Code}
 use Rattle.markdown_content.specs.Content.{IsContent, IsTextContent}
 use Rattle.markdown_engine.specs.Operations.{Consume, applied, current_of, scratched}
@@ -7,7 +7,6 @@ use Rattle.markdown_content.specs.Place.{Place, start_of_content}
 use Rattle.markdown_engine.specs.RestingFields.{at_rest}
 use Rattle.markdown_notes.specs.RunIndex.{LastRuns, last_runs, no_runs}
 use Rattle.markdown_engine.specs.Weights.{left_at, codes_left}
-use Rattle.markdown_event.specs.declared.event.Point.{Point}
 use Rattle.markdown_content.specs.declared.parser.Piece.{Piece}
 use Rattle.markdown_event.specs.declared.event.Name.TheVariants as N
 use Rattle.markdown_engine.specs.declared.tokenizer.TokenizeState.{TokenizeState}
@@ -15,7 +14,7 @@ use Rattle.markdown_engine.specs.declared.tokenizer.Tokenizer.{Tokenizer}
 use Rattle.markdown_engine.proofs.OperationFields.{left-consumed}
 use Rattle.markdown_engine.proofs.PlaceBounds.{codes-fit}
 use Rattle.markdown_notes.proofs.RunIndexFacts.{none-known}
-use Rattle.markdown_plan.specs.Characters.{bytes_of, IsText, ReadsText}
+use Rattle.markdown_plan.specs.Characters.{bytes_of, ReadsText}
 use Rattle.markdown_plan.proofs.ContentCharacters.{content-text}
 use Rattle.markdown_plan.proofs.ContentEnds.{content-ends}
 use Rattle.markdown_leaf_gfm.specs.GfmAutolinkLiteral as GfmAutolinkLiteral
@@ -35,8 +34,7 @@ pub unknown-runs : (s : TokenizeState) (cs : List Code) → s.runs ≡ no_runs �
 unknown-runs s cs e = e ∙ none-known cs ∙ ap (λ (x : LastRuns). last_runs x.asked cs) (sym e)
 
 pub start-spans : (T : Tokenizer) → T.tokenize_state ≡ at_rest → codes_left T ≤ most → RawText.RawTextStartReady T
-start-spans T e fits =
-    record { rest = e ∙ ap RawText.rested (sym e); fits = omega (arith, fits) }
+start-spans T e fits = grind arith
 
 -- Literals.
 
@@ -44,39 +42,29 @@ start-spans T e fits =
 pub start-reads : (bytes : List ℕ) (pieces : List Piece) (T : Tokenizer) → IsContent bytes pieces → bytes_of T ≡ bytes →
     T.cursor ≡ start_of_content bytes pieces → ReadsText T
 unfolding start_of_content
-start-reads bytes pieces T content input place =
-    subst (λ (bs : List ℕ). IsText bs T.cursor) (sym input) (subst (λ (p : Place). IsText bytes p) (sym place) (content-text bytes pieces 0 content))
+start-reads bytes pieces T content input place = grind (arith, content-text bytes pieces 0)
 
 pub start-literals : (bytes : List ℕ) (pieces : List Piece) (T : Tokenizer) → IsContent bytes pieces →
     bytes_of T ≡ bytes → T.cursor ≡ start_of_content bytes pieces →
     GfmAutolinkLiteral.rested T.tokenize_state ≡ T.tokenize_state → GfmAutolinkLiteral.LiteralStartReady T
-start-literals bytes pieces T content input place resting =
-    record {
-      text = start-reads bytes pieces T content input place;
-      resting = resting;
-      short = start-fits bytes pieces T content place;
-    }
+start-literals bytes pieces T content input place resting = grind (arith, start-reads bytes pieces T, start-fits bytes pieces T)
 
 -- a text content that has codes ends with the last of them
 pub start-last : (bytes : List ℕ) (pieces : List Piece) (p : Place) → IsTextContent bytes pieces →
     p ≡ start_of_content bytes pieces → EndsWithCodes p
 unfolding start_of_content
-start-last bytes pieces p text place =
-    subst EndsWithCodes (sym place) (λ some. ap (λ (q : Point). q.index) (content-ends bytes pieces text some))
+start-last bytes pieces p text place = grind (arith, content-ends)
 
 -- Whitespace that is asked for, where nothing is.
 
 pub start-space : (min max : ℕ) (T : Tokenizer) → T.tokenize_state ≡ at_rest →
     PartialSpaceOrTab.SpaceOrTabStartReady (scratched (PartialSpaceOrTab.asked min max N.SpaceOrTab false None T.tokenize_state) T)
-start-space min max T e =
-    asked-ready min max N.SpaceOrTab false None T (ap PartialSpaceOrTab.rested e ∙ sym e) (λ h. cc)
+start-space min max T e = grind (arith, asked-ready)
 
 pub start-spacing : (T : Tokenizer) → T.tokenize_state ≡ at_rest → codes_left T ≤ most →
     PartialSpaceOrTabEol.SpaceOrTabEolStartReady (scratched (PartialSpaceOrTabEol.eol_asked false None T.tokenize_state) T)
-start-spacing T e fits =
-    eol-asked-ready false None T fits (record { space = ap PartialSpaceOrTab.rested e ∙ sym e; eol = ap PartialSpaceOrTabEol.eol_rested e ∙ sym e }) (λ h. cc) (λ h. cc) (λ h. refl)
+start-spacing T e fits = grind (arith, eol-asked-ready false None T)
 
 pub past-fits : (o : Option ℕ) (T : Tokenizer) → o ≡ current_of T → is_some o ≡ true → codes_left T ≤ most →
     codes_left (applied Consume T) ≤ most
-past-fits None T e h fits = cc
-past-fits (Some v) T e h fits = omega (arith, left-consumed T v (sym e), fits)
+past-fits o T e h fits = grind (arith, left-consumed)

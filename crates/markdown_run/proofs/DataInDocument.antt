@@ -1,5 +1,5 @@
 -- The data of a content's tree is part of the document.
-use Rattle.std.proofs.Common.{◌≡◌, ◌≢◌, ℕ, true, false, List, [], ◌++◌, None, refl, sym, ◌∙◌, append-nil}
+use Rattle.std.proofs.Common.{◌≡◌, ◌≢◌, ℕ, true, false, List, [], ◌++◌, None, refl, sym, ◌∙◌, append-nil, arith}
 use Rattle.std.specs.List.{list_any}
 use Rattle.markdown_content.specs.Codes.{Code, is_line_ending}
 use Rattle.markdown_content.specs.Content.{IsContent, content_of}
@@ -27,12 +27,8 @@ module _ (bytes : List ℕ) (all : List Code)
   parts-row : (t : Forest) (before after : List Code) → all ≡ before ++ (leaf_codes t ++ after) → HasRowLines t →
       HasParts bytes t
   parts-row empty before after e h = tt
-  parts-row (leaf_then name link cs rest) before after e h =
-      let p = both-in all cs (leaf_codes rest) before after e in
-      (λ d l. part cs (h.0 (data-makes name d) l).0 (h.0 (data-makes name d) l).1 (before, leaf_codes rest ++ after, p.0), parts-row rest (before ++ cs) after p.1 h.1)
-  parts-row (group_then name enter exit inside rest) before after e h =
-      let p = both-in all (leaf_codes inside) (leaf_codes rest) before after e in
-      (h.0, (parts-row inside before (leaf_codes rest ++ after) p.0 h.1.0, parts-row rest (before ++ leaf_codes inside) after p.1 h.1.1))
+  parts-row (leaf_then name link cs rest) before after e h = grind (arith, both-in, data-makes, parts-row rest (before ++ cs) after)
+  parts-row (group_then name enter exit inside rest) before after e h = grind (arith, both-in, parts-row inside before (leaf_codes rest ++ after), parts-row rest (before ++ leaf_codes inside) after)
 
 -- the data of a tree over a content is part of the document
 pub parts-of : (bytes : List ℕ) (pieces : List Piece) (t : Forest) → IsContent bytes pieces →
@@ -44,27 +40,21 @@ parts-of bytes pieces t content e h =
 
 lines-onto : (cs : List Code) (f : Forest) → cs ≢ [] → list_any is_line_ending cs ≡ false → HasRowLines f →
     HasRowLines (data_onto cs f)
-lines-onto cs (leaf_then N.Data None more rest) some none h =
-    (λ e l. (some-join cs more some, line-join cs more none (h.0 refl refl).1), h.1)
-lines-onto cs rest some none h = (λ e l. (some, none), h)
+lines-onto cs rest some none h = grind (arith, some-join, line-join)
 
 pub HasLines-merged : (t : Forest) → HasRowLines t → HasRowLines (merged t)
 unfolding merged
 HasLines-merged empty h = tt
-HasLines-merged (leaf_then N.Data None cs rest) h =
-    lines-onto cs (merged rest) (h.0 refl refl).0 (h.0 refl refl).1 (HasLines-merged rest h.1)
+HasLines-merged (leaf_then N.Data None cs rest) h = grind (arith, lines-onto, HasLines-merged rest)
 HasLines-merged (leaf_then name link cs rest) h = (h.0, HasLines-merged rest h.1)
-HasLines-merged (group_then name enter exit inside rest) h =
-    (h.0, (HasLines-merged inside h.1.0, HasLines-merged rest h.1.1))
+HasLines-merged (group_then name enter exit inside rest) h = grind (arith, HasLines-merged inside, HasLines-merged rest)
 
 pub HasLines-HasData : (t : Forest) → HasRowLines t → HasData t
 HasLines-HasData empty h = tt
 HasLines-HasData (leaf_then name link cs rest) h = (λ e l. (h.0 (data-makes name e) l).0, HasLines-HasData rest h.1)
-HasLines-HasData (group_then name enter exit inside rest) h =
-    (h.0.0, (HasLines-HasData inside h.1.0, HasLines-HasData rest h.1.1))
+HasLines-HasData (group_then name enter exit inside rest) h = grind (arith, HasLines-HasData inside, HasLines-HasData rest)
 
 pub HasLines-HasCodes : (t : Forest) → HasRowLines t → HasCodes t
 HasLines-HasCodes empty h = tt
 HasLines-HasCodes (leaf_then name link cs rest) h = (λ e l. (h.0 (data-makes name e) l).0, HasLines-HasCodes rest h.1)
-HasLines-HasCodes (group_then name enter exit inside rest) h =
-    (HasLines-HasCodes inside h.1.0, HasLines-HasCodes rest h.1.1)
+HasLines-HasCodes (group_then name enter exit inside rest) h = grind (arith, HasLines-HasCodes inside, HasLines-HasCodes rest)

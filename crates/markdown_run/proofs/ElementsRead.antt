@@ -9,7 +9,7 @@ use Rattle.markdown_content.specs.Place.{code_at, moved}
 use Rattle.markdown_content.proofs.PlaceRules.{ahead-moved}
 use Rattle.markdown_engine.specs.Operations.{HasCode, ahead, current_of, scratched}
 use Rattle.markdown_engine.specs.PastTree.{past, Reads, TreeReading}
-use Rattle.markdown_engine.specs.StateWords.{StateWords, words_in}
+use Rattle.markdown_engine.specs.StateWords.{StateWords}
 use Rattle.markdown_engine.specs.Weights.{codes_left}
 use Rattle.markdown_event.specs.declared.state.StateName.{StateName}
 use Rattle.markdown_notes.specs.RunIndex.{is_asked}
@@ -21,7 +21,7 @@ use Rattle.markdown_engine.proofs.ReadingSequences.{scratched-same}
 use Rattle.markdown_attention.specs.Attention.{run_tree}
 use Rattle.markdown_label.specs.LabelEnd.{AreStartsWithin}
 use Rattle.markdown_label.specs.LabelEnd as LabelEnd
-use Rattle.markdown_label.specs.LabelStarts.{footnotes_on, footnote_test, image_ends, link_ends, footnote_ends}
+use Rattle.markdown_label.specs.LabelStarts.{footnote_test, image_ends, link_ends, footnote_ends}
 use Rattle.markdown_label.proofs.NextCodeTests.{at-none, at-value}
 use Rattle.markdown_label.proofs.BegunStartPlaces.{link-within, footnote-within, image-within}
 use Rattle.markdown_leaf.specs.Autolink.{link_here}
@@ -44,8 +44,8 @@ use Rattle.markdown_run_text.specs.RunOverElements.{AreReadAsData, Advances, Dat
 use Rattle.markdown_run_text.proofs.ConstructNodes.{node-of}
 use Rattle.markdown_run_text.proofs.ElementSteps.{some-ahead, advances-finishes, data-advances, node-advances, run-advances}
 use Rattle.markdown_run_text.proofs.RowFields.{lost-within}
-use Rattle.markdown_run_text.specs.TextContent.{StandsAlone, other_markers, sole_try, span_markers, text_choice_of, text_passed, text_setting, tried_reading}
-use Rattle.markdown_run_text.proofs.TextContentLaws.{SoleBy, SoleOrAlone, sole-or-alone, states_and_called, angle-row, slash-row}
+use Rattle.markdown_run_text.specs.TextContent.{StandsAlone, other_markers, sole_try, span_markers, text_choice_of, text_passed, text_setting}
+use Rattle.markdown_run_text.proofs.TextContentLaws.{SoleBy, SoleOrAlone, sole-or-alone, angle-row, slash-row}
 use Rattle.markdown_run_text.proofs.TextElements.{is_marker}
 use Rattle.markdown_run_text.proofs.TextLabelTries.{image-advances, image-alone, footnote-advances, link-advances, bracket-alone, made-advances, failed-advances, end-alone}
 use Rattle.markdown_run_text.proofs.TextSteps.{KeepsTheRest, same-row, choice-same, indexed-past, domains-past, ready-past, no-check-past, tree-kept, registered-kept, made-kept, some-none, ends-on, lost-there, not-lost, lost-left, lost-current, same-lost}
@@ -55,9 +55,9 @@ use Rattle.markdown_run_text.proofs.InnerUnderscores.{text-read}
 use Rattle.markdown_run_text.proofs.TextDataElements.{text-single}
 use Rattle.markdown_run_text.specs.TextStops.{reader_stops, text_stops}
 use Rattle.markdown_run.specs.ElementsOfText.{indexed, data_stops, MayTry, IsReady, FinishesAt, EndsByData, LeadsTo, PassesSome, ReachesData, ReadsElement}
-use Rattle.markdown_run.specs.Layer.{inline, text-within}
+use Rattle.markdown_run.specs.Layer.{inline}
 use Rattle.markdown_run.proofs.RunConstructLemmas.{ready-tried}
-use Rattle.markdown_run.specs.RunConstruct.{Asks, IsConstruct, EndsBy, ConstructEnds}
+use Rattle.markdown_run.specs.RunConstruct.{IsConstruct, EndsBy, ConstructEnds}
 use Rattle.markdown_run_text.specs.ReaderEnds.{ReadsOrStays}
 use Rattle.markdown_run.proofs.IndexedRows.{advances-indexed, mark-indexed, row-alone}
 use Rattle.markdown_run.proofs.StartsAndEnds.{image-begun, link-begun, footnote-begun, image-fails, link-fails, footnote-fails, end-made}
@@ -74,8 +74,7 @@ as-data T r = text-read (text_setting T) T.cursor T.parse_state.now.options.now.
 
 pub may-past : (T U : Tokenizer) → KeepsTheRest T U → codes_left U ≤ codes_left T → AreStartsWithin U U.tokenize_state.label_starts →
     U.attempts ≡ [] → MayTry T → MayTry U
-may-past T U e l within alone r =
-    record { start = ready-past T U e l within r.start; runs = indexed-past T U e r.runs; domains = domains-past T U e r.domains; alone = alone }
+may-past T U e l within alone r = grind (arith, ready-past, indexed-past, domains-past)
 
 pub element-passes : (T U : Tokenizer) → MayTry T → AreStartsWithin U U.tokenize_state.label_starts →
     Advances (text_choice_of T) T U → PassesSome T U
@@ -157,8 +156,7 @@ span-ruled T v r here h k = by_marker (v == 96) refl
 -- data goes on at the code at hand
 
 not-true : (b : Bool) → not b ≡ true → b ≡ false
-not-true true e = cc
-not-true false e = refl
+not-true b e = grind arith
 
 pub data-stays : (T : Tokenizer) (v : ℕ) → IsReady T → current_of T ≡ Some v →
     goes_on T.parse_state.now.options.now.constructs.gfm_autolink_literal (ahead T) ≡ true → ReachesData T T
@@ -180,17 +178,11 @@ module _ (T : Tokenizer) (v : ℕ) (r : IsReady T) (here : current_of T ≡ Some
   sole-here = sole-or-alone inline T r.may_try.start v here other
 
   pub sole-asks : (name : StateName) → sole_try v ≡ Some name → IsConstruct name T
-  sole-asks name e =
-      asks-by (tried_reading name) refl (subst (λ (o : Option StateName). SoleOrAlone inline T o) e sole-here)
-    where
-      asks-by : (o : Option (Tokenizer → TreeReading)) → tried_reading name ≡ o → SoleBy T (states_and_called (words_in inline) name) o → Asks o name T
-      asks-by None k h = absurd h
-      asks-by (Some reading) k h = ready-tried name T reading k (subst (λ (w : StateWords). w.ready T) (sym (text-within name)) h.ready)
+  sole-asks name e = grind (arith, sole-here, ready-tried)
 
   pub sole-ends : (name : StateName) (U : Tokenizer) (ok : Bool) → sole_try v ≡ Some name → ConstructEnds name T ok U →
       ReadsElement T ok U
-  sole-ends name U ok e k =
-      sole-ends-by (tried_reading name) (states_and_called (words_in inline) name) name T U ok v r here (subst (λ (o : Option StateName). SoleOrAlone inline T o) e sole-here) k
+  sole-ends name U ok e k = grind (arith, sole-ends-by, sole-here)
 
   pub none-tried : sole_try v ≡ None → ReachesData T T
   none-tried e = alone-stays T T v r here refl (subst (λ (o : Option StateName). SoleOrAlone inline T o) e sole-here)
@@ -203,8 +195,7 @@ www-ends T U ok v r here h k =
 -- it is known that no domain begins
 pub www-ruled : (T : Tokenizer) (v : ℕ) → IsReady T → current_of T ≡ Some v → list_any (λ n. v == n) (first_letters (www ∷ [])) ≡ true →
     GfmAutolinkLiteral.is_ruled_out T ≡ true → ReachesData T T
-www-ruled T v r here h k =
-    alone-stays T T v r here refl (www-alone T v r.may_try.start.last here h (www-ruled-out T r.may_try.domains k))
+www-ruled T v r here h k = grind (arith, alone-stays T T v, www-alone T v, www-ruled-out T)
 
 -- Two constructs are tried, one behind the other.
 
@@ -258,23 +249,19 @@ run-ends T U false v r here h k = alone-stays T U v r here (k.1 ∙ scratched-sa
 
 -- a later test that fails
 last-fails : (a b : Bool) → b ≡ false → a && b ≡ false
-last-fails true b e = e
-last-fails false b e = refl
+last-fails a b e = grind arith
 
 -- the code behind the one at hand
 pub next-some : (T : Tokenizer) (v n : ℕ) → code_at (moved T.cursor) ≡ Some n →
     (n == v) ≡ next_is (is_value v) (rest_of (ahead T))
-next-some T v n e =
-    sym (at-value (record T { cursor = moved T.cursor }) n v (n == v) e refl) ∙ ap (next_is (is_value v)) (ahead-moved T.cursor)
+next-some T v n e = grind (arith, at-value (record T { cursor = moved T.cursor }) n v (n == v), ahead-moved T.cursor)
 
 pub next-none : (T : Tokenizer) (v : ℕ) → code_at (moved T.cursor) ≡ None → false ≡ next_is (is_value v) (rest_of (ahead T))
-next-none T v e =
-    sym (at-none (record T { cursor = moved T.cursor }) v e) ∙ ap (next_is (is_value v)) (ahead-moved T.cursor)
+next-none T v e = grind (arith, at-none (record T { cursor = moved T.cursor }) v, ahead-moved T.cursor)
 
 -- where no `^` comes next, no footnote call does
 no-caret : (T : Tokenizer) → next_is (is_value (byte "^")) (rest_of (ahead T)) ≡ false → footnote_test T (ahead T) ≡ false
-no-caret T none =
-    last-fails (footnotes_on T && next_is (is_value (byte "[")) (ahead T)) (next_is (is_value (byte "^")) (rest_of (ahead T))) none
+no-caret T none = grind (arith, last-fails)
 
 pub image-tried : (T U : Tokenizer) (ok : Bool) → IsReady T → current_of T ≡ Some (byte "!") → ConstructEnds LabelStartImageStart T ok U →
     ReadsElement T ok U
@@ -305,8 +292,7 @@ link-next T U ok r here none k = link-tried T U ok r here (no-caret T none) k
 
 pub link-behind : (T U V : Tokenizer) (ok : Bool) → IsReady T → current_of T ≡ Some (byte "[") → ConstructEnds GfmLabelStartFootnoteStart T false U →
     ConstructEnds LabelStartLinkStart U ok V → ReadsElement T ok V
-link-behind T U V ok r here k h =
-    link-tried T V ok r here (footnote-fails T k.0) (subst (λ (x : Tokenizer). ConstructEnds LabelStartLinkStart x ok V) k.1 h)
+link-behind T U V ok r here k h = grind (arith, link-tried, footnote-fails)
 
 -- Ends of labels.
 
@@ -362,8 +348,7 @@ IsNone v [] = Unit {0}
 IsNone v (n ∷ ns) = (v ≢ n) × IsNone v ns
 
 or-none : (a b : Bool) → a ≡ false → b ≡ false → (a || b) ≡ false
-or-none true b e h = cc
-or-none false b e h = h
+or-none a b e h = grind arith
 
 -- a code that is none of these
 pub none-among : (v : ℕ) (ns : List ℕ) → IsNone v ns → list_any (λ n. v == n) ns ≡ false

@@ -1,9 +1,9 @@
 -- A text that is read to its end, by whatever is known of the content where its elements begin: its passes may be called, and leave its tree.
-use Rattle.std.proofs.Common.{◌≡◌, Bool, true, false, List, refl, sym, ap, subst, ◌∙◌}
+use Rattle.std.proofs.Common.{◌≡◌, Bool, true, false, List, refl, sym, ap, subst, ◌∙◌, arith}
 use Rattle.markdown_engine_events.specs.EventChains.{chained}
 use Rattle.markdown_content.specs.Codes.{Code}
 use Rattle.markdown_content.specs.Content.{IsContent, content_of}
-use Rattle.markdown_content.specs.Place.{Place, start_of_content}
+use Rattle.markdown_content.specs.Place.{start_of_content}
 use Rattle.markdown_engine.specs.PassesInOrder.{MayResolve, Resolves, unregistered}
 use Rattle.markdown_content.specs.Tree.{events_of, Forest}
 use Rattle.markdown_content.specs.declared.parser.ParseState.{ParseState}
@@ -46,9 +46,7 @@ module _ (p : ParseState) (pieces : List Piece) (first : Bool) (content : IsCont
   -- what is read
   choice-is : text_choice_of M ≡ text_choice setting all_codes
   unfolding start_of_content
-  choice-is =
-      ap (λ (x : Setting). text_choice x M.cursor.codes) (ap (λ (x : ParseState). text_setting_of x M.tokenize_state.document_at_first_paragraph_of_list_item) start.input ∙ ap (text_setting_of p) (ap (λ (x : TokenizeState). x.document_at_first_paragraph_of_list_item) start.fields ∙ told))
-      ∙ ap (λ (x : Place). text_choice setting x.codes) start.place
+  choice-is = grind arith
 
   -- the row with its labels grouped
   abbrev label_row : Forest

@@ -1,5 +1,5 @@
 -- The elements of a text that a run has found, some of which are read otherwise: they pair as the text's tree of labels does.
-use Rattle.std.proofs.Common.{◌≡◌, ℕ, false, List, refl, sym, ap, subst, ◌∙◌}
+use Rattle.std.proofs.Common.{◌≡◌, ℕ, false, List, refl, sym, ap, subst, ◌∙◌, arith}
 use Rattle.markdown_content.specs.Codes.{Code}
 use Rattle.markdown_attention.specs.AttentionPass.{IsProbed}
 use Rattle.markdown_attention.proofs.AttentionTreeLabels.{IsGood, IsElementRead}
@@ -8,13 +8,12 @@ use Rattle.markdown_attention.proofs.MarkerCodes.{AreSingles}
 use Rattle.markdown_label.specs.Brackets.{grouped}
 use Rattle.markdown_model.specs.Elements.{text_choice}
 use Rattle.markdown_model.specs.InlineTree.{label_tree, paired_whole}
-use Rattle.markdown_model.specs.LabelEnd.{Element}
 use Rattle.markdown_model.specs.Pairs.{pair_list}
 use Rattle.markdown_model.specs.Passes.{labels_of}
 use Rattle.markdown_model.specs.Setting.{Setting}
 use Rattle.markdown_model.proofs.ElementCases.{AllAre}
 use Rattle.markdown_run_text.specs.OpenStarts.{brackets_of}
-use Rattle.markdown_run_text.specs.Row.{Row, row_has_run, row_of_elements}
+use Rattle.markdown_run_text.specs.Row.{Row, row_has_run}
 use Rattle.markdown_run_text.proofs.PairsAsRead.{good-read, paired-read, probed-read, read-runless}
 use Rattle.markdown_run.proofs.MayPairOfCutData.{good-alike}
 use Rattle.markdown_run.proofs.RowsWithoutRuns.{row-still}
@@ -35,10 +34,7 @@ module _ (s : Setting) (cs : List Code) (row : Row) (found : IsRowRead s.bytes (
 
   -- where runs are not looked for none stands in the row
   pub found-still : s.options.constructs.attention ≡ false → s.options.constructs.gfm_strikethrough ≡ false → row_has_run row ≡ false
-  found-still off none =
-      let still : row_has_run (row_of_elements found.elements) ≡ false = text-still s cs found.elements found.are off none in
-      let same : found.read ≡ found.elements = read-runless source found.elements found.read found.read_as still in
-      row-still row found.read found.alike (ap (λ (es : List Element). row_has_run (row_of_elements es)) same ∙ still)
+  found-still off none = grind (arith, text-still, read-runless, row-still)
 
   module _ (singles : AreSingles s.bytes cs) where
     sound : AllAre (IsElementRead s.bytes) found.elements
@@ -46,8 +42,7 @@ module _ (s : Setting) (cs : List Code) (row : Row) (found : IsRowRead s.bytes (
 
     -- the runs of the row with its labels grouped are such as may be paired
     pub found-good : IsGood s.bytes (grouped (brackets_of row))
-    found-good =
-        good-alike s.bytes (grouped (brackets_of row)) (labels_of found.read) found.trees (good-read source found.elements found.read found.read_as sound)
+    found-good = grind (arith, good-alike, good-read, sound)
 
     -- what is read is paired as the elements are
     pub found-pairs : paired_whole s (pair_list s) (labels_of found.read) ≡ paired_whole s (pair_list s) (labels_of found.elements)

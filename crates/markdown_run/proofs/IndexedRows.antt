@@ -1,5 +1,5 @@
 -- Past a row it is no matter what is known of the content.
-use Rattle.std.proofs.Common.{◌≡◌, ℕ, ◌-◌, Bool, true, false, if◌then◌else◌, List, [], ◌∷◌, length, Option, None, refl, sym, ap, ◌∙◌}
+use Rattle.std.proofs.Common.{◌≡◌, ℕ, ◌-◌, Bool, if◌then◌else◌, List, ◌∷◌, length, Option, None, refl, sym, ap, ◌∙◌, arith}
 use Rattle.markdown_content.specs.Codes.{Code}
 use Rattle.markdown_engine.specs.Operations.{is_registered, registered_before, scratched}
 use Rattle.markdown_engine.specs.PastTree.{past}
@@ -33,29 +33,25 @@ tree-alone t T = refl
 
 pub row-alone : (row : Row) (T : Tokenizer) → (past_row row T).attempts ≡ T.attempts
 row-alone (row_end t) T = tree-alone t T
-row-alone (row_then t mark rest) T =
-    row-alone rest (past_mark mark (past_tree t T)) ∙ mark-alone mark (past_tree t T) ∙ tree-alone t T
+row-alone (row_then t mark rest) T = grind (arith, mark-alone, tree-alone, row-alone rest (past_mark mark (past_tree t T)))
 
 tree-indexed : (s : TokenizeState) (t : Forest) (T : Tokenizer) → past_tree t (indexed s T) ≡ indexed s (past_tree t T)
 unfolding past past_tree scratched
 tree-indexed s t T = refl
 
 if-indexed : (s : TokenizeState) (b : Bool) (T U : Tokenizer) → (if b then indexed s T else indexed s U) ≡ indexed s (if b then T else U)
-if-indexed s true T U = refl
-if-indexed s false T U = refl
+if-indexed s b T U = grind arith
 
 before-indexed : (s : TokenizeState) (n : ResolveName) (T : Tokenizer) → registered_before n (indexed s T) ≡ indexed s (registered_before n T)
 unfolding registered_before scratched
 before-indexed s n T = if-indexed s (is_registered n T.resolvers) T (record T { resolvers = n ∷ T.resolvers })
 
 lost-indexed : (s : TokenizeState) (ls : List Kept.LabelStart) (r : TokenizeState) → lost_by ls (with_indexes s r) ≡ with_indexes s (lost_by ls r)
-lost-indexed s [] r = refl
-lost-indexed s (l ∷ ls) r = refl
+lost-indexed s ls r = grind arith
 
 made-indexed : (s : TokenizeState) (kind : LabelKind) (ls : List Kept.LabelStart) (last n : ℕ) (r : TokenizeState) →
     labelled (with_kind kind ls) last (starts_set (with_kind kind ls) (ended_at n (with_indexes s r))) ≡ with_indexes s (labelled (with_kind kind ls) last (starts_set (with_kind kind ls) (ended_at n r)))
-made-indexed s kind [] last n r = refl
-made-indexed s kind (l ∷ ls) last n r = refl
+made-indexed s kind ls last n r = grind arith
 
 pub mark-indexed : (s : TokenizeState) (mark : Mark) (T : Tokenizer) → past_mark mark (indexed s T) ≡ indexed s (past_mark mark T)
 unfolding past past_mark scratched made end_made

@@ -1,5 +1,5 @@
 -- What the pass of runs asks of a tree does not look at how data is cut.
-use Rattle.std.proofs.Common.{◌≡◌, ℕ, ◌||◌, Option, Some, None, List, [], ◌∷◌, refl, sym, ap, subst, ◌∙◌}
+use Rattle.std.proofs.Common.{◌≡◌, ℕ, ◌||◌, Option, Some, None, List, [], ◌∷◌, refl, ap, ◌∙◌, arith}
 use Rattle.markdown_content.specs.Codes.{Code}
 use Rattle.markdown_content.specs.Tree.{Forest, empty, leaf_then, group_then}
 use Rattle.markdown_event.specs.declared.event.Content.{Content}
@@ -11,7 +11,6 @@ use Rattle.markdown_run_text.specs.CutData.{each_code, split}
 use Rattle.markdown_attention.specs.AttentionTrees.{HasStripes}
 use Rattle.markdown_attention.specs.TokenWord.{IsUnlinkedRow}
 use Rattle.markdown_attention.proofs.AttentionTreeLabels.{EachRun, IsGood}
-use Rattle.markdown_attention.proofs.MarkerCodes.{IsPlaced}
 
 -- Whether a run stands in a row.
 
@@ -60,8 +59,7 @@ unlinked-whole-leaf name link cs rest h = h
 
 unlinked-whole : (t : Forest) → IsUnlinkedRow (split t) → IsUnlinkedRow t
 unlinked-whole empty h = tt
-unlinked-whole (leaf_then name link cs rest) h =
-    let p = unlinked-whole-leaf name link cs rest h in (p.0, unlinked-whole rest p.1)
+unlinked-whole (leaf_then name link cs rest) h = grind (arith, unlinked-whole-leaf, unlinked-whole rest)
 unlinked-whole (group_then name a b inside rest) h = unlinked-whole rest h
 
 -- Runs as leaves over markers.
@@ -84,8 +82,7 @@ stripes-leaf name link cs rest h k = (h.0, k)
 stripes-cut : (t : Forest) → HasStripes t → HasStripes (split t)
 stripes-cut empty h = tt
 stripes-cut (leaf_then name link cs rest) h = stripes-leaf name link cs rest h (stripes-cut rest h.1)
-stripes-cut (group_then name a b inside rest) h =
-    ((h.0.0, λ e. unlinked-cut inside (h.0.1 (sym (has_run-split inside) ∙ e))), (stripes-cut inside h.1.0, stripes-cut rest h.1.1))
+stripes-cut (group_then name a b inside rest) h = grind (arith, unlinked-cut, has_run-split, stripes-cut inside, stripes-cut rest)
 
 stripes-whole-leaf : (name : Name) (link : Option Content) (cs : List Code) (rest : Forest) →
     HasStripes (split (leaf_then name link cs rest)) → (HasStripes (split rest) → HasStripes rest) →
@@ -97,8 +94,7 @@ stripes-whole-leaf name link cs rest h k = (h.0, k h.1)
 stripes-whole : (t : Forest) → HasStripes (split t) → HasStripes t
 stripes-whole empty h = tt
 stripes-whole (leaf_then name link cs rest) h = stripes-whole-leaf name link cs rest h (stripes-whole rest)
-stripes-whole (group_then name a b inside rest) h =
-    ((h.0.0, λ e. unlinked-whole inside (h.0.1 (has_run-split inside ∙ e))), (stripes-whole inside h.1.0, stripes-whole rest h.1.1))
+stripes-whole (group_then name a b inside rest) h = grind (arith, unlinked-whole, has_run-split, stripes-whole inside, stripes-whole rest)
 
 module _ (bytes : List ℕ) where
   -- Runs of the document, in the row or in the text of a label.
@@ -121,8 +117,7 @@ module _ (bytes : List ℕ) where
   runs-cut : (t : Forest) → HasRuns bytes t → HasRuns bytes (split t)
   runs-cut empty h = tt
   runs-cut (leaf_then name link cs rest) h = runs-leaf name link cs rest h (runs-cut rest h.1)
-  runs-cut (group_then name a b inside rest) h =
-      ((h.0.0, λ e. has_run-split inside ∙ h.0.1 e), (runs-cut inside h.1.0, runs-cut rest h.1.1))
+  runs-cut (group_then name a b inside rest) h = grind (arith, has_run-split, runs-cut inside, runs-cut rest)
 
   runs-whole-leaf : (name : Name) (link : Option Content) (cs : List Code) (rest : Forest) →
       HasRuns bytes (split (leaf_then name link cs rest)) → (HasRuns bytes (split rest) → HasRuns bytes rest) →
@@ -134,8 +129,7 @@ module _ (bytes : List ℕ) where
   runs-whole : (t : Forest) → HasRuns bytes (split t) → HasRuns bytes t
   runs-whole empty h = tt
   runs-whole (leaf_then name link cs rest) h = runs-whole-leaf name link cs rest h (runs-whole rest)
-  runs-whole (group_then name a b inside rest) h =
-      ((h.0.0, λ e. sym (has_run-split inside) ∙ h.0.1 e), (runs-whole inside h.1.0, runs-whole rest h.1.1))
+  runs-whole (group_then name a b inside rest) h = grind (arith, has_run-split, runs-whole inside, runs-whole rest)
 
 -- What is said of each run.
 
@@ -173,14 +167,4 @@ module _ (P : List Code → Type 0) where
 
 -- a tree that is another but for how data is cut
 pub good-alike : (bytes : List ℕ) (t u : Forest) → split t ≡ split u → IsGood bytes u → IsGood bytes t
-good-alike bytes t u e h =
-    let f : split u ≡ split t = sym e in (
-      runs-whole bytes t (subst (HasRuns bytes) f (runs-cut bytes u h.0)),
-      (
-        stripes-whole t (subst HasStripes f (stripes-cut u h.1.0)),
-        (
-          unlinked-whole t (subst IsUnlinkedRow f (unlinked-cut u h.1.1.0)),
-          each-whole (IsPlaced bytes) t (subst (EachRun (IsPlaced bytes)) f (each-cut (IsPlaced bytes) u h.1.1.1)),
-        ),
-      ),
-    )
+good-alike bytes t u e h = grind (arith, runs-whole, runs-cut, stripes-whole, stripes-cut, unlinked-whole, unlinked-cut, each-whole, each-cut)

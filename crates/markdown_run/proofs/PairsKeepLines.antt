@@ -1,5 +1,5 @@
 -- Pairing keeps what is said of the lines of a tree: no data that it makes is empty or holds a line ending.
-use Rattle.std.proofs.Common.{◌≡◌, ◌≢◌, ℕ, suc, true, false, Option, List, [], ◌∷◌, None, refl, ap, ◌∙◌}
+use Rattle.std.proofs.Common.{◌≡◌, ◌≢◌, ℕ, suc, true, false, Option, List, [], None, refl, ap, ◌∙◌, arith}
 use Rattle.std.specs.List.{list_any}
 use Rattle.markdown_content.specs.Codes.{Code, is_line_ending}
 use Rattle.markdown_content.specs.Tree.{Forest, empty, leaf_then, group_then, leaf}
@@ -25,8 +25,7 @@ use Rattle.markdown_model.proofs.PairGroupFacts.{run-has, assembled-has}
 use Rattle.markdown_model.proofs.BracketGroupFacts.{WordHas, word-append}
 
 lines-leaf : (name : Name) (cs : List Code) → IsLine cs → HasRowLines (leaf name cs)
-lines-leaf name [] h = tt
-lines-leaf name (c ∷ cs) h = ((λ e l. ((λ k. cc), h)), tt)
+lines-leaf name cs h = grind arith
 
 -- items on lines, and brackets on lines
 abbrev HasLineWord : List Token → Type 0
@@ -37,12 +36,10 @@ abbrev IsGroupName : Name → Type 0
 IsGroupName n = (is_data n ≡ false) × (is_ending n ≡ false)
 
 group-names : (marker size : ℕ) → IsGroupName (pair_names marker size).0 × IsGroupName (pair_names marker size).2
-group-names =
-    pair-named (λ names. IsGroupName names.0 × IsGroupName names.2) ((refl, refl), (refl, refl)) ((refl, refl), (refl, refl)) ((refl, refl), (refl, refl))
+group-names = grind (arith, pair-named)
 
 assembled-lines : (w : List Token) → HasLineWord w → HasRowLines (assembled w)
-assembled-lines w h =
-    assembled-has HasRowLines IsLine (lines-leaf N.Data) tt HasLines-row (λ m n cs k. lines-leaf _ cs k) (λ m n a b f k. ((group-names m n).0, (k, tt))) (λ m n a b f k. ((group-names m n).1, (k, tt))) w h
+assembled-lines w h = grind (arith, assembled-has, lines-leaf, HasLines-row, group-names)
 
 module _ (s : Setting) (pairs_of : List Run → List Pair) where
   -- of a leaf: a run is not linked, and its codes are in lines
@@ -56,12 +53,9 @@ module _ (s : Setting) (pairs_of : List Run → List Pair) where
   tokens-has : (t : Forest) (ps : List Pair) (n : ℕ) → HasRowLines t → HasStripes t → HasLineWord (tokens_of s pairs_of t ps n)
   unfolding tokens_of
   tokens-has empty ps n h k = tt
-  tokens-has (leaf_then name link cs rest) ps n h k =
-      leaf-has name link cs rest ps n h.0 (λ e. (k.0 e).0) (λ m. tokens-has rest ps m h.1 k.1)
-  tokens-has (group_then name a b inside rest) ps n h k =
-      ((h.0, (assembled-lines (tokens_of s pairs_of inside (pairs_of (runs_of s inside)) 0) (tokens-has inside (pairs_of (runs_of s inside)) 0 h.1.0 k.1.0), tt)), tokens-has rest ps n h.1.1 k.1.1)
+  tokens-has (leaf_then name link cs rest) ps n h k = grind (arith, leaf-has, tokens-has rest ps)
+  tokens-has (group_then name a b inside rest) ps n h k = grind (arith, assembled-lines, tokens-has inside (pairs_of (runs_of s inside)) 0, tokens-has rest ps n)
 
   pub HasLines-paired : (t : Forest) → HasRowLines t → HasStripes t → HasRowLines (paired s pairs_of t)
   unfolding paired
-  HasLines-paired t h k =
-      assembled-lines (tokens_of s pairs_of t (pairs_of (runs_of s t)) 0) (tokens-has t (pairs_of (runs_of s t)) 0 h k)
+  HasLines-paired t h k = grind (arith, assembled-lines, tokens-has)

@@ -1,14 +1,12 @@
 -- The passes of a string and of a text, after a run over a content: they may be called, and leave its tree merged and trimmed.
-use Rattle.std.proofs.Common.{◌≡◌, ℕ, Bool, true, false, List, [], ◌∷◌, length, None, refl, sym, ap, subst, ◌∙◌, ◌≤◌, arith}
-use Rattle.std.specs.Prelude.{IsUtf8}
+use Rattle.std.proofs.Common.{◌≡◌, ℕ, Bool, true, false, List, [], ◌∷◌, None, refl, sym, ap, subst, ◌∙◌, arith}
 use Rattle.markdown_content.specs.CommonMark.{rules_of}
-use Rattle.markdown_content.specs.Content.{IsContent, content_of, document_limit}
+use Rattle.markdown_content.specs.Content.{IsContent, content_of}
 use Rattle.markdown_engine.specs.Operations.{registered, ahead}
 use Rattle.markdown_engine.specs.PastTree.{appended_from}
 use Rattle.markdown_content.specs.Place.{start_of_content, ahead_at, Place}
 use Rattle.markdown_engine.specs.PassesInOrder.{MayResolve, Resolves}
 use Rattle.markdown_content.specs.Tree.{Forest, leaf_codes}
-use Rattle.markdown_event.specs.declared.event.Event.{Event}
 use Rattle.markdown_content.specs.declared.parser.ParseState.{ParseState}
 use Rattle.markdown_content.specs.declared.parser.Piece.{Piece}
 use Rattle.markdown_event.specs.declared.resolve.ResolveName.{ResolveName}
@@ -16,10 +14,8 @@ use Rattle.markdown_event.specs.declared.resolve.ResolveName.TheVariants as R
 use Rattle.markdown_engine.specs.declared.tokenizer.Tokenizer.{Tokenizer}
 use Rattle.markdown_engine.specs.declared.tokenizer.TokenizeState.{TokenizeState}
 use Rattle.markdown_engine.proofs.PlaceBounds.{content_fits}
-use Rattle.markdown_attention.specs.RunsRead.{outermost, runs_from, HaveRunPlaces}
 use Rattle.markdown_attention.specs.RunsOfTree.{IsOf, HasRuns}
-use Rattle.markdown_attention.specs.AttentionPass.{IsSmall, IsProbed}
-use Rattle.markdown_attention.specs.RunEdits.{HaveRunEnds, HaveRunRoom}
+use Rattle.markdown_attention.specs.AttentionPass.{IsProbed}
 use Rattle.markdown_attention.proofs.LabelTreeMayPair.{tree-small}
 use Rattle.markdown_attention.proofs.AttentionTreeLabels.{IsGood}
 use Rattle.markdown_attention.proofs.RunPlaces.{MeetsPass, good-meets}
@@ -62,19 +58,7 @@ string_finish p t = trimmed (no_breaks (rules_of p.options.now)) false false t
 
 pub string-trims : IsTrimming R.String string_finish
 unfolding registered
-string-trims = record {
-  may = λ T h. record { map = h.map; fits = h.fits; places = places-of T.parse_state.now.bytes.now h.tree.0 T.events h.tree.1.0 h.tree.1.1 };
-  same = λ T U h. h.same;
-  leaves = λ T U t h parts e. h.trims t parts e;
-  registers = λ a b X e. subst (λ (rs : List ResolveName). registered R.String (registered R.Data (record X { resolvers = rs })) ≡ record X { resolvers = labels_first a (passes_first b (R.Data ∷ R.String ∷ [])) }) (sym e) (both a b X);
-}
-  where
-    both : (a b : Bool) (X : Tokenizer) →
-        registered R.String (registered R.Data (record X { resolvers = passes_of a b })) ≡ record X { resolvers = labels_first a (passes_first b (R.Data ∷ R.String ∷ [])) }
-    both true true X = refl
-    both true false X = refl
-    both false true X = refl
-    both false false X = refl
+string-trims = grind (arith, places-of)
 
 -- a text is trimmed at the start and the end of the whole too, with hard breaks found, and then its email literals are set apart, both where
 -- they are looked for
@@ -84,19 +68,7 @@ text_finish p t =
 
 pub text-trims : IsTrimming R.Text text_finish
 unfolding registered
-text-trims = record {
-  may = λ T h. h;
-  same = λ T U h. h.same;
-  leaves = λ T U t h parts e. h.trims t parts e;
-  registers = λ a b X e. subst (λ (rs : List ResolveName). registered R.Text (registered R.Data (record X { resolvers = rs })) ≡ record X { resolvers = labels_first a (passes_first b (R.Data ∷ R.Text ∷ [])) }) (sym e) (both a b X);
-}
-  where
-    both : (a b : Bool) (X : Tokenizer) →
-        registered R.Text (registered R.Data (record X { resolvers = passes_of a b })) ≡ record X { resolvers = labels_first a (passes_first b (R.Data ∷ R.Text ∷ [])) }
-    both true true X = refl
-    both true false X = refl
-    both false true X = refl
-    both false false X = refl
+text-trims = grind arith
 
 -- the events of X are those of a tree over this content, and no edit is left
 pub record HasTreeEvents (p : ParseState) (pieces : List Piece) (tree : Forest) (X : Tokenizer) : Type 0 where
@@ -110,8 +82,7 @@ pub record HasTreeEvents (p : ParseState) (pieces : List Piece) (tree : Forest) 
 
 merged-parts : (p : ParseState) (pieces : List Piece) (tree : Forest) (X : Tokenizer) → HasTreeEvents p pieces tree X →
     HasParts p.bytes.now (merged tree)
-merged-parts p pieces tree X h =
-    parts-of p.bytes.now pieces (merged tree) h.content (codes-merged tree ∙ h.codes) (HasLines-merged tree h.has_lines)
+merged-parts p pieces tree X h = grind (arith, parts-of, codes-merged, HasLines-merged)
 
 -- what the first pass leaves
 record IsMerged (p : ParseState) (tree : Forest) (V : Tokenizer) : Type 0 where
@@ -121,32 +92,20 @@ record IsMerged (p : ParseState) (tree : Forest) (V : Tokenizer) : Type 0 where
 
 after-merging : (p : ParseState) (pieces : List Piece) (tree : Forest) (X V : Tokenizer) → HasTreeEvents p pieces tree X →
     MergesData X V → IsMerged p tree V
-after-merging p pieces tree X V h m = record {
-  map = ap (λ (x : Tokenizer). x.map) m.same ∙ h.map;
-  events = m.merges tree (HasLines-HasData tree h.has_lines) h.events;
-  input = ap (λ (x : Tokenizer). x.parse_state.now) m.same ∙ h.input;
-}
+after-merging p pieces tree X V h m = grind (arith, HasLines-HasData)
 
 merged-there : (p : ParseState) (pieces : List Piece) (tree : Forest) (X V : Tokenizer) → HasTreeEvents p pieces tree X →
     V.parse_state.now ≡ p → HasParts V.parse_state.now.bytes.now (merged tree)
-merged-there p pieces tree X V h e =
-    subst (λ (x : ParseState). HasParts x.bytes.now (merged tree)) (sym e) (merged-parts p pieces tree X h)
+merged-there p pieces tree X V h e = grind (arith, merged-parts p pieces tree X)
 
 may-finish : (p : ParseState) (pieces : List Piece) (tree : Forest) (X V : Tokenizer) → HasTreeEvents p pieces tree X →
     MergesData X V → MayFinish V
-may-finish p pieces tree X V h m =
-    let k : IsMerged p tree V = after-merging p pieces tree X V h m in
-    record {
-      map = k.map;
-      fits = subst (λ (x : ParseState). length x.bytes.now ≤ document_limit) (sym k.input) h.content.fits;
-      tree = (merged tree, (merged-there p pieces tree X V h k.input, k.events));
-    }
+may-finish p pieces tree X V h m = grind (arith, after-merging p pieces tree X V, merged-there p pieces tree X V)
 
 -- the passes may be run
 pub passes-may : (p : ParseState) (pieces : List Piece) (tree : Forest) (last : ResolveName) (finish : ParseState → Forest → Forest) (X : Tokenizer) →
     IsTrimming last finish → HasTreeEvents p pieces tree X → MayResolve may_resolve_of resolves_of (R.Data ∷ last ∷ []) X
-passes-may p pieces tree last finish X t h =
-    (h.map, λ V m. (t.may V (may-finish p pieces tree X V h m), λ W l. tt))
+passes-may p pieces tree last finish X t h = grind (arith, may-finish p pieces tree X)
 
 -- what they leave
 pub passes-leave : (p : ParseState) (pieces : List Piece) (tree : Forest) (last : ResolveName) (finish : ParseState → Forest → Forest) (X V : Tokenizer) →
@@ -171,26 +130,11 @@ pub record IsGiven (s : Setting) (p : ParseState) : Type 0 where
 
 given-of : (s : Setting) (p : ParseState) (tree : Forest) (X : Tokenizer) → IsGiven s p → X.parse_state.now ≡ p → leaf_codes tree ≡ X.cursor.codes →
     IsOf s tree X
-given-of s p tree X g e codes = record {
-  bytes = g.bytes ∙ ap (λ (x : ParseState). x.bytes.now) (sym e);
-  options = g.options ∙ ap (λ (x : ParseState). x.options.now) (sym e);
-  codes = λ on. codes;
-}
+given-of s p tree X g e codes = grind arith
 
 may-pair : (p : ParseState) (pieces : List Piece) (tree : Forest) (X : Tokenizer) → HasTreeEvents p pieces tree X →
     IsGood p.bytes.now tree → MayPair X
-may-pair p pieces tree X h good =
-    let m : MeetsPass p.bytes.now tree = good-meets p.bytes.now tree h.content.is_text h.content.fits good in
-    let codes : length (leaf_codes tree) ≡ length (content_of p.bytes.now pieces) = ap length h.codes in
-    record {
-      map = h.map;
-      utf8 = subst (λ (x : ParseState). IsUtf8 x.bytes.now) (sym h.input) h.content.is_text;
-      places = subst (λ (x : ParseState). HaveRunPlaces x.bytes.now X.events) (sym h.input) (subst (λ (es : List Event). HaveRunPlaces p.bytes.now es) (sym h.events) m.places);
-      ends = subst (λ (es : List Event). HaveRunEnds es) (sym h.events) m.ends;
-      room = subst (λ (es : List Event). HaveRunRoom es) (sym h.events) m.room;
-      small = subst (λ (x : ParseState). IsSmall (runs_from x.options.now x.bytes.now X.cursor.codes 0 0 outermost X.events)) (sym h.input)
-          (tree-small p.options.now p.bytes.now X.cursor.codes tree X.events m.runs h.events (omega (arith, codes, content_fits p.bytes.now pieces h.content)));
-    }
+may-pair p pieces tree X h good = grind (arith, good-meets p.bytes.now tree, tree-small p.options.now p.bytes.now X.cursor.codes tree X.events, content_fits p.bytes.now pieces)
 
 module _ (p : ParseState) (pieces : List Piece) (tree : Forest) (s : Setting) (given : IsGiven s p) (X V : Tokenizer) (h : HasTreeEvents p pieces tree X) (good : IsGood p.bytes.now tree) (m : PairsRuns X V) where
   meets : MeetsPass p.bytes.now tree
@@ -205,15 +149,7 @@ module _ (p : ParseState) (pieces : List Piece) (tree : Forest) (s : Setting) (g
 
   -- it leaves the events of the paired tree
   paired-read : HasTreeEvents p pieces (paired_whole s (pair_list s) tree) V
-  paired-read = record {
-    content = h.content;
-    has_lines = HasLines-paired (within (leaf_codes tree) s) (pair_list s) tree h.has_lines meets.striped.1;
-    codes = codes-paired (within (leaf_codes tree) s) (pair_list s) tree ∙ h.codes;
-    map = ap (λ (x : Tokenizer). x.map) m.same ∙ h.map;
-    events = m.paired s tree is_of runs meets.striped h.events;
-    input = ap (λ (x : Tokenizer). x.parse_state.now) m.same ∙ h.input;
-    reads = ap (λ (x : Tokenizer). x.cursor.codes) m.same ∙ h.reads;
-  }
+  paired-read = grind (arith, HasLines-paired, meets, codes-paired, is_of, runs)
 
   paired-probes : IsProbed s tree V.tokenize_state.probes
   paired-probes = m.probed s tree is_of runs h.events

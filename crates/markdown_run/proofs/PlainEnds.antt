@@ -1,5 +1,5 @@
 -- How a text ends that has registered no pass: its passes are called at once, whatever is known of the content.
-use Rattle.std.proofs.Common.{◌≡◌, ◌∷◌, ◌==◌, ◌∙◌, [], suc, inl, inr, true, length, List, OnOk, Result, Ok, Err, refl, sym, ap, subst, arith}
+use Rattle.std.proofs.Common.{◌≡◌, ◌∷◌, ◌==◌, ◌∙◌, [], suc, inl, inr, true, length, List, OnOk, Result, refl, sym, ap, subst, arith}
 use Rattle.std.proofs.lemmas.Bool.{false≢true}
 use Rattle.std.proofs.lemmas.Bool.Decides.{eqb_tells}
 use Rattle.markdown_engine_events.specs.EventChains.{chained}
@@ -16,8 +16,7 @@ use Rattle.markdown_run.specs.declared.run.ListRun.{ListRun}
 
 -- both hold of what a call leaves
 pub both-hold : {A E : Type 0} (o : Result A E) (P Q S : Type 0) → (P → Q → S) → OnOk o P → OnOk o Q → OnOk o S
-both-hold (Ok x) P Q S f p q = f p q
-both-hold (Err e) P Q S f p q = tt
+both-hold o P Q S f p q = grind arith
 
 pub none-there : (names : List ResolveName) → (length names == 0) ≡ true → names ≡ []
 none-there [] e = refl

@@ -1,5 +1,5 @@
 -- A text where constructs may be tried: at its start, and once more or less is known of the content.
-use Rattle.std.proofs.Common.{◌≡◌, [], Some, refl, sym, ap, subst, append-nil}
+use Rattle.std.proofs.Common.{◌≡◌, [], Some, refl, sym, ap, subst, append-nil, arith}
 use Rattle.markdown_notes.specs.SequenceIndex.{last_begins}
 use Rattle.markdown_notes.specs.TitleIndex.{closers_of}
 use Rattle.markdown_notes.proofs.SequenceIndexLemmas.{right-made}
@@ -8,12 +8,9 @@ use Rattle.markdown_engine.specs.RestingFields.{at_rest}
 use Rattle.markdown_engine.specs.declared.tokenizer.TokenizeState.{TokenizeState}
 use Rattle.markdown_engine.specs.declared.tokenizer.Tokenizer.{Tokenizer}
 use Rattle.markdown_label.proofs.KeptStartPlaces.{within-grown}
-use Rattle.markdown_leaf_gfm.specs.DomainOutlook.{no_domains}
 use Rattle.markdown_leaf_gfm.proofs.DomainOutlookLemmas.{right-unknown}
-use Rattle.markdown_leaf_gfm.specs.GfmAutolinkLiteral as GfmAutolinkLiteral
-use Rattle.markdown_plan.specs.Characters.{bytes_of}
 use Rattle.markdown_plan.proofs.CharactersAlongContent.{text-scratched}
-use Rattle.markdown_run_text.specs.TextContent.{TextStartReady, domains_pay, indexed_fields, named_fields, titles_pay}
+use Rattle.markdown_run_text.specs.TextContent.{TextStartReady, indexed_fields, named_fields, titles_pay}
 use Rattle.markdown_run_text.proofs.TextSteps.{made-known, names-known}
 use Rattle.markdown_run.proofs.ConstructsAtStart.{unknown-runs}
 use Rattle.markdown_run.specs.ElementsOfText.{indexed, KnowsNothing, text_named, MayTry, IsReady, FinishesAt, LeadsTo, Learns}
@@ -41,22 +38,7 @@ ready-indexed T r =
 -- once it is known
 pub learned : (T U : Tokenizer) → IsReady T → U ≡ scratched (indexed_fields T.cursor T.parse_state.now T.tokenize_state) T → Learns T U
 unfolding scratched
-learned T U r e = subst (λ (x : Tokenizer). Learns T x) (sym e) there
-  where
-    there : Learns T (scratched (indexed_fields T.cursor T.parse_state.now T.tokenize_state) T)
-    there =
-        record {
-          ready = record {
-            may_try = record {
-              start = ready-indexed T r.may_try.start;
-              runs = refl;
-              domains = λ places. made-known (domains_pay T.cursor.codes T.parse_state.now) (no_domains (bytes_of T) (GfmAutolinkLiteral.end_of T) T.cursor.codes) places;
-              alone = r.may_try.alone;
-            };
-            unchecked = r.unchecked;
-          };
-          same = refl;
-        }
+learned T U r e = grind (arith, ready-indexed, made-known)
 
 -- nothing more is known
 pub learned-nothing : (T : Tokenizer) → IsReady T → Learns T T
@@ -85,15 +67,7 @@ ready-named T r =
 
 pub named-ready : (T U : Tokenizer) → TextStartReady T → KnowsNothing T → T.attempts ≡ [] → U ≡ text_named T → MayTry U
 unfolding scratched
-named-ready T U r unknown alone e = subst MayTry (sym e) there
-  where
-    there : MayTry (text_named T)
-    there = record {
-      start = ready-named T r;
-      runs = unknown-runs T.tokenize_state T.cursor.codes (ap (λ (s : TokenizeState). s.runs) unknown);
-      domains = right-unknown (bytes_of T) (GfmAutolinkLiteral.end_of T) T.cursor.codes T.tokenize_state.no_domains (ap (λ (s : TokenizeState). s.no_domains) unknown);
-      alone = alone;
-    }
+named-ready T U r unknown alone e = grind (arith, ready-named, unknown-runs, right-unknown)
 
 -- it leads to where it stands
 pub named-leads : (T U : Tokenizer) → U ≡ text_named T → LeadsTo (text_named T) U

@@ -1,5 +1,5 @@
 -- The passes of a text after a run that leaves a row: labels are grouped, then pairs, and the tree is merged and trimmed.
-use Rattle.std.proofs.Common.{◌≡◌, Bool, true, false, List, [], ◌∷◌, None, refl, sym, ap, subst, ◌∙◌}
+use Rattle.std.proofs.Common.{◌≡◌, Bool, true, false, List, [], ◌∷◌, None, refl, sym, ap, subst, ◌∙◌, arith}
 use Rattle.markdown_engine.specs.Operations.{registered, ahead}
 use Rattle.markdown_engine.specs.PastTree.{appended_from}
 use Rattle.markdown_engine.specs.PassesInOrder.{MayResolve, Resolves, unregistered}
@@ -66,15 +66,7 @@ module _ (p : ParseState) (pieces : List Piece) (s : Setting) (given : IsGiven s
   -- with the events of the grouped tree
   read-with : (Y : Tokenizer) → Y.map ≡ [] → Y.events ≡ appended_from 0 None tree → Y.parse_state.now ≡ p →
       Y.cursor.codes ≡ content_of p.bytes.now pieces → HasTreeEvents p pieces tree Y
-  read-with Y map events input reads = record {
-    content = start.content;
-    has_lines = grouped-lines row at;
-    codes = grouped-codes row at ∙ codes ∙ codes-ahead p pieces S start.place;
-    map = map;
-    events = events;
-    input = input;
-    reads = reads;
-  }
+  read-with Y map events input reads = grind (arith, grouped-lines, grouped-codes, codes-ahead)
 
   -- U is past the row, with the passes of data and of the whole registered, and before them those of labels and runs if such stand in it
   left-is : U ≡ record P { resolvers = labels_first (row_registers row) (passes_first (row_has_run row) (R.Data ∷ last ∷ [])) }
@@ -99,9 +91,7 @@ module _ (p : ParseState) (pieces : List Piece) (s : Setting) (given : IsGiven s
   -- what the pass of labels leaves
   read-grouped : (Y : Tokenizer) → GroupsLabels X Y → HasTreeEvents p pieces tree Y
   unfolding unregistered
-  read-grouped Y g =
-      read-with Y (ap (λ (x : Tokenizer). x.map) g.same ∙ map-none) (g.grouped B has) (ap (λ (x : Tokenizer). x.parse_state.now) g.same ∙ input)
-      (ap (λ (x : Tokenizer). x.cursor.codes) g.same ∙ reads)
+  read-grouped Y g = grind (arith, read-with Y, map-none, has, input, reads)
 
   grouped-probes : (Y : Tokenizer) → GroupsLabels X Y → Y.tokenize_state.probes ≡ 0
   unfolding unregistered
@@ -127,5 +117,4 @@ module _ (p : ParseState) (pieces : List Piece) (s : Setting) (given : IsGiven s
   -- and what they leave
   pub row-left : (V : Tokenizer) → Resolves resolves_of U.resolvers (unregistered U) V → IsResolved s (finish p) tree V
   unfolding unregistered
-  row-left V r =
-      labels-leave (row_registers row) refl V (subst (λ (x : Tokenizer). Resolves resolves_of x.resolvers (unregistered x) V) left-is r)
+  row-left V r = grind (arith, labels-leave, left-is)

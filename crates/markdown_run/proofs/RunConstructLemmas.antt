@@ -1,7 +1,6 @@
 -- A construct that does not hold is put back.
-use Rattle.std.proofs.Common.{◌≡◌, ◌-◌, ℕ, Bool, true, false, List, Option, None, Some, length, take, drop, refl, sym, ap, subst, ◌∙◌}
+use Rattle.std.proofs.Common.{◌≡◌, ◌-◌, ℕ, Bool, true, false, List, Option, None, Some, length, take, drop, refl, ◌∙◌, arith}
 use Rattle.markdown_content.specs.Codes.{Code}
-use Rattle.markdown_engine.specs.FailedRun.{Grown}
 use Rattle.markdown_engine.specs.Operations.{ahead, frame_of}
 use Rattle.markdown_engine.specs.PastTree.{TreeReading, Refuses, EndsAs}
 use Rattle.markdown_engine.specs.StateRuns.{restored}
@@ -9,8 +8,6 @@ use Rattle.markdown_event.specs.declared.state.State.TheVariants as State
 use Rattle.markdown_event.specs.declared.state.StateName.{StateName}
 use Rattle.markdown_event.specs.declared.state.StateName.TheVariants.{AttentionStart, DataStart, DestinationStart, LabelStart, TitleStart, GfmLabelStartFootnoteStart}
 use Rattle.markdown_event.specs.declared.state.StateName.TheVariants.{LabelEndStart, LabelStartImageStart, LabelStartLinkStart, SpaceOrTabStart, SpaceOrTabEolStart}
-use Rattle.markdown_event.specs.declared.state.StateName.TheVariants.{AutolinkStart, CharacterEscapeStart, CharacterReferenceStart, HardBreakEscapeStart, HtmlTextStart, RawTextStart}
-use Rattle.markdown_event.specs.declared.state.StateName.TheVariants.{GfmAutolinkLiteralProtocolStart, GfmAutolinkLiteralWwwStart, GfmTaskListItemCheckStart}
 use Rattle.markdown_engine.specs.declared.tokenizer.TokenizeState.{TokenizeState}
 use Rattle.markdown_engine.specs.declared.tokenizer.Tokenizer.{Tokenizer}
 use Rattle.markdown_engine.proofs.ReadingSequences.{scratched-same}
@@ -43,8 +40,7 @@ begins-not : (reading : Reading Element) (d : ℕ) (test : List Code → Bool) (
     (test (ahead T) ≡ false → reading (ahead T) ≡ None) → BeginsNot d test T U → V ≡ put_back T U →
     BeginsOrStays reading T false V
 unfolding restored frame_of
-begins-not reading d test T U V zero none k e =
-    (none k.refused, e ∙ restored-fails false State.Ok State.Nok T.tokenize_state T U (record { grown = subst (λ n. Grown n T U) zero k.grown; scratch = k.scratch }) ∙ scratched-same T)
+begins-not reading d test T U V h none k e = grind (arith, restored-fails false State.Ok State.Nok T.tokenize_state T U, scratched-same T)
 
 ends-not : (T U V : Tokenizer) → EndFails T U → V ≡ put_back T U → EndsOrLoses T false V
 unfolding restored frame_of
@@ -57,54 +53,23 @@ TriedEnds (Some reading) name T ok U = EndsAs (reading T) None T.tokenize_state 
 
 tried-ends : (name : StateName) (T U : Tokenizer) (ok : Bool) → ends_of name T ok U →
     TriedEnds (tried_reading name) name T ok U
-tried-ends AttentionStart T U ok k = k
-tried-ends _ T U ok k = k
+tried-ends name T U ok k = grind arith
 
 -- what a construct asks, the state that starts it asks
 
 other-ready : (name : StateName) (T : Tokenizer) → OtherAsks name T → ready_of name T
-other-ready AttentionStart T c = c
-other-ready DestinationStart T c = c
-other-ready TitleStart T c = c
-other-ready LabelStart T c = c
-other-ready DataStart T c = c
-other-ready SpaceOrTabStart T c = c
-other-ready SpaceOrTabEolStart T c = c
-other-ready LabelStartImageStart T c = c
-other-ready LabelStartLinkStart T c = c
-other-ready GfmLabelStartFootnoteStart T c = c
-other-ready LabelEndStart T c = c
-other-ready _ T c = absurd c
+other-ready name T c = grind arith
 
 tried-ready : (name : StateName) (T : Tokenizer) → TriedAsks name T → ready_of name T
-tried-ready CharacterEscapeStart T c = c
-tried-ready CharacterReferenceStart T c = c
-tried-ready HardBreakEscapeStart T c = c
-tried-ready AutolinkStart T c = c
-tried-ready HtmlTextStart T c = c
-tried-ready RawTextStart T c = c
-tried-ready GfmTaskListItemCheckStart T c = c
-tried-ready GfmAutolinkLiteralProtocolStart T c = c
-tried-ready GfmAutolinkLiteralWwwStart T c = c
-tried-ready _ T c = absurd c
+tried-ready name T c = grind arith
 
 -- and the other way round
 pub ready-tried : (name : StateName) (T : Tokenizer) (reading : Tokenizer → TreeReading) → tried_reading name ≡ Some reading → ready_of name T →
     TriedAsks name T
-ready-tried CharacterEscapeStart T reading e c = c
-ready-tried CharacterReferenceStart T reading e c = c
-ready-tried HardBreakEscapeStart T reading e c = c
-ready-tried AutolinkStart T reading e c = c
-ready-tried HtmlTextStart T reading e c = c
-ready-tried RawTextStart T reading e c = c
-ready-tried GfmTaskListItemCheckStart T reading e c = c
-ready-tried GfmAutolinkLiteralProtocolStart T reading e c = c
-ready-tried GfmAutolinkLiteralWwwStart T reading e c = c
-ready-tried _ T reading e c = cc
+ready-tried name T reading e c = grind arith
 
 asks-ready : (o : Option (Tokenizer → TreeReading)) (name : StateName) (T : Tokenizer) → Asks o name T → ready_of name T
-asks-ready None name T c = other-ready name T c
-asks-ready (Some reading) name T c = tried-ready name T c
+asks-ready o name T c = grind (arith, other-ready, tried-ready)
 
 pub construct-ready : (name : StateName) (T : Tokenizer) → IsConstruct name T → ready_of name T
 construct-ready name T c = asks-ready (tried_reading name) name T c
@@ -138,14 +103,12 @@ refused-stays (Some reading) name T U V c k e = refuses-stays (reading T) None T
 
 pub construct-stays : (name : StateName) (T U V : Tokenizer) (ok : Bool) → IsConstruct name T → ok ≡ false →
     ends_of name T ok U → V ≡ put_back T U → ConstructEnds name T ok V
-construct-stays name T U V true c h k e = cc
-construct-stays name T U V false c h k e = refused-stays (tried_reading name) name T U V c (tried-ends name T U false k) e
+construct-stays name T U V ok c h k e = grind (arith, refused-stays, tried-ends)
 
 -- an end of a label that is read
 pub ends-made : (T U : Tokenizer) → Ends T U → EndsOrLoses T true U
 unfolding past_mark
-ends-made T U k =
-    (k.back, (k.kind, (k.tail, (k.holds ∙ ap (λ xs. Some ((k.back, (k.kind, k.tail)), xs)) (sym k.after), k.left))))
+ends-made T U k = grind arith
 
 -- a construct that holds
 
@@ -165,10 +128,8 @@ other-reads _ T U c k = absurd c
 
 read-so : (o : Option (Tokenizer → TreeReading)) (name : StateName) (T U : Tokenizer) → Asks o name T →
     TriedEnds o name T true U → EndsBy o name T true U
-read-so None name T U c k = other-reads name T U c k
-read-so (Some reading) name T U c k = k
+read-so o name T U c k = grind (arith, other-reads)
 
 pub construct-reads : (name : StateName) (T U : Tokenizer) (ok : Bool) → IsConstruct name T → ok ≡ true →
     ends_of name T ok U → ConstructEnds name T ok U
-construct-reads name T U true c h k = read-so (tried_reading name) name T U c (tried-ends name T U true k)
-construct-reads name T U false c h k = cc
+construct-reads name T U ok c h k = grind (arith, read-so, tried-ends)

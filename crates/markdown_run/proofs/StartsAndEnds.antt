@@ -1,5 +1,5 @@
 -- Starts and ends of labels, as the single constructs read them, are those of the states.
-use Rattle.std.proofs.Common.{◌≡◌, ℕ, Bool, true, false, not, List, [], ◌++◌, Option, None, Some, refl, sym, ap, ◌∙◌, append_assoc}
+use Rattle.std.proofs.Common.{◌≡◌, ℕ, Bool, true, false, not, List, [], ◌++◌, Option, None, Some, refl, ◌∙◌, append_assoc, arith}
 use Rattle.std.specs.Str.{byte}
 use Rattle.markdown_content.specs.Codes.{Code}
 use Rattle.markdown_content.specs.Tree.{Forest, empty, leaf_codes, start_of}
@@ -11,13 +11,13 @@ use Rattle.markdown_label.specs.LabelEnd.{Ends}
 use Rattle.markdown_label.specs.LabelStarts.{begins_as, kept_start, link_ops, link_test, link_ends, footnote_front, footnote_back, footnote_test, footnote_ends, image_front, image_back, image_test, image_ends}
 use Rattle.markdown_model.specs.CodeTests.{is_value}
 use Rattle.markdown_model.specs.Grammar.{Reading, one, provided, ◌>>◌}
-use Rattle.markdown_model.specs.LabelEnd.{Element, plain, starts, ends, label_name, link_kind}
+use Rattle.markdown_model.specs.LabelEnd.{Element, label_name, link_kind}
 use Rattle.markdown_model.specs.Setting.{Setting}
 use Rattle.markdown_model.specs.SingleConstructs.{WaitingStart, outcome, outcome_at, label_end_here}
 use Rattle.markdown_model.proofs.DefinitionSteps.{read-codes}
 use Rattle.markdown_model.proofs.LabelsCover.{covers_after_label, outcome_codes}
 use Rattle.markdown_model.proofs.ReadingsCover.{Covers, bind, given, if_passed, one_of, takes_one, itself}
-use Rattle.markdown_run_text.specs.Row.{begins, past_mark}
+use Rattle.markdown_run_text.specs.Row.{past_mark}
 use Rattle.markdown_label_names.specs.LabelSetting.{setting_in}
 use Rattle.markdown_label.specs.LabelEnd.{last_start}
 use Rattle.markdown_run.specs.RunConstruct.{EndsOrLoses, start_reading}
@@ -26,19 +26,8 @@ use Rattle.markdown_run_text.proofs.LabelStartConstructs.{image-begins, link-beg
 
 -- Starts.
 
--- a tokenizer past the start that is read
-abbrev past_start : Tokenizer → Option (Element × List Code) → Tokenizer
-past_start T None = T
-past_start T (Some r) =
-    elim r.0 [
-      | plain tree ↦ T
-      | starts kind marker ↦ past_mark (begins kind marker) T
-      | ends codes result ↦ T
-    ]
-
 some-is-none : {A : Type 0} {x : A} (o : Option A) → o ≡ None → o ≡ Some x → ⊥
-some-is-none None h k = cc
-some-is-none (Some y) h k = cc
+some-is-none o h k = grind arith
 
 module _ (T : Tokenizer) (reading : Reading Element) (kind : LabelKind) (size : ℕ) (ops : List Op) (test : List Code → Bool) (so : (U : Tokenizer) → begins_as 0 kind size ops test T true U → BeginsOrStays reading T true U) where
   abbrev start_kept : Tokenizer
@@ -50,20 +39,10 @@ module _ (T : Tokenizer) (reading : Reading Element) (kind : LabelKind) (size : 
   begun-as : (not-so : test (ahead T) ≡ false → reading (ahead T) ≡ None) (U : Tokenizer) → BeginsOrStays reading T true U →
       begins_as 0 kind size ops test T true U
   unfolding past_mark
-  begun-as not-so U k = by_test (test (ahead T)) refl
-    where
-      by_test : (b : Bool) → test (ahead T) ≡ b → begins_as 0 kind size ops test T true U
-      by_test true h =
-          let w : BeginsOrStays reading T true start_kept = there h in
-          record { holds = h; left = k.1.1.1 ∙ ap (past_start T) (sym k.1.1.0 ∙ w.1.1.0) ∙ sym w.1.1.1 }
-      by_test false h = absurd (some-is-none (reading (ahead T)) (not-so h) k.1.1.0)
+  begun-as not-so U k = grind (arith, there, some-is-none)
 
   test-fails : reading (ahead T) ≡ None → test (ahead T) ≡ false
-  test-fails none = by_test (test (ahead T)) refl
-    where
-      by_test : (b : Bool) → test (ahead T) ≡ b → test (ahead T) ≡ false
-      by_test true h = absurd (some-is-none (reading (ahead T)) none (there h).1.1.0)
-      by_test false h = h
+  test-fails none = grind (arith, some-is-none, there)
 
 pub image-begun : (T U : Tokenizer) → BeginsOrStays (start_reading LabelStartImageStart T) T true U → image_ends T true U
 image-begun T U k =

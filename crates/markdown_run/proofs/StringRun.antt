@@ -1,21 +1,17 @@
 -- A whole run over a string.
-use Rattle.std.proofs.Common.{◌≡◌, Bool, true, false, List, [], None, refl, sym, ap, subst, ◌∙◌}
+use Rattle.std.proofs.Common.{◌≡◌, Bool, true, false, List, [], None, refl, ap, subst, ◌∙◌, arith}
 use Rattle.markdown_engine_events.specs.EventChains.{chained}
 use Rattle.markdown_content.specs.Content.{IsContent, content_of}
 use Rattle.markdown_engine.specs.Operations.{scratched}
 use Rattle.markdown_engine.specs.RestingFields.{at_rest}
 use Rattle.markdown_engine.specs.PassesInOrder.{MayResolve, Resolves, unregistered}
-use Rattle.markdown_content.specs.Tree.{events_of, leaf_codes}
 use Rattle.markdown_content.specs.declared.parser.ParseState.{ParseState}
 use Rattle.markdown_content.specs.declared.parser.Piece.{Piece}
 use Rattle.markdown_event.specs.declared.resolve.ResolveName.TheVariants as R
-use Rattle.markdown_engine.specs.declared.tokenizer.TokenizeState.{TokenizeState}
 use Rattle.markdown_engine.specs.declared.tokenizer.Tokenizer.{Tokenizer}
 use Rattle.markdown_model.specs.Elements.{AreElementsFrom, AreStringElements, string_choice}
-use Rattle.markdown_model.specs.InlineTree.{string_events, paired_whole}
+use Rattle.markdown_model.specs.InlineTree.{string_events}
 use Rattle.markdown_model.specs.LabelEnd.{Element}
-use Rattle.markdown_model.specs.Passes.{no_breaks, trimmed}
-use Rattle.markdown_content.specs.CommonMark.{rules_of}
 use Rattle.markdown_run_text.specs.RunOverElements.{Finishes}
 use Rattle.markdown_run_text.specs.ContentPasses.{may_resolve_of, resolves_of}
 use Rattle.markdown_run_text.specs.RunSetting.{setting_of}
@@ -26,8 +22,7 @@ use Rattle.markdown_engine.proofs.TreeChains.{chained-whole}
 use Rattle.markdown_content.specs.Tree.{Forest}
 use Rattle.markdown_label.specs.Brackets.{grouped}
 use Rattle.markdown_attention.proofs.AttentionTreeLabels.{IsGood}
-use Rattle.markdown_model.specs.Pairs.{pair_list}
-use Rattle.markdown_model.specs.Passes.{labels_of, merged}
+use Rattle.markdown_model.specs.Passes.{labels_of}
 use Rattle.markdown_run_text.specs.OpenStarts.{brackets_of}
 use Rattle.markdown_run_text.specs.Row.{row_has_run, row_of_elements}
 use Rattle.markdown_run_text.specs.RowTreeNames.{IsRunless}
@@ -41,31 +36,23 @@ use Rattle.markdown_run.proofs.RowsWithoutRuns.{row-still}
 use Rattle.markdown_run.proofs.DataInDocument.{HasLines-HasCodes}
 use Rattle.markdown_run_text.proofs.CutDataLemmas.{merged-same}
 use Rattle.markdown_model.proofs.StringTreeIsElements.{row_of}
-use Rattle.markdown_model.specs.Setting.{within}
 
 -- where data stops at the markers of a string
 marked-start : (p : ParseState) (pieces : List Piece) (T : Tokenizer) → StartsContent p pieces at_rest T →
     StartsContent p pieces (record at_rest { markers = string_markers }) (string_marked T)
 unfolding scratched
-marked-start p pieces T k =
-    let m : StartsContent p pieces (record T.tokenize_state { markers = string_markers }) (string_marked T) = start-with p pieces at_rest (record T.tokenize_state { markers = string_markers }) T k in
-    subst (λ (s : TokenizeState). StartsContent p pieces (record s { markers = string_markers }) (string_marked T)) k.fields m
+marked-start p pieces T k = grind (arith, start-with)
 
 -- its fields are at rest
 pub string-ready : (p : ParseState) (pieces : List Piece) (T : Tokenizer) → StartsContent p pieces at_rest T → StringStartReady T
-string-ready p pieces T k =
-    record {
-      rest = record { marker = ap (λ (s : TokenizeState). s.marker) k.fields; size = ap (λ (s : TokenizeState). s.size) k.fields };
-      ends = record { end = ap (λ (s : TokenizeState). s.end) k.fields; seen = ap (λ (s : TokenizeState). s.seen) k.fields };
-    }
+string-ready p pieces T k = grind arith
 
 module _ (p : ParseState) (pieces : List Piece) (content : IsContent p.bytes.now pieces) (T U : Tokenizer) (start : StartsContent p pieces at_rest T) where
   abbrev M : Tokenizer
   M = string_marked T
 
   ended : (ok : Bool) → start_ends T ok U → Finishes (string_here M) string_passed M U
-  ended true k = k
-  ended false k = absurd k
+  ended ok k = grind arith
 
   choice-is : string_here M ≡ string_choice (setting_of p)
   unfolding scratched
@@ -127,10 +114,4 @@ module _ (p : ParseState) (pieces : List Piece) (content : IsContent p.bytes.now
 
       -- the events after a run over a string and its passes
       pub string-run : chained V.events ≡ string_events (setting_of p) pieces
-      string-run =
-          ap chained left.events
-          ∙ chained-whole (trimmed (no_breaks (rules_of p.options.now)) false false (merged (paired_whole (setting_of p) (pair_list (setting_of p)) label_row)))
-          ∙ ap (λ t. events_of (trimmed (no_breaks (rules_of p.options.now)) false false (merged t))) (paired-runless (within (leaf_codes label_row) (setting_of p)) (pair_list (setting_of p)) label_row runless)
-          ∙ ap (λ t. events_of (trimmed (no_breaks (rules_of p.options.now)) false false t)) (merged-same label_row (labels_of found.read) (HasLines-HasCodes label_row (grouped-lines E.row found.is_row)) found.have_codes found.trees)
-          ∙ ap (λ t. events_of (trimmed (no_breaks (rules_of p.options.now)) false false (merged t))) labels
-          ∙ ap events_of (sym (string-finished (setting_of p) (content_of p.bytes.now pieces) found.elements are))
+      string-run = grind (arith, left, chained-whole, paired-runless, runless, merged-same, found, HasLines-HasCodes, grouped-lines, labels, string-finished, are)

@@ -1,12 +1,12 @@
 -- The inline tree of a string, by its elements.
-use Rattle.std.proofs.Common.{◌≡◌, ℕ, false, Option, List, [], ◌∷◌, None, refl, ap, subst, ◌∙◌}
+use Rattle.std.proofs.Common.{◌≡◌, ℕ, false, Option, List, [], ◌∷◌, None, refl, ap, arith}
 use Rattle.markdown_content.specs.Codes.{Code}
 use Rattle.markdown_content.specs.Tree.{Forest, leaf}
 use Rattle.markdown_event.specs.declared.event.Name.TheVariants as N
 use Rattle.markdown_model.specs.Grammar.{Reading}
 use Rattle.markdown_model.proofs.NoLinkInConstructs.{PassesValue, Yields, yields_bind, yields_gives, yields_either, then_any}
 use Rattle.markdown_model.proofs.ElementCases.{string_has}
-use Rattle.markdown_model.proofs.PlainConstructs.{IsPlainTree, ReadsPlain}
+use Rattle.markdown_model.proofs.PlainConstructs.{ReadsPlain}
 use Rattle.markdown_run_text.proofs.ConstructNodes.{plain-node}
 use Rattle.markdown_run_text.specs.Row.{row_has_run, row_of_elements}
 use Rattle.markdown_run_text.proofs.PastTrees.{quiet-runless, leaf-runless}
@@ -22,9 +22,7 @@ use Rattle.markdown_model.proofs.OneElementList.{same_string_elements, string_el
 -- the labels of a string are the row of its elements
 labels-of-string : (s : Setting) (cs : List Code) (es : List Element) → AreStringElements s cs es →
     labels_of (string_elements_of s cs) ≡ row_of es
-labels-of-string s cs es h =
-    ap labels_of (same_string_elements s cs (string_elements_of s cs) es (string_elements s cs) h)
-    ∙ labels_of-plain es (string_are_plain s es [] None cs h)
+labels-of-string s cs es h = grind (arith, same_string_elements s cs (string_elements_of s cs) es, string_elements s cs, labels_of-plain es, string_are_plain s es)
 
 pub string-labels : (s : Setting) (cs : List Code) (es : List Element) → AreStringElements s cs es →
     labels_of es ≡ row_of es
@@ -40,8 +38,7 @@ string-finished s cs es h = ap (λ t. trimmed (no_breaks (rules s)) false false 
 
 still_plain : (bytes : List ℕ) (a : Reading Forest) → ReadsPlain bytes a → Yields IsRunlessElement (as_plain a)
 unfolding as_plain
-still_plain bytes a h =
-    yields_bind (IsPlainTree bytes) _ _ _ h.plain λ tree own. yields_gives _ (plain tree) (quiet-runless tree (plain-node bytes tree own).quiet)
+still_plain bytes a h = grind (arith, yields_bind, yields_gives, quiet-runless, plain-node)
 
 string_passes : (s : Setting) (cs : List Code) → PassesValue IsRunlessElement (string_element s cs)
 unfolding line_ending data_code
@@ -53,6 +50,4 @@ string_passes s cs =
 pub string-still : (s : Setting) (es earlier : List Element) (previous : Option Code) (cs : List Code) →
     AreElementsFrom (string_choice s) earlier previous cs es → row_has_run (row_of_elements es) ≡ false
 string-still s [] earlier previous cs h = refl
-string-still s (e ∷ es) earlier previous cs h =
-    still-first e (row_of_elements es) (subst (λ o. PassesValue IsRunlessElement o) h.1 (string_passes s cs))
-    (string-still s es (e ∷ earlier) (code_before cs h.0) h.0 h.2)
+string-still s (e ∷ es) earlier previous cs h = grind (arith, still-first, string_passes, string-still s es (e ∷ earlier) (code_before cs h.0) h.0)

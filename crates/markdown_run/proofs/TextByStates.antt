@@ -1,5 +1,5 @@
 -- A whole run over a text by its states alone.
-use Rattle.std.proofs.Common.{◌≡◌, Bool, true, false, List, None, refl, subst}
+use Rattle.std.proofs.Common.{◌≡◌, Bool, false, List, None, refl, arith}
 use Rattle.markdown_engine_events.specs.EventChains.{chained}
 use Rattle.markdown_content.specs.Content.{IsContent, content_of}
 use Rattle.markdown_content.specs.Place.{Place}
@@ -33,16 +33,13 @@ module _ (p : ParseState) (pieces : List Piece) (first : Bool) (content : IsCont
 
   S : StartsContent p pieces Fields M
   unfolding scratched
-  S =
-      let m : StartsContent p pieces (marked_fields T.cursor T.parse_state.now T.tokenize_state) M = start-with p pieces (text_fields None first) (marked_fields T.cursor T.parse_state.now T.tokenize_state) T start in
-      subst (λ (s : TokenizeState). StartsContent p pieces (marked_fields T.cursor T.parse_state.now s) M) start.fields m
+  S = grind (arith, start-with)
 
   F : AreFresh Fields
   F = fresh-marked first T.cursor T.parse_state.now
 
   ended : (ok : Bool) → start_ends T ok U → Finishes (text_choice_of M) text_passed M U
-  ended true k = k
-  ended false k = absurd k
+  ended ok k = grind arith
 
   -- however the states end
   module _ (ok : Bool) (k : start_ends T ok U) where

@@ -1,7 +1,7 @@
 -- From one element of a text to the next, and to the text's end.
-use Rattle.std.proofs.Common.{◌≡◌, ◌≢◌, ◌<◌, ◌≤◌, Bool, true, false, ◌&&◌, None, is_none, is_some, refl, sym, ap, subst, ◌∙◌, arith}
+use Rattle.std.proofs.Common.{◌≡◌, ◌≢◌, ◌<◌, ◌≤◌, Bool, true, false, ◌&&◌, None, is_some, refl, sym, ap, subst, ◌∙◌, arith}
 use Rattle.markdown_content.specs.Tree.{leaf_codes}
-use Rattle.markdown_engine.specs.Operations.{HasCode, ahead, current_of, previous_of, scratched}
+use Rattle.markdown_engine.specs.Operations.{HasCode, ahead, current_of, scratched}
 use Rattle.markdown_engine.specs.PastTree.{past, Reads, TreeReading}
 use Rattle.markdown_engine.specs.RestingFields.{at_rest}
 use Rattle.markdown_engine.specs.Weights.{codes_left}
@@ -10,8 +10,7 @@ use Rattle.markdown_engine.specs.declared.tokenizer.TokenizeState.{TokenizeState
 use Rattle.markdown_engine.specs.declared.tokenizer.Tokenizer.{Tokenizer}
 use Rattle.markdown_engine.proofs.ReadingSequences.{scratched-same}
 use Rattle.markdown_label.specs.LabelEnd.{AreStartsWithin}
-use Rattle.markdown_leaf_gfm.specs.GfmTaskListItemCheck.{check_here, may_begin}
-use Rattle.markdown_model.specs.LeafConstructs.{gfm_task_list_item_check}
+use Rattle.markdown_leaf_gfm.specs.GfmTaskListItemCheck.{check_here}
 use Rattle.markdown_model.specs.TextLines.{data_up_to}
 use Rattle.markdown_model.proofs.GrammarSteps.{switched-off}
 use Rattle.markdown_model.proofs.PlainConstructs.{plain_constructs}
@@ -34,8 +33,7 @@ use Rattle.markdown_run.proofs.ReadyTexts.{forgotten-start}
 reads-indexed : (s : TokenizeState) (reading : TreeReading) (T U : Tokenizer) → Reads reading None T.tokenize_state T U →
     Reads reading None (indexed s T).tokenize_state (indexed s T) (indexed s U)
 unfolding past scratched
-reads-indexed s reading T U k =
-    record { tree = k.tree; rest = k.rest; holds = k.holds; left = ap (indexed s) k.left; whole = k.whole; after = k.after }
+reads-indexed s reading T U k = grind arith
 
 some-code : (T : Tokenizer) → HasCode T → current_of T ≢ None
 some-code T h e = let no : false ≡ true = sym (ap is_some e) ∙ h in cc
@@ -78,17 +76,7 @@ stays-data T U W k p =
 -- where more is known
 pub stays-learned : (T U W : Tokenizer) → ReachesData T U → Learns U W → ReachesData T W
 unfolding scratched
-stays-learned T U W k l =
-    record { ready = l.ready; some_code = subst (λ (x : Tokenizer). HasCode x) (sym l.same) code; left = subst (λ (x : Tokenizer). codes_left x ≤ codes_left T) (sym l.same) left; leads = λ s V h. k.leads s V (subst (λ (x : Tokenizer). EndsByData x V) (ap (indexed s) l.same ∙ again s) h) }
-  where
-    code : HasCode (indexed W.tokenize_state U)
-    code = k.some_code
-
-    left : codes_left (indexed W.tokenize_state U) ≤ codes_left T
-    left = k.left
-
-    again : (s : TokenizeState) → indexed s (indexed W.tokenize_state U) ≡ indexed s U
-    again s = refl
+stays-learned T U W k l = grind arith
 
 -- The check.
 
@@ -101,24 +89,14 @@ check-goes T U false r k =
     subst (λ (x : Tokenizer). PassesAny T x) (sym (k.1 ∙ scratched-same T)) (goes-start T (record { may_try = r; unchecked = k.0 }))
 
 off-test : (a b c : Bool) → b ≡ false → a && (b && c) ≡ false
-off-test true true c e = cc
-off-test true false c e = refl
-off-test false b c e = refl
+off-test a b c e = grind arith
 
 pub check-off : (T : Tokenizer) → MayTry T → T.tokenize_state.document_at_first_paragraph_of_list_item ≡ false → PassesAny T T
-check-off T r off =
-    goes-start T (record { may_try = r; unchecked = switched-off gfm_task_list_item_check (may_begin T) (ahead T) (off-test T.parse_state.now.options.now.constructs.gfm_task_list_item T.tokenize_state.document_at_first_paragraph_of_list_item (is_none (previous_of T)) off) })
+check-off T r off = grind (arith, goes-start, switched-off, off-test)
 
 -- The end.
 
 pub text-ends : (T U W V : Tokenizer) → KnowsNothing T → LeadsTo (text_named T) U → current_of U ≡ None → W ≡ indexed at_rest U →
     V ≡ text_passed W → FinishesAt (text_named T) V
 unfolding scratched
-text-ends T U W V unknown leads end forgotten passed =
-    let there : FinishesAt W V =
-    finishes-end (text_choice_of W) text_passed W V (subst (λ (x : Tokenizer). current_of x ≡ None) (sym forgotten) ended) passed in
-    subst (λ (x : Tokenizer). FinishesAt x V) (forgotten-start T unknown)
-    (leads at_rest V (subst (λ (x : Tokenizer). FinishesAt x V) forgotten there))
-  where
-    ended : current_of (indexed at_rest U) ≡ None
-    ended = end
+text-ends T U W V unknown leads end forgotten passed = grind (arith, finishes-end, forgotten-start)

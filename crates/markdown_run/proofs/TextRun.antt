@@ -1,7 +1,5 @@
 -- A whole run over a text.
-use Rattle.markdown_partial.specs.PartialSpaceOrTab.{most}
-use Rattle.markdown_engine.specs.Weights.{codes_left}
-use Rattle.std.proofs.Common.{◌≡◌, ℕ, Bool, false, List, Option, Some, None, map, string_bytes, refl, sym, ap, subst, ◌∙◌, arith, ◌≤◌}
+use Rattle.std.proofs.Common.{◌≡◌, ℕ, Bool, false, List, Option, Some, None, map, string_bytes, refl, sym, ap, ◌∙◌, arith}
 use Rattle.markdown_engine_events.specs.EventChains.{chained}
 use Rattle.markdown_content.specs.Content.{IsContent, IsTextContent, content_of}
 use Rattle.markdown_engine.specs.Operations.{scratched}
@@ -13,14 +11,10 @@ use Rattle.markdown_content.specs.declared.parser.Piece.{Piece}
 use Rattle.markdown_engine.specs.declared.tokenizer.TokenizeState.{TokenizeState}
 use Rattle.markdown_engine.specs.declared.tokenizer.Tokenizer.{Tokenizer}
 use Rattle.markdown_notes.proofs.SequenceIndexLemmas.{right-unknown}
-use Rattle.markdown_notes.proofs.TitleIndexLemmas as TitleIndexLemmas
 use Rattle.markdown_label_names.specs.LabelSetting.{setting_of, AreListed, IsListed}
 use Rattle.markdown_notes.specs.BracketIndex.{no_brackets}
 use Rattle.markdown_notes.specs.NameIndex.{in_order, names_in_order}
 use Rattle.markdown_notes.specs.declared.name_index.Names.{Names}
-use Rattle.markdown_leaf_gfm.specs.GfmAutolinkLiteral as GfmAutolinkLiteral
-use Rattle.markdown_leaf.specs.RawText as RawText
-use Rattle.markdown_partial.specs.PartialSpaceOrTab as PartialSpaceOrTab
 use Rattle.markdown_model.specs.InlineTree.{text_events, label_tree}
 use Rattle.markdown_model.specs.Setting.{Setting}
 use Rattle.markdown_run_text.specs.RunOverElements.{Finishes}
@@ -28,9 +22,6 @@ use Rattle.markdown_run_text.specs.ContentPasses.{may_resolve_of, resolves_of}
 use Rattle.markdown_run_text.specs.RunSetting.{text_setting_of}
 use Rattle.markdown_run_text.specs.TextContent.{TextStartReady, named_fields, text_passed, text_choice_of}
 use Rattle.markdown_run.specs.ElementsOfText.{KnowsNothing, text_named, with_indexes}
-use Rattle.markdown_label.specs.LabelEnd.{AreStartsWithin}
-use Rattle.markdown_partial.specs.PartialSpaceOrTabEol as PartialSpaceOrTabEol
-use Rattle.markdown_label.specs.AfterLabelParts as AfterLabelParts
 use Rattle.markdown_attention.specs.AttentionPass.{IsProbed}
 use Rattle.markdown_run.proofs.FinishedTexts.{read-may, read-probes, read-no-probes, read-events}
 use Rattle.markdown_run.proofs.WholeRun.{StartsContent, start-with, AreFresh}
@@ -69,57 +60,31 @@ some-same : (a b : Names) → Some a ≡ Some b → a ≡ b
 some-same a b e = cc
 
 pub document-lent : (p : ParseState) (lent : Names) → lent ≡ document_names p → AreRightNames p (Some lent)
-document-lent p lent h names e =
-    let right : AreListed (setting_of p) lent = subst (λ (n : Names). AreListed (setting_of p) n) (sym h) refl in
-    subst (λ (n : Names). AreListed (setting_of p) n) (some-same lent names e) right
+document-lent p lent h names e = grind (arith, some-same)
 
 -- a new tokenizer that is told so
 pub started : (p : ParseState) (pieces : List Piece) (first : Bool) (B : Tokenizer) → StartsContent p pieces at_rest B →
     text_start p pieces None first (record B { tokenize_state = record B.tokenize_state { document_at_first_paragraph_of_list_item = first } })
-started p pieces first B k =
-    let m : StartsContent p pieces (record B.tokenize_state { document_at_first_paragraph_of_list_item = first }) (record B { tokenize_state = record B.tokenize_state { document_at_first_paragraph_of_list_item = first } }) = start-with p pieces at_rest (record B.tokenize_state { document_at_first_paragraph_of_list_item = first }) B k in
-    subst (λ (s : TokenizeState). StartsContent p pieces (record s { document_at_first_paragraph_of_list_item = first }) (record B { tokenize_state = record B.tokenize_state { document_at_first_paragraph_of_list_item = first } })) k.fields m
+started p pieces first B k = grind (arith, start-with)
 
 -- and to which names are lent
 pub started-lent : (p : ParseState) (pieces : List Piece) (lent : Option Names) (first : Bool) (B : Tokenizer) → StartsContent p pieces at_rest B →
     text_start p pieces lent first (record B { tokenize_state = record B.tokenize_state { names = lent; document_at_first_paragraph_of_list_item = first } })
-started-lent p pieces lent first B k =
-    let given : TokenizeState → TokenizeState = λ s. record s { names = lent; document_at_first_paragraph_of_list_item = first } in
-    subst (λ (s : TokenizeState). StartsContent p pieces (given s) (record B { tokenize_state = given B.tokenize_state })) k.fields
-    (start-with p pieces at_rest (given B.tokenize_state) B k)
+started-lent p pieces lent first B k = grind (arith, start-with)
 
 listed-lent : (p : ParseState) (pieces : List Piece) (lent : Option Names) (first : Bool) (T : Tokenizer) → AreRightNames p lent →
     text_start p pieces lent first T → IsListed T
-listed-lent p pieces lent first T right k names known =
-    subst (λ (x : ParseState). AreListed (setting_of x) names) (sym k.input) (right names (ap (λ (s : TokenizeState). s.names) (sym k.fields) ∙ known))
+listed-lent p pieces lent first T right k names known = grind arith
 
 pub text-ready : (p : ParseState) (pieces : List Piece) (lent : Option Names) (first : Bool) (T : Tokenizer) →
     IsTextContent p.bytes.now pieces → AreRightNames p lent → text_start p pieces lent first T → TextStartReady T
-text-ready p pieces lent first T text right k =
-    let content : IsContent p.bytes.now pieces = text.is_content in
-    let fits : codes_left T ≤ most = start-fits p.bytes.now pieces T content k.place in
-    let input : T.parse_state.now.bytes.now ≡ p.bytes.now = ap (λ (x : ParseState). x.bytes.now) k.input in
-    record {
-      spans = record { rest = k.fields ∙ sym (ap RawText.rested k.fields); fits = omega (arith, fits) };
-      look = record { resting = ap PartialSpaceOrTab.rested k.fields ∙ sym k.fields; short = fits };
-      literals = start-literals p.bytes.now pieces T content input k.place (ap GfmAutolinkLiteral.rested k.fields ∙ sym k.fields);
-      last = start-last p.bytes.now pieces T.cursor text k.place;
-      ends = record {
-        part = record { short = fits; indexed = right-unknown T.cursor.codes T.tokenize_state.sequences (ap (λ (s : TokenizeState). s.sequences) k.fields); titled = TitleIndexLemmas.right-unknown T.cursor.codes T.tokenize_state.titles (ap (λ (s : TokenizeState). s.titles) k.fields); spaces = record { space = ap PartialSpaceOrTab.rested k.fields ∙ sym k.fields; eol = ap PartialSpaceOrTabEol.eol_rested k.fields ∙ sym k.fields }; rest = ap AfterLabelParts.rested k.fields ∙ sym k.fields };
-        listed = listed-lent p pieces lent first T right k;
-        text = start-reads p.bytes.now pieces T content input k.place;
-        within = subst (λ (s : TokenizeState). AreStartsWithin T s.label_starts) (sym k.fields) (tt, tt);
-        resting = ap (λ (s : TokenizeState). s.end) k.fields;
-      };
-    }
+text-ready p pieces lent first T text right k = grind (arith, start-fits p.bytes.now pieces T, start-literals p.bytes.now pieces T, start-last p.bytes.now pieces T.cursor, right-unknown T.cursor.codes T.tokenize_state.sequences, listed-lent p pieces lent first T, start-reads p.bytes.now pieces T)
 
 -- and where the names of what is defined are made known
 named-start : (p : ParseState) (pieces : List Piece) (lent : Option Names) (first : Bool) (T : Tokenizer) → text_start p pieces lent first T →
     StartsContent p pieces (named_fields T.cursor T.parse_state.now (text_fields lent first)) (text_named T)
 unfolding scratched
-named-start p pieces lent first T k =
-    let m : StartsContent p pieces (named_fields T.cursor T.parse_state.now T.tokenize_state) (text_named T) = start-with p pieces (text_fields lent first) (named_fields T.cursor T.parse_state.now T.tokenize_state) T k in
-    subst (λ (s : TokenizeState). StartsContent p pieces (named_fields T.cursor T.parse_state.now s) (text_named T)) k.fields m
+named-start p pieces lent first T k = grind (arith, start-with)
 
 fresh-fields : (lent : Option Names) (first : Bool) (c : Place) (p : ParseState) → AreFresh (named_fields c p (text_fields lent first))
 fresh-fields lent first c p = record { labels = refl; starts = refl; loose = refl; end = refl; seen = refl; probes = refl }

@@ -1,5 +1,5 @@
 -- The inline tree of a text: the labels of its elements grouped, paired, merged and trimmed, and its emails set apart.
-use Rattle.std.proofs.Common.{◌≡◌, ℕ, Bool, true, false, List, [], ◌∷◌, Option, None, Some, refl, ap, ◌∙◌}
+use Rattle.std.proofs.Common.{◌≡◌, ℕ, Bool, true, false, List, [], ◌∷◌, Option, None, Some, refl, ap, arith}
 use Rattle.std.proofs.lemmas.Bool.{both_ways}
 use Rattle.markdown_content.specs.Codes.{Code, stop_of, document_start}
 use Rattle.markdown_content.specs.Tree.{Forest, leaf}
@@ -17,7 +17,7 @@ use Rattle.markdown_model.specs.Runs.{Run}
 use Rattle.markdown_model.specs.Setting.{Setting, within}
 use Rattle.markdown_model.proofs.ElementCases.{AllAre, EachConstruct, all_are, text_has}
 use Rattle.markdown_model.proofs.OneElementList.{text_elements, same_text_elements}
-use Rattle.markdown_model.proofs.PlainConstructs.{IsPlainTree, ReadsPlain}
+use Rattle.markdown_model.proofs.PlainConstructs.{ReadsPlain}
 use Rattle.markdown_model.proofs.NoLinkInConstructs.{PassesValue, Yields, yields_bind, yields_gives, yields_either, then_any}
 use Rattle.markdown_run_text.specs.ContentPasses.{mailed_where}
 use Rattle.markdown_attention.specs.RunsRead.{is_run}
@@ -42,8 +42,7 @@ pub record HoldsOfParts (P : Element → Type 0) (on : Constructs) : Type 0 wher
 module _ (P : Element → Type 0) (s : Setting) (h : HoldsOfParts P s.options.constructs) where
   plain_yields : (a : Reading Forest) → ReadsPlain s.bytes a → Yields P (as_plain a)
   unfolding as_plain
-  plain_yields a k =
-      yields_bind (IsPlainTree s.bytes) _ _ _ k.plain λ tree own. yields_gives _ (plain tree) (h.nodes tree (plain-node s.bytes tree own))
+  plain_yields a k = grind (arith, yields_bind, yields_gives, plain-node)
 
   ending_yields : Yields P line_ending
   unfolding line_ending
@@ -77,15 +76,7 @@ module _ (P : Element → Type 0) (s : Setting) (h : HoldsOfParts P s.options.co
 -- Where no runs are looked for, none stands in them.
 
 parts-still : (on : Constructs) → on.attention ≡ false → on.gfm_strikethrough ≡ false → HoldsOfParts IsRunlessElement on
-parts-still on off none = record {
-  nodes = λ t h. quiet-runless t h.quiet;
-  leaves = leaf-runless;
-  stars = λ e. absurd (both_ways on.attention off e);
-  underscores = λ e. absurd (both_ways on.attention off e);
-  tildes = λ e. absurd (both_ways on.gfm_strikethrough none e);
-  opens = λ kind marker. tt;
-  closes = λ marker outcome. tt;
-}
+parts-still on off none = grind (arith, quiet-runless, leaf-runless, both_ways)
 
 still-row : (es : List Element) → AllAre IsRunlessElement es → row_has_run (row_of_elements es) ≡ false
 still-row [] h = refl
@@ -120,13 +111,9 @@ finished-is s pairs_of es = refl
 finish-where : (hard : HardBreaks) (literals : Bool) (t : Forest) →
     finish hard literals t ≡ mailed_where literals (trimmed hard true true (merged t))
 unfolding finish
-finish-where hard true t = refl
-finish-where hard false t = refl
+finish-where hard literals t = grind arith
 
 pub text-finished : (s : Setting) (cs : List Code) (es : List Element) → AreElements s cs es
     → text_tree s cs ≡ mailed_where s.options.constructs.gfm_autolink_literal (trimmed (breaks s) true true (merged (paired_whole s (pair_list s) (labels_of es))))
 unfolding text_tree
-text-finished s cs es are =
-    ap (finished_text s (pair_list s)) (same_text_elements s cs (elements_of s cs) es (text_elements s cs) are)
-    ∙ finished-is s (pair_list s) es
-    ∙ finish-where (breaks s) s.options.constructs.gfm_autolink_literal (paired_whole s (pair_list s) (labels_of es))
+text-finished s cs es are = grind (arith, same_text_elements s cs (elements_of s cs) es, text_elements s cs, finished-is s (pair_list s) es, finish-where (breaks s) s.options.constructs.gfm_autolink_literal (paired_whole s (pair_list s) (labels_of es)))

@@ -1,15 +1,13 @@
 -- Trees without runs of markers: there is nothing to pair in them.
-use Rattle.std.proofs.Common.{◌≡◌, ℕ, ◌+◌, ◌*◌, ◌≤◌, false, List, [], ◌∷◌, ◌++◌, length, sum_by, Option, refl, sym, ap, subst, ◌∙◌, append-nil, arith}
+use Rattle.std.proofs.Common.{◌≡◌, ℕ, false, List, [], ◌∷◌, ◌++◌, length, sum_by, Option, refl, ap, ◌∙◌, append-nil, arith}
 use Rattle.std.proofs.lemmas.List.Sums.{sum_by-append, sum_by-cons}
 use Rattle.markdown_content.specs.Codes.{Code}
 use Rattle.markdown_content.specs.Tree.{Forest, empty, leaf_then, group_then, leaf_codes}
 use Rattle.markdown_event.specs.declared.event.Content.{Content}
 use Rattle.markdown_event.specs.declared.event.Name.{Name}
-use Rattle.markdown_event.specs.declared.event.Name.TheVariants as N
 use Rattle.markdown_attention.specs.RunsRead.{is_run}
 use Rattle.markdown_attention.specs.AttentionPass.{IsProbed}
 use Rattle.markdown_model.specs.BracketGroups.{nest, after_loose, joined, loose, pair_group, assembled, tokens_of, paired, Token, item}
-use Rattle.markdown_model.specs.InlineTree.{run_count}
 use Rattle.markdown_model.specs.Pairs.{Pair, pairs_after, pair_list}
 use Rattle.markdown_model.specs.Runs.{Run, runs_of, rows_inside, containers_of, rows_of}
 use Rattle.markdown_model.specs.Setting.{Setting, within}
@@ -19,8 +17,7 @@ module _ (s : Setting) (pairs_of : List Run → List Pair) where
   tokens-leaf : (name : Name) (link : Option Content) (cs : List Code) (rest : Forest) (pairs : List Pair) (n : ℕ) → is_run name ≡ false
       → tokens_of s pairs_of (leaf_then name link cs rest) pairs n ≡ item (leaf_then name link cs empty) ∷ tokens_of s pairs_of rest pairs n
   unfolding tokens_of
-  tokens-leaf N.AttentionSequence link cs rest pairs n e = cc
-  tokens-leaf name link cs rest pairs n e = refl
+  tokens-leaf name link cs rest pairs n e = grind arith
 
   -- these tokens are items, which joined are this tree
   abbrev AreItemsOf : List Token → Forest → Type 0
@@ -35,18 +32,12 @@ module _ (s : Setting) (pairs_of : List Run → List Pair) where
       AreItemsOf (tokens_of s pairs_of t pairs n) t
   unfolding tokens_of
   tokens-runless empty pairs n h = (refl, refl)
-  tokens-runless (leaf_then name link cs rest) pairs n h =
-      let k = tokens-runless rest pairs n h.1 in
-      subst (λ ts. AreItemsOf ts (leaf_then name link cs rest)) (sym (tokens-leaf name link cs rest pairs n h.0)) (ap (leaf_then name link cs) k.0, k.1)
-  tokens-runless (group_then name enter exit inside rest) pairs n h =
-      let k = tokens-runless rest pairs n h.1 in
-      let i = assembled-items (tokens_of s pairs_of inside (pairs_of (runs_of s inside)) 0) inside (tokens-runless inside (pairs_of (runs_of s inside)) 0 h.0) in
-      ((λ j. group_then name enter exit (i j) (k.0 j)), k.1)
+  tokens-runless (leaf_then name link cs rest) pairs n h = grind (arith, tokens-leaf, tokens-runless rest pairs n)
+  tokens-runless (group_then name enter exit inside rest) pairs n h = grind (arith, assembled-items (tokens_of s pairs_of inside (pairs_of (runs_of s inside)) 0) inside, tokens-runless rest pairs n, tokens-runless inside (pairs_of (runs_of s inside)) 0)
 
   pub paired-runless : (t : Forest) → IsRunless t → paired s pairs_of t ≡ t
   unfolding paired
-  paired-runless t h =
-      assembled-items (tokens_of s pairs_of t (pairs_of (runs_of s t)) 0) t (tokens-runless t (pairs_of (runs_of s t)) 0 h)
+  paired-runless t h = grind (arith, assembled-items, tokens-runless)
 
 -- Its containers have no runs, and so no pairs.
 
@@ -54,8 +45,7 @@ module _ (s : Setting) where
   leaf-runs : (name : Name) (link : Option Content) (cs : List Code) (rest : Forest) → is_run name ≡ false →
       runs_of s (leaf_then name link cs rest) ≡ runs_of s rest
   unfolding runs_of
-  leaf-runs N.AttentionSequence link cs rest e = cc
-  leaf-runs name link cs rest e = refl
+  leaf-runs name link cs rest e = grind arith
 
   no-runs : (t : Forest) → IsRunless t → runs_of s t ≡ []
   unfolding runs_of
@@ -81,9 +71,7 @@ module _ (s : Setting) where
 
   none-rows : (f : List Run → ℕ) → f [] ≡ 0 → (t : Forest) → IsRunless t → sum_by f (rows_of s t) ≡ 0
   unfolding rows_of
-  none-rows f e t h =
-      let here : f (runs_of s t) ≡ 0 = ap f (no-runs t h) ∙ e in
-      omega (arith, here, none-inside f e t h, sum_by-cons f (runs_of s t) (rows_inside s t))
+  none-rows f e t h = grind (arith, no-runs, none-inside, sum_by-cons)
 
 -- The same of the tree of a whole content.
 
@@ -97,13 +85,8 @@ module _ (s : Setting) where
 
   -- no look is taken
   pub unprobed : (t : Forest) → IsRunless t → IsProbed s t 0
-  unprobed t h =
-      record { at_least = omega (arith, none-in (λ runs. length (pair_list s runs)) no-pairs t h); at_most = omega arith; scan = omega arith }
+  unprobed t h = grind (arith, none-in, no-pairs)
 
   -- and none may be taken
   pub probes-none : (t : Forest) (probes : ℕ) → IsRunless t → IsProbed s t probes → probes ≡ 0
-  probes-none t probes h k =
-      let runs : run_count s t ≡ 0 = none-in length refl t h in
-      let pairs : sum_by (λ r. length (pair_list s r)) (containers_of s t) ≡ 0 = none-in (λ r. length (pair_list s r)) no-pairs t h in
-      let most : probes ≤ (0 + 0) * 0 = subst (λ (n : ℕ). probes ≤ n) (λ i. (runs i + pairs i) * runs i) k.scan in
-      omega (arith, most)
+  probes-none t probes h k = grind (arith, none-in, no-pairs)

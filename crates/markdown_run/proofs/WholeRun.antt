@@ -1,5 +1,5 @@
 -- A whole run over the elements of a content, from its start to what the passes leave.
-use Rattle.std.proofs.Common.{◌≡◌, ℕ, true, false, List, [], map, None, refl, sym, ap, subst, ◌∙◌}
+use Rattle.std.proofs.Common.{◌≡◌, ℕ, true, false, List, [], map, None, ap, subst, ◌∙◌, arith}
 use Rattle.std.specs.Borrow.{Bor}
 use Rattle.std.specs.declared.alloc.Global.{Global}
 use Rattle.markdown_engine.specs.RunStart.{begun, begun_at}
@@ -7,10 +7,10 @@ use Rattle.markdown_engine_events.specs.EventChains.{chained}
 use Rattle.markdown_content.specs.Codes.{Code}
 use Rattle.markdown_content.specs.Content.{IsContent, content_of}
 use Rattle.markdown_engine.specs.Operations.{ahead, registered}
-use Rattle.markdown_content.specs.Place.{Place, start_of_content, last_of}
+use Rattle.markdown_content.specs.Place.{Place, start_of_content}
 use Rattle.markdown_engine.specs.RestingFields.{at_rest}
 use Rattle.markdown_engine.specs.PassesInOrder.{MayResolve, Resolves, unregistered}
-use Rattle.markdown_content.specs.Tree.{Forest, events_of, leaf_codes}
+use Rattle.markdown_content.specs.Tree.{Forest, events_of}
 use Rattle.markdown_content.specs.declared.parser.ParseState.{ParseState}
 use Rattle.markdown_content.specs.declared.parser.Piece.{Piece}
 use Rattle.markdown_event.specs.declared.resolve.ResolveName.{ResolveName}
@@ -23,15 +23,12 @@ use Rattle.markdown_run_text.specs.CutData.{split, HasCodes}
 use Rattle.markdown_run_text.proofs.PairsLeaveNoEmptyData.{merged-paired}
 use Rattle.markdown_attention.specs.AttentionPass.{IsProbed}
 use Rattle.markdown_attention.proofs.AttentionTreeLabels.{IsGood}
-use Rattle.markdown_label.specs.KeptStarts.{StandFor}
 use Rattle.markdown_label.specs.Brackets.{grouped}
-use Rattle.markdown_model.specs.SingleConstructs.{follows_escape}
 use Rattle.markdown_model.specs.Elements.{Choice, AreElementsFrom}
-use Rattle.markdown_model.specs.BracketGroups.{paired}
 use Rattle.markdown_model.specs.LabelEnd.{Element}
 use Rattle.markdown_model.specs.Pairs.{pair_list}
 use Rattle.markdown_model.specs.Passes.{labels_of, merged}
-use Rattle.markdown_model.specs.Setting.{Setting, within}
+use Rattle.markdown_model.specs.Setting.{Setting}
 use Rattle.markdown_run_text.specs.ElementsAsRead.{AreReadAs, Source, source_of}
 use Rattle.markdown_run_text.specs.RunOverElements.{AllElements, Finishes, StandsAfter}
 use Rattle.markdown_run_text.specs.RowStart.{IsFreshRow}
@@ -59,45 +56,23 @@ pub record StartsContent (p : ParseState) (pieces : List Piece) (s : TokenizeSta
 
 pub begun-starts : (alloc : Global) (p : Bor ParseState) (pieces : List Piece) (T : Tokenizer) →
     T ≡ begun alloc p pieces → StartsContent p.now pieces at_rest T
-begun-starts alloc p pieces T e =
-    record {
-      input = ap (λ (x : Tokenizer). x.parse_state.now) e;
-      place = ap (λ (x : Tokenizer). x.cursor) e;
-      events = ap (λ (x : Tokenizer). x.events) e;
-      map = ap (λ (x : Tokenizer). x.map) e;
-      resolvers = ap (λ (x : Tokenizer). x.resolvers) e;
-      fields = ap (λ (x : Tokenizer). x.tokenize_state) e;
-    }
+begun-starts alloc p pieces T e = grind arith
 
 -- and so does one that a cursor begins at that start
 pub content-starts : (alloc : Global) (input : Bor ParseState) (p : ParseState) (pieces : List Piece) (cursor : Place) (T : Tokenizer) →
     T ≡ begun_at alloc input cursor → input.now ≡ p → cursor ≡ start_of_content p.bytes.now pieces → StartsContent p pieces at_rest T
-content-starts alloc input p pieces cursor T e i k =
-    record {
-      input = ap (λ (x : Tokenizer). x.parse_state.now) e ∙ i;
-      place = ap (λ (x : Tokenizer). x.cursor) e ∙ k;
-      events = ap (λ (x : Tokenizer). x.events) e;
-      map = ap (λ (x : Tokenizer). x.map) e;
-      resolvers = ap (λ (x : Tokenizer). x.resolvers) e;
-      fields = ap (λ (x : Tokenizer). x.tokenize_state) e;
-    }
+content-starts alloc input p pieces cursor T e i k = grind arith
 
 -- with other scratch fields
 pub start-with : (p : ParseState) (pieces : List Piece) (s r : TokenizeState) (T : Tokenizer) → StartsContent p pieces s T →
     StartsContent p pieces r (record T { tokenize_state = r })
-start-with p pieces s r T k =
-    record { input = k.input; place = k.place; events = k.events; map = k.map; resolvers = k.resolvers; fields = refl }
+start-with p pieces s r T k = grind arith
 
 -- nothing stands before the start
 pub start-stands : (p : ParseState) (pieces : List Piece) (s : TokenizeState) (T : Tokenizer) → s.label_starts ≡ [] →
     StartsContent p pieces s T → StandsAfter [] None T
 unfolding start_of_content
-start-stands p pieces s T none k =
-    record {
-      escaped = ap follows_escape k.events;
-      before = ap (λ (x : Place). last_of x.codes x.at) k.place;
-      keeps = subst (λ ls. StandFor T.events [] ls) (sym (ap (λ (x : TokenizeState). x.label_starts) k.fields ∙ none)) tt;
-    }
+start-stands p pieces s T none k = grind arith
 
 pub start-ahead : (p : ParseState) (pieces : List Piece) (s : TokenizeState) (T : Tokenizer) → StartsContent p pieces s T →
     ahead T ≡ content_of p.bytes.now pieces
@@ -114,14 +89,7 @@ pub record AreFresh (s : TokenizeState) : Type 0 where
 
 fresh-start : (p : ParseState) (pieces : List Piece) (s : TokenizeState) (T : Tokenizer) → AreFresh s →
     StartsContent p pieces s T → IsFreshRow T
-fresh-start p pieces s T h k = record {
-  events = k.events;
-  labels = ap (λ (x : TokenizeState). x.labels) k.fields ∙ h.labels;
-  starts = ap (λ (x : TokenizeState). x.label_starts) k.fields ∙ h.starts;
-  loose = ap (λ (x : TokenizeState). x.label_starts_loose) k.fields ∙ h.loose;
-  end = ap (λ (x : TokenizeState). x.end) k.fields ∙ h.end;
-  seen = ap (λ (x : TokenizeState). x.seen) k.fields ∙ h.seen;
-}
+fresh-start p pieces s T h k = grind arith
 
 -- the elements of these codes, and how they are read: a row with its labels grouped is the tree of their labels but for how data is cut
 pub record IsRowRead (bytes : List ℕ) (choice : Choice) (cs : List Code) (row : Row) : Type 0 where
@@ -177,15 +145,8 @@ module _ (last : ResolveName) (finish : ParseState → Forest → Forest) (trims
     -- what the passes leave, of a tree that differs from it only in how data is cut
     pub finished-events : (V : Tokenizer) (labels : Forest) → HasCodes labels → split Grouped ≡ split labels → Resolves resolves_of U.resolvers (unregistered U) V
         → chained V.events ≡ events_of (finish p (merged (paired_whole setting (pair_list setting) labels)))
-    finished-events V labels codes alike r =
-        let there : Setting = within (leaf_codes labels) setting in
-        let t : Forest = paired_whole setting (pair_list setting) Grouped in
-        let same : merged t ≡ merged (paired_whole setting (pair_list setting) labels) =
-        (λ i. merged (paired (within (codes-same Grouped labels alike i) setting) (pair_list setting) Grouped))
-        ∙ merged-paired there (pair_list setting) Grouped labels (HasLines-HasCodes Grouped (grouped-lines k.row is_row)) codes alike in
-        ap chained (finished-left V r).events ∙ chained-whole (finish p (merged t)) ∙ ap (λ x. events_of (finish p x)) same
+    finished-events V labels codes alike r = grind (arith, codes-same, merged-paired, HasLines-HasCodes, grouped-lines, is_row, finished-left, chained-whole)
 
     pub finished-probes : (V : Tokenizer) (labels : Forest) → split Grouped ≡ split labels →
         Resolves resolves_of U.resolvers (unregistered U) V → IsProbed setting labels V.tokenize_state.probes
-    finished-probes V labels alike r =
-        probes-alike setting Grouped labels V.tokenize_state.probes alike (finished-left V r).probed
+    finished-probes V labels alike r = grind (arith, probes-alike setting Grouped labels V.tokenize_state.probes, finished-left V)
