@@ -14,20 +14,13 @@ position-yes p x xs h = rw h refl
 
 -- past a byte that does not pass
 pub passed : (p : ℕ → Bool) (bytes : List ℕ) (i : ℕ) → i < length bytes → p (get_or bytes i 0) ≡ false → first_from p bytes i ≡ first_from p bytes (i + 1)
-passed p bytes i l h =
-    let e : position_or_len p (drop i bytes) ≡ 1 + position_or_len p (drop (i + 1) bytes) =
-    ap (position_or_len p) (drop_more bytes i 0 l) ∙ position-no p (get_or bytes i 0) (drop (i + 1) bytes) h in
-    omega (arith, e)
+passed p bytes i l h = grind (arith, drop_more, position-no)
 
 pub found : (p : ℕ → Bool) (bytes : List ℕ) (i : ℕ) → i < length bytes → p (get_or bytes i 0) ≡ true → first_from p bytes i ≡ i
-found p bytes i l h =
-    let e : position_or_len p (drop i bytes) ≡ 0 = ap (position_or_len p) (drop_more bytes i 0 l) ∙ position-yes p (get_or bytes i 0) (drop (i + 1) bytes) h in
-    omega (arith, e)
+found p bytes i l h = grind (arith, drop_more, position-yes)
 
 pub at_end : (p : ℕ → Bool) (bytes : List ℕ) (i : ℕ) → length bytes ≤ i → first_from p bytes i ≡ i
-at_end p bytes i h =
-    let e : position_or_len p (drop i bytes) ≡ 0 = ap (position_or_len p) (drop_all i bytes h) in
-    omega (arith, e)
+at_end p bytes i h = grind (arith, drop_all)
 
 -- Of how many bytes a line ending is.
 
@@ -35,24 +28,19 @@ pub no_byte : (bytes : List ℕ) (i : ℕ) → length bytes ≤ i → ending_len
 no_byte bytes i h = ap ending_len (drop_all i bytes h)
 
 pub last_byte : (bytes : List ℕ) (i : ℕ) → length bytes ≡ i + 1 → ending_len (drop i bytes) ≡ 1
-last_byte bytes i h =
-    ap ending_len (drop_more bytes i 0 (omega (arith, h)) ∙ ap (λ (xs : List ℕ). get_or bytes i 0 ∷ xs) (drop_all (i + 1) bytes (omega (arith, h))))
+last_byte bytes i h = grind (arith, drop_more bytes i 0, drop_all (i + 1) bytes)
 
 both : (bytes : List ℕ) (i : ℕ) → i + 1 < length bytes → drop i bytes ≡ get_or bytes i 0 ∷ get_or bytes (i + 1) 0 ∷ drop (i + 1 + 1) bytes
-both bytes i h =
-    drop_more bytes i 0 (omega (arith, h)) ∙ ap (λ (xs : List ℕ). get_or bytes i 0 ∷ xs) (drop_more bytes (i + 1) 0 h)
+both bytes i h = grind (arith, drop_more)
 
 pub two_bytes : (bytes : List ℕ) (i : ℕ) → i + 1 < length bytes → get_or bytes i 0 ≡ carriage_return → get_or bytes (i + 1) 0 ≡ line_feed → ending_len (drop i bytes) ≡ 2
 two_bytes bytes i h cr lf = ap ending_len (both bytes i h) ∙ rw (cr, lf) refl
 
 one-by : (b c : ℕ) (rest : List ℕ) (s t : Bool) → (b == carriage_return) ≡ s → (c == line_feed) ≡ t → (s ≡ true → t ≡ true → ⊥) → ending_len (b ∷ c ∷ rest) ≡ 1
-one-by b c rest false t e f h = rw e refl
-one-by b c rest true false e f h = rw (e, f) refl
-one-by b c rest true true e f h = absurd (h refl refl)
+one-by b c rest s t e f h = grind arith
 
 pub one_byte : (bytes : List ℕ) (i : ℕ) → i + 1 < length bytes → ((get_or bytes i 0 == carriage_return) ≡ true → (get_or bytes (i + 1) 0 == line_feed) ≡ true → ⊥) → ending_len (drop i bytes) ≡ 1
-one_byte bytes i h other =
-    ap ending_len (both bytes i h) ∙ one-by (get_or bytes i 0) (get_or bytes (i + 1) 0) (drop (i + 1 + 1) bytes) (get_or bytes i 0 == carriage_return) (get_or bytes (i + 1) 0 == line_feed) refl refl other
+one_byte bytes i h other = grind (arith, both, one-by)
 
 -- Blanks before an index.
 

@@ -19,16 +19,14 @@ use Rattle.markdown_lines.specs.PiecesOfLines.{is_blank_byte}
 -- One code.
 
 other-by : (b : ℕ) (t : Bool) → is_line_ending_byte b ≡ false → (if t then 32 else b) == 10 ≡ false
-other-by b true h = refl
-other-by b false h = grind (arith, nat_tests)
+other-by b t h = grind (arith, nat_tests)
 
 -- no line ending begins where no byte of one stands
 other-code : (bytes : List ℕ) (p : Point) → is_line_ending_byte (get_or bytes p.index 0) ≡ false → is_line_ending (code_here bytes p) ≡ false
 other-code bytes p h = rw h (other-by (get_or bytes p.index 0) (get_or bytes p.index 0 == tab_value && nat_lt 0 p.vs) h)
 
 near-by : (p : Point) (t : Bool) → (if t then next_column p p.index (p.vs + 1) else next_column p (p.index + 1) 0).index ≤ p.index + 1
-near-by p true = omega arith
-near-by p false = omega arith
+near-by p t = grind arith
 
 -- and it is not longer than a byte
 pub near-code : (bytes : List ℕ) (p : Point) → is_line_ending_byte (get_or bytes p.index 0) ≡ false → (stop_at bytes p).index ≤ p.index + 1
@@ -60,20 +58,10 @@ not-earlier a b c d h e = grind (arith, nat_tests)
 
 -- where there is a code on the way to the start of a byte, its own byte stands before
 low-index : (bytes : List ℕ) (p q : Point) → IsPoint bytes p → IsFirstTo bytes p q → q.vs ≡ 0 → p.index < q.index
-low-index bytes p q h f e =
-    let s : Point = stop_at bytes p in
-    let le : s.index ≤ q.index = later-indexes s.index s.vs q.index q.vs f.reached in
-    elim (shape bytes p (stands-point bytes p h)) [
-      | inl t ↦ let lt : s.index < q.index = inside-indexes s.index s.vs q.index q.vs f.reached e (omega (arith, t.vs)) in omega (arith, t.index, lt)
-      | inr t ↦ omega (arith, t.index, le)
-    ]
+low-index bytes p q h f e = grind (arith, later-indexes, shape, stands-point, inside-indexes)
 
 pub next-index : (bytes : List ℕ) (p : Point) → IsPoint bytes p → p.index ≤ (stop_at bytes p).index
-next-index bytes p h =
-    elim (shape bytes p (stands-point bytes p h)) [
-      | inl t ↦ omega (arith, t.index)
-      | inr t ↦ omega (arith, t.index)
-    ]
+next-index bytes p h = grind (arith, shape, stands-point)
 
 any-other : (c : Code) (cs : List Code) → is_line_ending c ≡ false → list_any is_line_ending cs ≡ false → list_any is_line_ending (c ∷ cs) ≡ false
 any-other c cs h k = rw (h, k) refl
@@ -113,19 +101,11 @@ behind-ending bytes stop q e = omega (arith, e.index, (len-bounds (get_or bytes 
 
 -- at the line ending there is one code left
 one-left : (bytes : List ℕ) (p q : Point) → IsPoint bytes p → IsFirstTo bytes p q → IsEnding bytes p.index q → codes_to bytes (stop_at bytes p) q ≡ []
-one-left bytes p q h f e =
-    let s : Point = stop_at bytes p in
-    let same : q.index ≡ s.index = e.index ∙ ap (λ (x : Point). x.index) (stop-ending bytes p e.ending) in
-    none-before bytes s (place_of q) f.point (not-earlier s.index s.vs q.index q.vs (omega (arith, same)) e.vs)
+one-left bytes p q h f e = grind (arith, stop-ending, none-before, not-earlier)
 
 pub line-codes : (bytes : List ℕ) (stop : ℕ) (p q : Point) (cs : List Code) → codes_to bytes p q ≡ cs → IsPoint bytes p → IsEnding bytes stop q → p.index ≤ stop
     → ((k : ℕ) → p.index ≤ k → k < stop → is_line_ending_byte (get_or bytes k 0) ≡ false) → IsWholeLine cs
-line-codes bytes stop p q [] e h z le free =
-    let lt : p.index < q.index = omega (arith, le, behind-ending bytes stop q z) in
-    elim (to-cases bytes p q h z.point (order-indexes p.index p.vs q.index q.vs lt)) [
-      | inl f ↦ absurd (cons≢nil (code_here bytes p) (codes_to bytes (stop_at bytes p) q) (sym f.codes ∙ e))
-      | inr a ↦ absurd (omega (arith, a.index, lt))
-    ]
+line-codes bytes stop p q [] e h z le free = grind (arith, behind-ending, to-cases, order-indexes, cons≢nil)
 line-codes bytes stop p q (c ∷ cs) e h z le free =
     let lt : p.index < q.index = omega (arith, le, behind-ending bytes stop q z) in
     elim (to-cases bytes p q h z.point (order-indexes p.index p.vs q.index q.vs lt)) [
@@ -174,9 +154,7 @@ filled-one c cs h = rw (h, has_no_blank_line) refl
 -- past codes without a line ending, on a line that is filled
 pub filled-plain : (cs rest : List Code) → list_any is_line_ending cs ≡ false → has_no_blank_line true (cs ++ rest) ≡ has_no_blank_line true rest
 filled-plain [] rest h = refl
-filled-plain (c ∷ cs) rest h =
-    let both : (is_line_ending c ≡ false) × (list_any is_line_ending cs ≡ false) = or_parts (is_line_ending c) (list_any is_line_ending cs) h in
-    filled-one c (cs ++ rest) both.0 ∙ filled-plain cs rest both.1
+filled-plain (c ∷ cs) rest h = grind (arith, or_parts, filled-one, filled-plain cs rest)
 
 ended-one : (c : Code) (cs : List Code) → is_line_ending c ≡ true → has_no_blank_line true (c ∷ cs) ≡ has_no_blank_line false cs
 ended-one c cs h = rw (h, has_no_blank_line) refl
@@ -191,7 +169,4 @@ filled-whole cs rest w =
 
 pub ink-fills : (bytes : List ℕ) (p : Point) (cs : List Code) → is_line_ending_byte (get_or bytes p.index 0) ≡ false → is_blank_byte (get_or bytes p.index 0) ≡ false
     → has_no_blank_line false (code_here bytes p ∷ cs) ≡ has_no_blank_line true cs
-ink-fills bytes p cs h k = ink-one (code_here bytes p) cs (other-code bytes p h) (ink-code bytes p h k)
-  where
-    ink-one : (c : Code) (cs : List Code) → is_line_ending c ≡ false → is_blank c ≡ false → has_no_blank_line false (c ∷ cs) ≡ has_no_blank_line true cs
-    ink-one c cs h k = rw (h, k, has_no_blank_line) refl
+ink-fills bytes p cs h k = grind (arith, other-code, ink-code)

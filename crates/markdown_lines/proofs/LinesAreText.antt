@@ -1,23 +1,23 @@
 -- The pieces of lines are a text.
-use Rattle.std.proofs.Common.{◌≡◌, ℕ, ◌+◌, ◌-◌, ◌<◌, ◌≤◌, ◌⊎◌, inl, inr, true, false, not, ◌==◌, ◌&&◌, ap, refl, sym, ◌∙◌, subst, List, [], ◌∷◌, ◌++◌, length, drop, get_or, filter, Option, Some, None, IsUtf8, arith}
+use Rattle.std.proofs.Common.{◌≡◌, ℕ, ◌+◌, ◌-◌, ◌<◌, ◌≤◌, ◌⊎◌, inl, inr, true, false, not, ◌==◌, ap, refl, sym, ◌∙◌, subst, List, [], ◌∷◌, ◌++◌, length, drop, get_or, Option, Some, None, IsUtf8, arith}
 use Rattle.std.proofs.lemmas.Bool.{and_from, and_parts, cases_Bool, cases_lt, eq-eqb, eqb-true, not_from_false}
 use Rattle.std.proofs.lemmas.Bool.Decides.{nat_tests}
 use Rattle.std.proofs.lemmas.List.{drop_all, drop_more}
 use Rattle.std.proofs.lemmas.List.Elements.{All-cons, All-nil}
-use Rattle.std.proofs.lemmas.Str.{IsCharBoundary-after_ascii, IsCharBoundary-before_ascii, IsCharBoundary-end}
+use Rattle.std.proofs.lemmas.Str.{IsCharBoundary-after_ascii}
 use Rattle.std.specs.List.{All, list_any}
 use Rattle.std.specs.Str.{IsCharBoundary}
 use Rattle.markdown_event.specs.declared.event.Point.{Point}
 use Rattle.markdown_content.specs.declared.parser.Piece.{Piece}
-use Rattle.markdown_content.specs.Codes.{Code, carriage_return, line_feed, codes_of, is_at_or_after, is_code_before, is_line_ending, is_line_ending_byte, line_ending_len, place_of, point_at}
+use Rattle.markdown_content.specs.Codes.{Code, carriage_return, line_feed, codes_of, is_at_or_after, is_line_ending, is_line_ending_byte, line_ending_len, place_of, point_at}
 use Rattle.markdown_content.specs.Content.{IsBetweenCharacters, IsTextContent, are_pieces, content_of, document_limit, ends_line, has_no_blank_line, is_one_line, is_piece, is_place, is_text_codes, piece_codes}
-use Rattle.markdown_content.specs.DocumentWalk.{IsPoint, codes_after}
+use Rattle.markdown_content.specs.DocumentWalk.{IsPoint}
 use Rattle.markdown_content.proofs.PlaceOrder.{is_before}
 use Rattle.markdown_content.proofs.BytePlaces.{end-place, feed-place, other-place}
 use Rattle.markdown_content.proofs.CodesBetween.{IsFirstTo, codes_to, first-to}
 use Rattle.markdown_content.proofs.ContentCodes.{piece-codes-is}
 use Rattle.markdown_content.proofs.DocumentCodes.{len-bounds, len-one, len-two, stop_at}
-use Rattle.markdown_content.proofs.DocumentPlaces.{IsNextPlace, IsThere, next, same-pair, there}
+use Rattle.markdown_content.proofs.DocumentPlaces.{next, same-pair, there}
 use Rattle.markdown_content.proofs.DocumentWalkLemmas.{stop-ending}
 use Rattle.markdown_content.proofs.WalkTargets.{place-point}
 use Rattle.markdown_lines.specs.PiecesOfLines.{AreLines, AreLinesBehind, IsOnNextLine, MayBegin, first_ink, ink_end, is_blank_byte, last_piece, line_end, line_piece, line_stop, piece_between, pieces_of_lines}
@@ -38,9 +38,7 @@ record IsByteAt (bytes : List ℕ) (i : ℕ) : Type 0 where
   point : IsPoint bytes (point_of bytes i)
 
 byte-at : (bytes : List ℕ) (i : ℕ) → is_place bytes (i, 0) ≡ true → IsByteAt bytes i
-byte-at bytes i h =
-    let t : IsThere bytes (i, 0) = there bytes (i, 0) h in
-    record { place = h; is = t.place; index = ap (λ (x : ℕ × ℕ). x.0) t.place; vs = ap (λ (x : ℕ × ℕ). x.1) t.place; point = t.point }
+byte-at bytes i h = grind (arith, there)
 
 no-feed : (b : ℕ) → is_line_ending_byte b ≡ false → b ≡ line_feed → ⊥
 no-feed b h e = grind (arith, nat_tests)
@@ -67,28 +65,14 @@ at-behind bytes i pos l h =
     ])
 
 at-stop : (bytes : List ℕ) (at : ℕ) → IsLineAt bytes at → IsByteAt bytes (line_stop bytes at)
-at-stop bytes at h =
-    at-behind bytes (line_stop bytes at) (omega (arith, h.before)) h.within (h.no_ending (line_stop bytes at - 1) (omega (arith, h.later, h.before)) (omega (arith, h.before)))
+at-stop bytes at h = grind (arith, at-behind bytes (line_stop bytes at))
 
 at-ink-end : (bytes : List ℕ) (at : ℕ) → IsLineAt bytes at → IsByteAt bytes (ink_end bytes at)
-at-ink-end bytes at h =
-    let low : first_ink bytes at < ink_end bytes at = h.trim.lower in
-    let high : ink_end bytes at ≤ line_stop bytes at = h.trim.upper in
-    at-behind bytes (ink_end bytes at) (omega (arith, low)) (omega (arith, high, h.within)) (h.no_ending (ink_end bytes at - 1) (omega (arith, h.later, low)) (omega (arith, low, high)))
+at-ink-end bytes at h = grind (arith, at-behind bytes (ink_end bytes at))
 
 -- just behind the line ending
 at-end : (bytes : List ℕ) (at : ℕ) → IsLineAt bytes at → line_stop bytes at < length bytes → IsByteAt bytes (line_end bytes at)
-at-end bytes at h l =
-    let stop : ℕ = line_stop bytes at in
-    let b : IsByteAt bytes stop = at-stop bytes at h in
-    let p : Point = point_of bytes stop in
-    let n : IsNextPlace bytes p = next bytes p b.point (omega (arith, b.index, l)) in
-    let ending : is_line_ending_byte (get_or bytes p.index 0) ≡ true = ap (λ (i : ℕ). is_line_ending_byte (get_or bytes i 0)) b.index ∙ h.ending l in
-    let index : (stop_at bytes p).index ≡ line_end bytes at =
-    sym (ap (λ (x : Point). x.index) (stop-ending bytes p ending)) ∙ ap (λ (i : ℕ). i + line_ending_len (get_or bytes i 0) (drop (i + 1) bytes)) b.index ∙ sym (h.end_is l) in
-    let vs : (stop_at bytes p).vs ≡ 0 = sym (ap (λ (x : Point). x.vs) (stop-ending bytes p ending)) in
-    byte-at bytes (line_end bytes at)
-    (ap (λ (x : ℕ × ℕ). is_place bytes x) (sym (same-pair (stop_at bytes p).index (stop_at bytes p).vs (line_end bytes at, 0) index vs)) ∙ place-point bytes (stop_at bytes p) n.point)
+at-end bytes at h l = grind (arith, at-stop bytes, next bytes, stop-ending bytes, byte-at bytes (line_end bytes at), same-pair, place-point bytes)
 
 -- Pieces of bytes.
 
@@ -102,26 +86,18 @@ is-before : (a b c d : ℕ) → a < c → is_before (a, b) (c, d) ≡ true
 is-before a b c d h = grind (arith, nat_tests)
 
 piece-of-bytes : (bytes : List ℕ) (a b : ℕ) → IsByteAt bytes a → IsByteAt bytes b → a ≤ b → is_piece bytes (piece_between a b) ≡ true
-piece-of-bytes bytes a b h k l =
-    and_from (is_place bytes (a, 0) && is_place bytes (b, 0)) (is_at_or_after (a, 0) (b, 0)) (and_from (is_place bytes (a, 0)) (is_place bytes (b, 0)) h.place k.place) (order a b l)
+piece-of-bytes bytes a b h k l = grind (arith, and_from, order)
 
 codes-of-bytes : (bytes : List ℕ) (a b : ℕ) → IsByteAt bytes a → IsByteAt bytes b → piece_codes (codes_of bytes) (piece_between a b) ≡ codes_to bytes (point_of bytes a) (point_of bytes b)
-codes-of-bytes bytes a b h k =
-    piece-codes-is bytes (piece_between a b)
-    ∙ ap (λ (x : ℕ × ℕ). filter (is_code_before x) (codes_after bytes (a, 0))) (sym k.is)
-    ∙ ap (λ (x : ℕ × ℕ). filter (is_code_before (place_of (point_of bytes b))) (codes_after bytes x)) (sym h.is)
+codes-of-bytes bytes a b h k = grind (arith, piece-codes-is bytes (piece_between a b))
 
 first-code : (bytes : List ℕ) (a b : ℕ) → IsByteAt bytes a → IsByteAt bytes b → a < b → IsFirstTo bytes (point_of bytes a) (point_of bytes b)
-first-code bytes a b h k l =
-    let p : Point = point_of bytes a in
-    let q : Point = point_of bytes b in
-    first-to bytes p q h.point k.point (is-before p.index p.vs q.index q.vs (omega (arith, h.index, k.index, l)))
+first-code bytes a b h k l = grind (arith, first-to bytes, is-before)
 
 -- A line of a text.
 
 ink-at : (bytes : List ℕ) (i : ℕ) (p : Point) → p.index ≡ i → IsInk bytes i → (is_line_ending_byte (get_or bytes p.index 0) ≡ false) × (is_blank_byte (get_or bytes p.index 0) ≡ false)
-ink-at bytes i p e h =
-    (ap (λ (n : ℕ). is_line_ending_byte (get_or bytes n 0)) e ∙ h.other, ap (λ (n : ℕ). is_blank_byte (get_or bytes n 0)) e ∙ h.ink)
+ink-at bytes i p e h = grind arith
 
 record IsTextLine (bytes : List ℕ) (piece : Piece) : Type 0 where
   is : is_piece bytes piece ≡ true
@@ -129,9 +105,7 @@ record IsTextLine (bytes : List ℕ) (piece : Piece) : Type 0 where
   fills : (rest : List Code) → has_no_blank_line false (piece_codes (codes_of bytes) piece ++ rest) ≡ has_no_blank_line false rest
 
 ending-of : (bytes : List ℕ) (at : ℕ) → IsLineAt bytes at → line_stop bytes at < length bytes → IsEnding bytes (line_stop bytes at) (point_of bytes (line_end bytes at))
-ending-of bytes at h l =
-    let e : IsByteAt bytes (line_end bytes at) = at-end bytes at h l in
-    record { ending = h.ending l; index = e.index ∙ h.end_is l; vs = e.vs; point = e.point }
+ending-of bytes at h l = grind (arith, at-end bytes)
 
 text-line : (bytes : List ℕ) (at : ℕ) → IsLineAt bytes at → line_stop bytes at < length bytes → line_stop bytes at < line_end bytes at → IsTextLine bytes (line_piece bytes at)
 text-line bytes at h l m =
@@ -162,25 +136,7 @@ record IsLastLine (bytes : List ℕ) (piece : Piece) : Type 0 where
   fills : has_no_blank_line false (piece_codes (codes_of bytes) piece ++ []) ≡ true
 
 last-line : (bytes : List ℕ) (at : ℕ) → IsLineAt bytes at → IsLastLine bytes (last_piece bytes at)
-last-line bytes at h =
-    let s : ℕ = first_ink bytes at in
-    let t : ℕ = ink_end bytes at in
-    let lt : s < t = h.trim.lower in
-    let upper : t ≤ line_stop bytes at = h.trim.upper in
-    let low : IsByteAt bytes s = at-ink bytes s h.first in
-    let high : IsByteAt bytes t = at-ink-end bytes at h in
-    let p : Point = point_of bytes s in
-    let q : Point = point_of bytes t in
-    let codes : piece_codes (codes_of bytes) (last_piece bytes at) ≡ codes_to bytes p q = codes-of-bytes bytes s t low high in
-    let f : IsFirstTo bytes p q = first-code bytes s t low high lt in
-    let n : Point = stop_at bytes p in
-    let ink : (is_line_ending_byte (get_or bytes p.index 0) ≡ false) × (is_blank_byte (get_or bytes p.index 0) ≡ false) = ink-at bytes s p low.index h.first in
-    let plain : list_any is_line_ending (codes_to bytes n q) ≡ false = plain-codes bytes n q (codes_to bytes n q) refl f.point high.point f.reached high.vs
-    (λ k a b. h.no_ending k (omega (arith, a, low.index, h.later, next-index bytes p low.point)) (omega (arith, b, high.index, upper))) in
-    record {
-      is = piece-of-bytes bytes s t low high (omega (arith, lt));
-      fills = ap (λ (cs : List Code). has_no_blank_line false (cs ++ [])) (codes ∙ f.codes) ∙ ink-fills bytes p (codes_to bytes n q ++ []) ink.0 ink.1 ∙ filled-plain (codes_to bytes n q) [] plain;
-    }
+last-line bytes at h = grind (arith, at-ink, at-ink-end, codes-of-bytes, first-code, ink-at, plain-codes, next-index, piece-of-bytes, ink-fills, filled-plain)
 
 -- Where pieces begin and end, characters do.
 
@@ -204,25 +160,10 @@ ink-boundary bytes at u h b =
     ]
 
 ink-end-boundary : (bytes : List ℕ) (at : ℕ) → IsLineAt bytes at → IsCharBoundary bytes (ink_end bytes at)
-ink-end-boundary bytes at h =
-    let t : ℕ = ink_end bytes at in
-    let upper : t ≤ line_stop bytes at = h.trim.upper in
-    elim (cases_lt t (line_stop bytes at)) [
-      | inl k ↦ IsCharBoundary-before_ascii bytes t (omega (arith, k, h.within)) (blank-small (get_or bytes t 0) (h.trim.blank k))
-      | inr k ↦
-          let same : line_stop bytes at ≡ t = omega (arith, k, upper) in
-          elim (cases_lt (line_stop bytes at) (length bytes)) [
-            | inl l ↦ subst (λ (n : ℕ). IsCharBoundary bytes n) same (IsCharBoundary-before_ascii bytes (line_stop bytes at) l (small (get_or bytes (line_stop bytes at) 0) (h.ending l)))
-            | inr l ↦ subst (λ (n : ℕ). IsCharBoundary bytes n) (omega (arith, l, h.within, same)) (IsCharBoundary-end bytes)
-          ]
-    ]
+ink-end-boundary bytes at h = grind (arith, cases_lt, blank-small, small)
 
 len-cases : (b c : ℕ) (cs : List ℕ) → (line_ending_len b (c ∷ cs) ≡ 1) ⊎ ((line_ending_len b (c ∷ cs) ≡ 2) × (c ≡ line_feed))
-len-cases b c cs =
-    elim (cases_Bool (b == carriage_return && c == line_feed)) [
-      | inl h ↦ inr (len-two b c cs h, eqb-true c line_feed (and_parts (b == carriage_return) (c == line_feed) h).1)
-      | inr h ↦ inl (len-one b c cs h)
-    ]
+len-cases b c cs = grind (arith, cases_Bool, len-two, eqb-true, and_parts, len-one)
 
 end-boundary : (bytes : List ℕ) (at : ℕ) → IsUtf8 bytes → IsLineAt bytes at → line_stop bytes at < length bytes → IsCharBoundary bytes (line_end bytes at)
 end-boundary bytes at u h l =
@@ -257,8 +198,7 @@ record BeginWith (bytes : List ℕ) (at : ℕ) (pieces : List Piece) : Type 0 wh
   start : piece.start ≡ (first_ink bytes at, 0)
 
 begin-with : (bytes : List ℕ) (at : ℕ) (rest : List ℕ) → BeginWith bytes at (pieces_of_lines bytes (at ∷ rest))
-begin-with bytes at [] = record { piece = last_piece bytes at; more = []; parts = refl; start = refl }
-begin-with bytes at (x ∷ xs) = record { piece = line_piece bytes at; more = pieces_of_lines bytes (x ∷ xs); parts = refl; start = refl }
+begin-with bytes at rest = grind arith
 
 pair-is : (bytes : List ℕ) (piece next : Piece) (more : List Piece) → is_piece bytes piece ≡ true → are_pieces bytes (next ∷ more) ≡ true → ends_line (piece_codes (codes_of bytes) piece) ≡ true
     → is_at_or_after piece.end next.start ≡ true → is_one_line bytes piece.end next.start ≡ true → are_pieces bytes (piece ∷ next ∷ more) ≡ true
@@ -266,10 +206,7 @@ pair-is bytes piece next more a b c d e = rw (a, b, c, d, e) refl
 
 in-order : (bytes : List ℕ) (piece : Piece) (pieces : List Piece) (at : ℕ) → BeginWith bytes at pieces → is_piece bytes piece ≡ true → are_pieces bytes pieces ≡ true → ends_line (piece_codes (codes_of bytes) piece) ≡ true
     → is_at_or_after piece.end (first_ink bytes at, 0) ≡ true → is_one_line bytes piece.end (first_ink bytes at, 0) ≡ true → are_pieces bytes (piece ∷ pieces) ≡ true
-in-order bytes piece pieces at h a b c d e =
-    ap (λ (ps : List Piece). are_pieces bytes (piece ∷ ps)) h.parts
-    ∙ pair-is bytes piece h.piece h.more a (ap (are_pieces bytes) (sym h.parts) ∙ b) c
-    (ap (λ (x : ℕ × ℕ). is_at_or_after piece.end x) h.start ∙ d) (ap (λ (x : ℕ × ℕ). is_one_line bytes piece.end x) h.start ∙ e)
+in-order bytes piece pieces at h a b c d e = grind (arith, pair-is)
 
 -- between a line and the next there is no line ending
 one-line : (bytes : List ℕ) (at after : ℕ) → IsLineAt bytes at → IsLineAt bytes after → line_stop bytes at < length bytes → IsOnNextLine bytes at after
@@ -292,16 +229,11 @@ one-line bytes at after h k l n =
     (λ i a b. free i (omega (arith, a, low.index)) (omega (arith, b, high.index))))
 
 boundary-of : (bytes : List ℕ) (before : Option ℕ) (at : ℕ) → MayBegin bytes before at → IsCharBoundary bytes at
-boundary-of bytes None at h = h
-boundary-of bytes (Some b) at h = h.0
+boundary-of bytes before at h = grind arith
 
 -- a line that another follows has a line ending
 has-ending : (bytes : List ℕ) (at after : ℕ) → IsLineAt bytes at → IsLineAt bytes after → IsOnNextLine bytes at after → line_stop bytes at < length bytes
-has-ending bytes at after h k n =
-    elim (cases_lt (line_stop bytes at) (length bytes)) [
-      | inl l ↦ l
-      | inr l ↦ absurd (omega (arith, l, h.end_of_document l, n.0, k.later, k.first.within))
-    ]
+has-ending bytes at after h k n = grind (arith, cases_lt)
 
 line-text : (bytes : List ℕ) (before : Option ℕ) (at : ℕ) (rest : List ℕ) → IsUtf8 bytes → AreLinesBehind bytes before (at ∷ rest) → AreTextPieces bytes (pieces_of_lines bytes (at ∷ rest))
 line-text bytes before at [] u h =
@@ -330,8 +262,7 @@ line-text bytes before at (after ∷ rest) u h =
 
 -- codes of lines that are filled are those of a text
 text-codes : (cs : List Code) → has_no_blank_line false cs ≡ true → is_text_codes cs ≡ true
-text-codes [] h = refl
-text-codes (c ∷ cs) h = h
+text-codes cs h = grind arith
 
 pub lines_are_a_text : (bytes starts : List ℕ) → IsUtf8 bytes → length bytes ≤ document_limit → AreLines bytes starts → IsTextContent bytes (pieces_of_lines bytes starts)
 lines_are_a_text bytes [] u l h = record {

@@ -18,10 +18,7 @@ no_piece bytes starts = record { parts = refl }
 -- the first of some lines, where it is known whether it is the last
 one-by : (bytes : List ℕ) (at : ℕ) (rest : List ℕ) (b : Bool) → (b ≡ true → length rest ≡ 0) → (b ≡ false → 0 < length rest)
     → pieces_of_lines bytes (at ∷ rest) ≡ piece_of bytes at b ∷ pieces_of_lines bytes rest
-one-by bytes at [] true h k = refl
-one-by bytes at [] false h k = absurd (omega (arith, k refl))
-one-by bytes at (x ∷ xs) true h k = absurd (omega (arith, h refl))
-one-by bytes at (x ∷ xs) false h k = refl
+one-by bytes at rest b h k = grind arith
 
 one-more : (bytes starts : List ℕ) (number : ℕ) (b : Bool) → number < length starts → (number + 1 == length starts) ≡ b
     → pieces_of_lines bytes (drop number starts) ≡ piece_of bytes (get_or starts number 0) b ∷ pieces_of_lines bytes (drop (number + 1) starts)

@@ -5,8 +5,7 @@ use Rattle.markdown_lines.specs.PiecesOfLines.{AreLines, AreLinesBehind, AreLine
 use Rattle.markdown_lines.specs.declared.lines.LineFault.{LineFault}
 
 pub start_within : (bytes : List ℕ) (before : Option ℕ) (at : ℕ) → MayBegin bytes before at → at ≤ length bytes
-start_within bytes None at h = h.0
-start_within bytes (Some b) at h = h.0.0
+start_within bytes before at h = grind arith
 
 -- a line may begin here that is not blank
 pub record IsNextLine (bytes : List ℕ) (before : Option ℕ) (at : ℕ) : Type 0 where
@@ -32,15 +31,7 @@ none_yet bytes starts = record { lines = tt; last = refl; within = tt }
 
 pub one_more : (bytes starts : List ℕ) (number : ℕ) (before : Option ℕ) → number < length starts → AreChecked bytes starts number before
     → MayBegin bytes before (get_or starts number 0) → IsTrue (is_filled bytes (get_or starts number 0)) → AreChecked bytes starts (number + 1) (Some (get_or starts number 0))
-one_more bytes starts number before l h m f =
-    let at : ℕ = get_or starts number 0 in
-    let e : take (number + 1) starts ≡ take number starts ++ at ∷ [] = take_more starts number 0 l in
-    let next : IsNextLine bytes (last_behind None (take number starts)) at = record { may_begin = subst (λ (o : Option ℕ). MayBegin bytes o at) h.last m; filled = f } in
-    record {
-      lines = subst (λ (xs : List ℕ). AreLines bytes xs) (sym e) (lines-push bytes None (take number starts) at h.lines next);
-      last = sym (last-push None (take number starts) at) ∙ ap (last_behind None) (sym e);
-      within = start_within bytes before at m;
-    }
+one_more bytes starts number before l h m f = grind (arith, take_more starts number 0 l, lines-push bytes None (take number starts), last-push None (take number starts), start_within bytes before)
 
 pub all_checked : (bytes starts : List ℕ) (number : ℕ) (before : Option ℕ) → AreChecked bytes starts number before → length starts ≤ number → AreLines bytes starts
 all_checked bytes starts number before h l = subst (λ (xs : List ℕ). AreLines bytes xs) (take_all number starts l) h.lines
