@@ -31,7 +31,7 @@ use Rattle.markdown_run_text.specs.ReaderEnds.{ReadsWith, options_here}
 -- Marker by marker.
 
 pub marker-here : (m : ℕ) (o : Option ℕ) → is_some_value m o ≡ true → o ≡ Some m
-marker-here m x2 h = grind (arith, eqb-true)
+marker-here m o h = grind (arith, eqb-true)
 
 -- past a marker at the place
 pub run-goes : (m : ℕ) (p : Place) → is_some_value m (code_at p) ≡ true → past_run m p ≡ past_run m (moved p)

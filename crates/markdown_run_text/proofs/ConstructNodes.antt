@@ -41,10 +41,10 @@ own-quiet N.AttentionSequence e = cc
 own-quiet _ e = (refl, refl)
 
 leaf-no-escape : (name : Name) → is_leaf_name name ≡ true → is_escape name ≡ false
-leaf-no-escape x1 e = grind arith
+leaf-no-escape name e = grind arith
 
 group-no-ending : (name : Name) → is_group_name name ≡ true → is_ending name ≡ false
-group-no-ending x1 e = grind arith
+group-no-ending name e = grind arith
 
 leaves-quiet : (bytes : List ℕ) (t : Forest) → Leaves (IsOwnLeaf bytes) t → HasNoDataOrRuns t
 leaves-quiet bytes empty h = tt
@@ -88,7 +88,7 @@ IsRunElement (starts kind marker) = ⊥
 IsRunElement (ends marker outcome) = ⊥
 
 run-leaf : (cs : List Code) → AreMarkers cs → IsRunLeaf (leaf N.AttentionSequence cs)
-run-leaf x1 h = grind arith
+run-leaf cs h = grind arith
 
 attention_yields : (m : ℕ) → (m == 10) ≡ false → Yields IsRunElement (attention_run m)
 unfolding attention_run

@@ -23,7 +23,7 @@ each-join (c ∷ cs) t u = ap (leaf_then N.Data None (c ∷ [])) (each-join cs t
 
 leaf-join : (b : Bool) (name : Name) (link : Option Content) (cs : List Code) (t u : Forest) →
     cut_leaf b name link cs (t ⊕ u) ≡ cut_leaf b name link cs t ⊕ u
-leaf-join x1 name x3 cs t u = grind (arith, each-join)
+leaf-join b name link cs t u = grind (arith, each-join)
 
 pub split-join : (t u : Forest) → split (t ⊕ u) ≡ split t ⊕ split u
 split-join empty u = refl
@@ -60,7 +60,7 @@ merged-some (c ∷ cs) rest h = merged-each c cs rest
 leaf-split : (b : Bool) (name : Name) (link : Option Content) (cs : List Code) (rest more : Forest) → is_data name ≡ b →
     (b ≡ true → link ≡ None → cs ≢ []) → merged more ≡ merged rest →
     merged (cut_leaf b name link cs more) ≡ merged (leaf_then name link cs rest)
-leaf-split x1 name x3 cs rest more e h k = grind (arith, merged-some, merged-data, data-name, merged-linked, merged-other)
+leaf-split b name link cs rest more e h k = grind (arith, merged-some, merged-data, data-name, merged-linked, merged-other)
 
 -- how data is cut is no matter to merging
 pub merged-split : (t : Forest) → HasCodes t → merged (split t) ≡ merged t
@@ -76,7 +76,7 @@ each-split (c ∷ cs) t = ap (leaf_then N.Data None (c ∷ [])) (each-split cs t
 
 leaf-twice : (b : Bool) (name : Name) (link : Option Content) (cs : List Code) (t : Forest) → is_data name ≡ b →
     split (cut_leaf b name link cs t) ≡ cut_leaf b name link cs (split t)
-leaf-twice x1 name x3 cs t e = grind (arith, each-split)
+leaf-twice b name link cs t e = grind (arith, each-split)
 
 pub split-twice : (t : Forest) → split (split t) ≡ split t
 split-twice empty = refl

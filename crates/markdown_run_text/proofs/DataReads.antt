@@ -30,14 +30,14 @@ use Rattle.markdown_run_text.specs.TextStops.{reader_stops}
 
 -- the code at hand, by whether it is a line ending
 or-false : (b : Bool) → (b || false) ≡ b
-or-false x1 = grind arith
+or-false b = grind arith
 
 mark-value : (o : Option ℕ) → is_some_mark (codes "\n") o ≡ true → (v : ℕ) × ((o ≡ Some v) × ((v == 10) ≡ true))
-mark-value x1 h = grind (arith, or-false)
+mark-value o h = grind (arith, or-false)
 
 other-value : (o : Option ℕ) → IsSome o → is_some_mark (codes "\n") o ≡ false →
     (v : ℕ) × ((o ≡ Some v) × ((v == 10) ≡ false))
-other-value x1 some h = grind (arith, or-false)
+other-value o some h = grind (arith, or-false)
 
 module _ (whole : List Code) (literals : Bool) where
   abbrev stops : List Code → Bool
@@ -129,7 +129,7 @@ module _ (whole : List Code) (literals : Bool) where
   more-lines S T U g h line V k = grind (arith, EndsAs-same, more-here)
 
   nothing : (cs : List Code) → goes_past whole literals cs ≡ false → more_data stops cs ≡ Some (empty, cs)
-  nothing x1 h = grind (arith, more-stops, not-false)
+  nothing cs h = grind (arith, more-stops, not-false)
 
   pub last-line : (S T U : Tokenizer) → Continues S T → T.tokenize_state ≡ S.tokenize_state → Line T U →
       goes_past whole literals (ahead U) ≡ false → Reads (data_up_to stops) None S.tokenize_state S U
@@ -138,7 +138,7 @@ module _ (whole : List Code) (literals : Bool) where
       (subst (λ s. Reads (more_data stops) None s U U) (line.scratch ∙ e) (EndsAs-here (more_data stops) U (nothing (ahead U) h) true U (refl, refl))))
 
   code-from : (cs : List Code) (T : Tokenizer) → ahead T ≡ cs → goes_past whole literals cs ≡ true → HasCode T
-  code-from x1 T e h = grind (arith, code_at_ahead)
+  code-from cs T e h = grind (arith, code_at_ahead)
 
   -- what the reader of a line says of its codes holds of the content's
   pub on-past : (T U : Tokenizer) (on : Bool) → T.cursor.codes ≡ whole → Line T U → on ≡ goes_past U.cursor.codes literals (ahead U) →
@@ -162,4 +162,4 @@ ending-on literals T U e k = grind (arith, ending-place, ending-past)
 pub ending-tells : {E : Type 0} (literals : Bool) (T U : Tokenizer) (r : Result Bool E) → current_of T ≡ Some line_feed →
     OnOk r (U ≡ done ending T) → IfOk r (λ on. on ≡ goes_on literals (ahead U)) →
     IfOk r (λ on. on ≡ goes_past U.cursor.codes literals (ahead U))
-ending-tells x1 T U x4 e k h = grind (arith, ending-on)
+ending-tells literals T U r e k h = grind (arith, ending-on)

@@ -204,11 +204,11 @@ data-others source choice stops earlier previous (c ∷ cs) others =
 -- no escape stands before, past a code
 unescaped-leaf : (b : Bool) (c : Code) (earlier : List Element) →
     ends_escaped (plain (elim b as (λ _. Forest) [ true ↦ leaf N.LineEnding (c ∷ []) | false ↦ leaf N.Data (c ∷ []) ]) ∷ earlier) ≡ false
-unescaped-leaf x1 c earlier = grind arith
+unescaped-leaf b c earlier = grind arith
 
 unescaped-read : (source : Source) (e : Element) (c : Code) (earlier : List Element) → IsReadAs source e (plain (code_leaf c)) →
     ends_escaped (e ∷ earlier) ≡ false
-unescaped-read source e c earlier x5 = grind (arith, unescaped-leaf)
+unescaped-read source e c earlier h = grind (arith, unescaped-leaf)
 
 -- nor past elements that are read as data
 unescaped-past : (source : Source) (earlier es : List Element) (cs : List Code) → AreReadAs source es (leaf_elements cs) →
@@ -234,12 +234,12 @@ line-leaf b c cs e = ap (λ x. leaf_by x (c ∷ cs)) e
 unescaped-event : (b : Bool) (es : List Event) (n : ℕ) (c : Code) (cs : List Code) →
     follows_escape (es ++ appended_from n None (leaf_by b (c ∷ cs))) ≡ false
 unfolding leaf_by
-unescaped-event x1 es n c cs = grind (arith, follows-these es (event Kind.Enter N.LineEnding (start_of (c ∷ cs)) ∷ []) (event Kind.Exit N.LineEnding (stop_of document_start (c ∷ cs))), follows-these es (event Kind.Enter N.Data (start_of (c ∷ cs)) ∷ []) (event Kind.Exit N.Data (stop_of document_start (c ∷ cs))))
+unescaped-event b es n c cs = grind (arith, follows-these es (event Kind.Enter N.LineEnding (start_of (c ∷ cs)) ∷ []) (event Kind.Exit N.LineEnding (stop_of document_start (c ∷ cs))), follows-these es (event Kind.Enter N.Data (start_of (c ∷ cs)) ∷ []) (event Kind.Exit N.Data (stop_of document_start (c ∷ cs))))
 
 leaf-row : (b : Bool) (n : ℕ) (c : Code) (cs : List Code) (rest : Forest) →
     appended_from n None (leaf_by b (c ∷ cs) ⊕ rest) ≡ appended_from n None (leaf_by b (c ∷ cs)) ++ appended_from (n + 2) None rest
 unfolding leaf_by
-leaf-row x1 n c cs rest = grind arith
+leaf-row b n c cs rest = grind arith
 
 first-unescaped : (es : List Event) (n : ℕ) (c : Code) (cs : List Code) (ss : List (List Code)) →
     ((fs : List Event) → follows_escape fs ≡ false → follows_escape (fs ++ appended_from (n + 2) None (line_leaves N.Data ss)) ≡ false) →
@@ -278,10 +278,10 @@ any-one c e = ap (λ b. b || false) e
 lines-joined : (a b : Bool) (c d : Code) (ds : List Code) (more : List (List Code)) → is_line_ending c ≡ a →
     is_line_ending d ≡ b → AreOnLines ((d ∷ ds) ∷ more) →
     AreOnLines (elim (not (a || b) && ((true && true) || not (true || true))) [ true ↦ (c ∷ d ∷ ds) ∷ more | false ↦ (c ∷ []) ∷ (d ∷ ds) ∷ more ])
-lines-joined x1 b c d ds more e f h = grind (arith, any-one)
+lines-joined a b c d ds more e f h = grind (arith, any-one)
 
 lines-onto : (c : Code) (ss : List (List Code)) → AreOnLines ss → AreOnLines (onto_stretch (λ x. true) c ss)
-lines-onto c x2 h = grind (arith, any-one, lines-joined)
+lines-onto c ss h = grind (arith, any-one, lines-joined)
 
 are-lines : (cs : List Code) → AreOnLines (lines_of cs)
 are-lines [] = tt
@@ -290,7 +290,7 @@ are-lines (c ∷ cs) = lines-onto c (lines_of cs) (are-lines cs)
 HasLines-leaf : (b : Bool) (c : Code) (cs : List Code) → (b ≡ false → list_any is_line_ending (c ∷ cs) ≡ false) →
     HasRowLines (leaf_by b (c ∷ cs))
 unfolding leaf_by
-HasLines-leaf x1 c cs h = grind arith
+HasLines-leaf b c cs h = grind arith
 
 HasLines-stretches : (ss : List (List Code)) → AreOnLines ss → HasRowLines (line_leaves N.Data ss)
 HasLines-stretches [] h = tt
@@ -303,7 +303,7 @@ HasLines-lines cs = HasLines-stretches (lines_of cs) (are-lines cs)
 unlinked-leaf : (b : Bool) (n : ℕ) (c : Code) (cs : List Code) (rest : Forest) → is_line_ending c ≡ b →
     last_link (n + 2) None rest ≡ None → last_link n None (line_leaf N.Data None (c ∷ cs) ⊕ rest) ≡ None
 unfolding leaf_by
-unlinked-leaf x1 n c cs rest e h = grind (arith, line-leaf)
+unlinked-leaf b n c cs rest e h = grind (arith, line-leaf)
 
 unlinked-lines : (n : ℕ) (ss : List (List Code)) → last_link n None (line_leaves N.Data ss) ≡ None
 unlinked-lines n [] = refl
@@ -314,7 +314,7 @@ unlinked-lines n ((c ∷ cs) ∷ ss) = grind (arith, unlinked-leaf, unlinked-lin
 runless-leaf : (b : Bool) (c : Code) (cs : List Code) (rest : Forest) → is_line_ending c ≡ b → IsRunless rest →
     IsRunless (line_leaf N.Data None (c ∷ cs) ⊕ rest)
 unfolding leaf_by
-runless-leaf x1 c cs rest e h = grind (arith, line-leaf)
+runless-leaf b c cs rest e h = grind (arith, line-leaf)
 
 runless-lines : (ss : List (List Code)) → IsRunless (line_leaves N.Data ss)
 runless-lines [] = tt
@@ -338,7 +338,7 @@ data-alike cs = ap row_end (lines-cut cs) ∙ ap split_row (sym (leaves-row cs))
 
 code-has : (b : Bool) (c : Code) →
     HasCodes (elim b as (λ _. Forest) [ true ↦ leaf N.LineEnding (c ∷ []) | false ↦ leaf N.Data (c ∷ []) ])
-code-has x1 c = grind arith
+code-has b c = grind arith
 
 pub have-leaves : (cs : List Code) → HaveCodes (leaf_elements cs)
 unfolding leaf_elements
@@ -354,7 +354,7 @@ data-reads stops cs c xs t rest e h = grind (arith, both-parts)
 
 pub some-ahead : (T : Tokenizer) (cs : List Code) → ahead T ≡ cs → current_of T ≢ None →
     (c : Code) × ((xs : List Code) × (cs ≡ c ∷ xs))
-some-ahead T x2 e h = grind (arith, current-ahead)
+some-ahead T cs e h = grind (arith, current-ahead)
 
 pub fewer-left : (T U : Tokenizer) (ws : List Code) → 1 ≤ length ws → ahead T ≡ ws ++ ahead U →
     codes_left U < codes_left T
@@ -380,7 +380,7 @@ kept-tree t T U left earlier k = grind (arith, starts-plain earlier t T.events)
 -- the starts that no end has used are those before data
 read-starts : (source : Source) (e : Element) (c : Code) (earlier : List Element) → IsReadAs source e (plain (code_leaf c)) →
     unused_starts (e ∷ earlier) ≡ unused_starts earlier
-read-starts source e c earlier x5 = grind arith
+read-starts source e c earlier h = grind arith
 
 past-starts : (source : Source) (earlier es : List Element) (cs : List Code) → AreReadAs source es (leaf_elements cs) →
     unused_starts (past_elements earlier es) ≡ unused_starts earlier
@@ -488,7 +488,7 @@ data-advances choice stops T U c cs whole k first others =
 -- an escape is a group of that name
 named-escape : (name : Name) (a b : _) (inside rest : Forest) (earlier : List Element) →
     is_escape name ≡ ends_escaped (plain (group_then name a b inside rest) ∷ earlier)
-named-escape x1 a b inside rest earlier = grind arith
+named-escape name a b inside rest earlier = grind arith
 
 leaf-escaped : (es : List Event) (n : ℕ) (name : Name) (cs : List Code) →
     follows_escape (es ++ appended_from n None (leaf_then name None cs empty)) ≡ is_escape name

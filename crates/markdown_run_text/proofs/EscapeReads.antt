@@ -49,7 +49,7 @@ test-none : (p : Place) → ahead_at p ≡ [] → begins_escape p ≡ false
 test-none p e = ap (λ o. is_some_mark (codes "\\") o && is_some_punctuation (code_at (moved p))) (code_at_end p e)
 
 clash : {A : Type 0} → (b : Bool) → b ≡ true → b ≡ false → A
-clash x1 h k = grind arith
+clash b h k = grind arith
 
 module _ (T U : Tokenizer) (here : escapes_here T ≡ true) (appended : U ≡ done (opening ++ value) T) where
   reads-from : (cs : List Code) → ahead T ≡ cs → Reads (character_escape_here (options_here T)) None T.tokenize_state T U

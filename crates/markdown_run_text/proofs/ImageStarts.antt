@@ -36,15 +36,15 @@ third-at : (v : ℕ) (p : Place) → is_some_value v (code_at (moved (moved p)))
 third-at v p = second-at v (moved p) ∙ ap (λ cs. next_is (is_value v) (rest_of cs)) (ahead-moved p)
 
 pub some-value : (v : ℕ) (o : Option ℕ) → is_some_value v o ≡ true → is_some o ≡ true
-some-value v x2 e = grind arith
+some-value v o e = grind arith
 
 caret-is : (o : Option ℕ) → is_caret o ≡ is_some_value 94 o
-caret-is x1 = grind arith
+caret-is o = grind arith
 
 -- Where a start stands.
 
 sorted : (a b c d : Bool) → a && ((b && c) && d) ≡ (a && b) && (c && d)
-sorted x1 b c d = grind arith
+sorted a b c d = grind arith
 
 pub image-here : (T : Tokenizer) → image_here T ≡ image_test T (ahead T)
 image-here T = grind (arith, sorted, first-at, second-at, third-at)

@@ -49,10 +49,10 @@ before-ahead p c cs e =
 -- Underscores between letters or digits.
 
 tested : (o : Option Code) → is_some_alphanumeric (value_of o) ≡ is_some_code is_alphanumeric o
-tested x1 = grind arith
+tested o = grind arith
 
 code-first : (p : Place) (cs : List Code) → ahead_at p ≡ cs → code_at p ≡ value_of (first_code cs)
-code-first p x2 e = grind (arith, code_at_end, code_at_ahead)
+code-first p cs e = grind (arith, code_at_end, code_at_ahead)
 
 -- an inner underscore is at the place
 abbrev inner_at : Place → Bool
@@ -77,16 +77,16 @@ inner-here p = by_codes (ahead_at p) refl
 -- Where the reader stops.
 
 without : (line stop inner : Bool) → (line || stop) ≡ false → (line || (stop && not inner)) ≡ false
-without x1 stop inner e = grind arith
+without line stop inner e = grind arith
 
 other : (line stop inner : Bool) → (line || stop) ≡ true → inner ≡ false → (line || (stop && not inner)) ≡ true
-other x1 stop inner e f = grind arith
+other line stop inner e f = grind arith
 
 stays : (stop inner : Bool) → inner ≡ false → not stop ≡ not (stop && not inner)
-stays stop x2 e = grind arith
+stays stop inner e = grind arith
 
 passes : (line stop inner : Bool) → line ≡ false → inner ≡ true → (line || (stop && not inner)) ≡ false
-passes x1 stop inner e f = grind arith
+passes line stop inner e f = grind arith
 
 module _ (whole : List Code) (literals : Bool) where
   abbrev ends : List Code → Bool
@@ -134,18 +134,18 @@ module _ (whole : List Code) (literals : Bool) where
   -- and from behind an inner underscore
   inner-past-from : (cs : List Code) (p : Place) → ahead_at p ≡ cs → is_inner_underscore whole cs ≡ true →
       inner_from p ≡ inner_from (moved p)
-  inner-past-from x1 p e h = grind (arith, eqb-true, and_parts, inner-go, passes)
+  inner-past-from cs p e h = grind (arith, eqb-true, and_parts, inner-go, passes)
 
   pub goes-from : (cs : List Code) → is_inner_underscore whole cs ≡ false → goes_on literals cs ≡ goes_past whole literals cs
-  goes-from x1 h = grind (arith, stays)
+  goes-from cs h = grind (arith, stays)
 
 -- some code is where such an underscore is
 some-from : (whole : List Code) (cs : List Code) (p : Place) → ahead_at p ≡ cs → is_inner_underscore whole cs ≡ true →
     IsSome (code_at p)
-some-from whole x2 p e h = grind (arith, code_at_ahead)
+some-from whole cs p e h = grind (arith, code_at_ahead)
 
 rest-less : {A : Type 0} (xs : List A) → length (rest_of xs) ≤ length xs
-rest-less x1 = grind arith
+rest-less xs = grind arith
 
 left-by : (cs : List Code) (p : Place) → length (ahead_at (moved_by cs p)) ≤ length (ahead_at p)
 left-by [] p = omega arith

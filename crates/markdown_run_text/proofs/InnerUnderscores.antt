@@ -53,7 +53,7 @@ no-punctuation v h = grind (arith, nat_tests)
 
 other-by : (space punctuation : Bool) → space ≡ false → punctuation ≡ false →
     is_other (elim space as (λ _. Kind) [ true ↦ Kind.Whitespace | false ↦ elim punctuation as (λ _. Kind) [ true ↦ Kind.Punctuation | false ↦ Kind.Other ] ]) ≡ true
-other-by x1 p e f = grind arith
+other-by space p e f = grind arith
 
 no-listed : (v : ℕ) → alphanumeric_value v ≡ true → ((v == 9 || (v == 10 || (v == 12 || v == 13))) || v == 32) ≡ false
 no-listed v h = grind (arith, nat_tests)
@@ -130,7 +130,7 @@ third (e ∷ front) b c d cs = third front b c d cs
 -- The codes beside it.
 
 or-true : (b : Bool) → (b || true) ≡ true
-or-true x1 = grind arith
+or-true b = grind arith
 
 and-both : (a b : Bool) → a ≡ true → b ≡ true → (a && b) ≡ true
 and-both a b h k = λ i. h i && k i
@@ -210,7 +210,7 @@ run-alone c cs e none =
     refl
 
 no-marker : (cs : List Code) → next_is is_alphanumeric cs ≡ true → next_is (is_value (byte "_")) cs ≡ false
-no-marker x1 h = grind (arith, nat_tests)
+no-marker cs h = grind (arith, nat_tests)
 
 underscore-leaf : (c : Code) → c.value ≡ byte "_" → code_leaf c ≡ leaf N.Data (c ∷ [])
 underscore-leaf c e = grind arith

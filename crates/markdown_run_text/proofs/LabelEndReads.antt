@@ -54,7 +54,7 @@ record TakesStart (l : Kept.LabelStart) : Type 0 where
 
 takes-by : (kind : LabelKind) (inactive : Bool) → takes_resource kind inactive ≡ true →
     ((not (is_image kind) && inactive) ≡ false) × ((is_footnote kind ≡ false) × (link_kind kind ≡ kind))
-takes-by x1 x2 h = grind (arith, not-true)
+takes-by kind inactive h = grind (arith, not-true)
 
 takes : (l : Kept.LabelStart) → takes_resource l.kind l.inactive ≡ true → TakesStart l
 takes l h = let p = takes-by l.kind l.inactive h in record { active = p.0; plain = p.1.0; same = p.1.1 }
@@ -62,7 +62,7 @@ takes l h = let p = takes-by l.kind l.inactive h in record { active = p.0; plain
 -- without a caret the kind is no part of what the label names itself
 itself-by : (kind : LabelKind) (s : Setting) (from to : ℕ) → is_footnote kind ≡ false →
     names_definition s kind (label_name s kind from to) ≡ names_itself s from to
-itself-by x1 s from to h = grind arith
+itself-by kind s from to h = grind arith
 
 -- the label of the last of these starts, whose `]` this is, is defined, if that is asked for
 abbrev pub AnswersBy : Tokenizer → Bool → Code → List Kept.LabelStart → Type 0
@@ -71,7 +71,7 @@ AnswersBy T asks x (l ∷ ls) = asks ≡ true → names_itself (setting_in T) (p
 
 -- nothing is asked of the label
 pub asks-nothing : (T : Tokenizer) (x : Code) (ls : List Kept.LabelStart) → AnswersBy T false x ls
-asks-nothing T x x3 = grind arith
+asks-nothing T x ls = grind arith
 
 module _ (T : Tokenizer) (asks : Bool) (read : Tokenizer → Tokenizer) (x : Code) (later : List Code) (on : is_on T ≡ true) (bracket : is_value 93 x ≡ true) (codes : ahead T ≡ x ∷ later) (k : EndFollows (setting_in T) asks read later) where
   -- past the end's own events

@@ -55,7 +55,7 @@ one-line : (c : Code) (v : ℕ) → c.value ≡ v → (v == 10) ≡ false → is
 one-line c v e k = ap (λ n. n == 10) e ∙ k
 
 no-endings : (a b : Bool) → a ≡ false → b ≡ false → (a || (b || false)) ≡ false
-no-endings x1 b e f = grind arith
+no-endings a b e f = grind arith
 
 pub link-past : (c : Code) (rest : List Code) (T U : Tokenizer) → ahead T ≡ c ∷ rest → c.value ≡ 91 →
     link_ends T true U → PastStart LabelKind.Link (c ∷ []) rest T U
@@ -82,7 +82,7 @@ abbrev IsOutcome : LabelKind → LabelKind × Forest → Type 0
 IsOutcome start o = ((o.0 ≡ start) ⊎ (o.0 ≡ link_kind start)) × IsRunless o.1
 
 call-kind : (start : LabelKind) (b : Bool) → is_footnote start && b ≡ true → LabelKind.GfmFootnote ≡ start
-call-kind x1 b e = grind arith
+call-kind start b e = grind arith
 
 outcome-is : (s : Setting) (start : LabelKind) (name : Option (List ℕ)) → Yields (IsOutcome start) (outcome s start name)
 unfolding outcome

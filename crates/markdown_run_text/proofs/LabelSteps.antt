@@ -143,7 +143,7 @@ pub start-moves : (kind : LabelKind) (marker : List Code) (T : Tokenizer) → Is
 start-moves kind marker T h = grind (arith, start-cursor, start-shape)
 
 some-marker : (marker : List Code) → 1 ≤ length marker → marker ≢ []
-some-marker x1 h = grind arith
+some-marker marker h = grind arith
 
 -- past the start of a label
 pub start-advances : (choice : Choice) (kind : LabelKind) (marker : List Code) (T U : Tokenizer) → IsStartMarker kind marker → U ≡ past_mark (begins kind marker) T → ahead T ≡ marker ++ ahead U
@@ -153,11 +153,11 @@ start-advances choice kind marker T U is left whole finds = grind (arith, start-
 -- Ends that make a label.
 
 none-barred : (b : Bool) → ◌≡◌ {A = List Kept.LabelStart} [] (if b then [] else [])
-none-barred x1 = grind arith
+none-barred b = grind arith
 
 made-starts : (kind : LabelKind) (ls : List Kept.LabelStart) (n : ℕ) (s : TokenizeState) →
     s.label_starts ≡ with_kind kind ls → (labelled (with_kind kind ls) n s).label_starts ≡ barred_by kind (rest_of ls)
-made-starts kind x2 n s e = grind (arith, none-barred)
+made-starts kind ls n s e = grind (arith, none-barred)
 
 pub end-events : (back : List Code) (kind : LabelKind) (tail : Forest) (T : Tokenizer)
     → (end_made back kind tail T).events ≡ T.events ++ (appended_from (length T.events) None (end_tree back) ++ appended_from (length (T.events ++ appended_from (length T.events) None (end_tree back))) None tail)
@@ -214,7 +214,7 @@ end-advances choice T U k is finds = grind (arith, some-back k.back is.code (lea
 
 lost-fields : (ls : List Kept.LabelStart) (s : TokenizeState) → s.label_starts ≡ ls →
     (lost_by ls s).label_starts ≡ rest_of ls
-lost-fields x1 s e = grind (arith, rest-lost)
+lost-fields ls s e = grind (arith, rest-lost)
 
 pub lost-starts : (T : Tokenizer) →
     (past_mark loses T).tokenize_state.label_starts ≡ rest_of T.tokenize_state.label_starts

@@ -87,11 +87,11 @@ module _ (K : Forest → Forest → Type 0) (same : (t : Forest) → K t t) (tra
   data-alike m x y h = rows (leaf N.Data m) (leaf N.Data m) x y (itself (leaf N.Data m)) h
 
   wrapped-alike : (m : List Code) (x y : Forest) (end : End) → InRows x y → InRows (wrapped m x end) (wrapped m y end)
-  wrapped-alike m x y x4 h = grind (arith, data-alike, rows, itself, label-alike)
+  wrapped-alike m x y end h = grind (arith, data-alike, rows, itself, label-alike)
 
   opened-alike : (m : List Code) (x y : Forest) (more others : List (End × Forest)) → InRows x y → EndsAlike more others →
       Alike (opened m x more) (opened m y others)
-  opened-alike m x y x4 x5 h k = grind (arith, data-alike, rows, wrapped-alike)
+  opened-alike m x y more others h k = grind (arith, data-alike, rows, wrapped-alike)
 
   finish-alike : (more others : List (End × Forest)) → EndsAlike more others → InRows (finish more) (finish others)
   finish-alike [] [] k = itself empty

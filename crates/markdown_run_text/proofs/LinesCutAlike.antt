@@ -14,7 +14,7 @@ alone c more = grind arith
 -- one more code before the stretches
 onto-cut : (c : Code) (ss : List (List Code)) →
     split (line_leaves N.Data (onto_stretch (λ x. true) c ss)) ≡ split (code_leaf c ⊕ line_leaves N.Data ss)
-onto-cut c x2 = grind (arith, alone)
+onto-cut c ss = grind (arith, alone)
 
 pub lines-cut : (cs : List Code) → split (line_leaves N.Data (lines_of cs)) ≡ split (code_leaves cs)
 lines-cut [] = refl

@@ -144,7 +144,7 @@ shut_by here there u other e f g = grind (arith, and-false)
 
 -- a character that stands in the content is read by all rules
 kept : (on has : Bool) (x : Option ℕ) → has ≡ true → (if on && not has then None else x) ≡ x
-kept x1 has x h = grind arith
+kept on has x h = grind arith
 
 -- an underscore between two characters of class other, as letters and digits are
 pub intraword-neutral : (s : Setting) (c : Code) → IsIntraword (record { bytes = s.bytes; content = s.content }) c → c.stop.index ≡ c.start.index + 1 →

@@ -11,4 +11,4 @@ kinds_in ls = map (λ (l : Kept.LabelStart). l.kind) ls
 -- an end that fails takes the last of them
 
 pub rest-lost : (ls : List Kept.LabelStart) → rest_of (lost_starts ls) ≡ rest_of ls
-rest-lost x1 = grind arith
+rest-lost ls = grind arith

@@ -23,13 +23,13 @@ IsClosedIn (none_waits b) = IsClosed b
 IsClosedIn (waits o f inside) = IsClosedIn o × IsClosed inside
 
 pub assembled-put : (c : Brackets) (o : Opened) → assembled (put c o) ≡ behind (assembled o) c
-assembled-put c x2 = grind (arith, waiting-behind)
+assembled-put c o = grind (arith, waiting-behind)
 
 pub kinds-put : (c : Brackets) (o : Opened) → kinds_in (put c o) ≡ kinds_in o
-kinds-put c x2 = grind arith
+kinds-put c o = grind arith
 
 pub closed-put : (c : Brackets) (o : Opened) → IsClosed c → IsClosedIn o → IsClosedIn (put c o)
-closed-put c x2 h k = grind (arith, closed-behind)
+closed-put c o h k = grind (arith, closed-behind)
 
 -- A start.
 
@@ -52,23 +52,23 @@ begins-as LabelKind.GfmUndefinedFootnote marker h = absurd h
 -- A label.
 
 made-start : (kind : LabelKind) (f : Front) → start_row (made_front kind f) ≡ start_row f
-made-start x1 f = grind arith
+made-start kind f = grind arith
 
 made-codes : (kind : LabelKind) (f : Front) → codes_of (made_front kind f) ≡ codes_of f
-made-codes x1 f = grind arith
+made-codes kind f = grind arith
 
 made-last : (kind : LabelKind) (f : Front) → last_of (made_front kind f) ≡ last_of f
-made-last x1 f = grind arith
+made-last kind f = grind arith
 
 own-kind : (f : Front) → kind_of f ≡ kind_of (made_front (kind_of f) f)
-own-kind x1 = grind arith
+own-kind f = grind arith
 
 tried-kind : (f : Front) → link_kind (kind_of f) ≡ kind_of (made_front (link_kind (kind_of f)) f)
-tried-kind x1 = grind arith
+tried-kind f = grind arith
 
 made-kind : (kind : LabelKind) (f : Front) → (kind ≡ kind_of f) ⊎ (kind ≡ link_kind (kind_of f)) →
     kind ≡ kind_of (made_front kind f)
-made-kind kind f x3 = grind (arith, own-kind, tried-kind)
+made-kind kind f h = grind (arith, own-kind, tried-kind)
 
 tail-is : (t : Forest) → IsTail t → t ≡ tail_row (tail_of t)
 tail-is empty h = refl

@@ -91,7 +91,7 @@ whole-tree (none_waits b) = refl
 whole-tree (waits o f inside) = grind (arith, grouped-behind, whole-tree o)
 
 tree-put : (c : Brackets) (t : Forest) (o : Opened) → grouped c ≡ t → tree_of (put c o) ≡ put_row t (tree_of o)
-tree-put c t x3 e = grind (arith, grouped-behind)
+tree-put c t o e = grind (arith, grouped-behind)
 
 tree-marked : (mark : Mark) (o : Opened) → IsMarkAt (kinds_in o) mark →
     tree_of (marked_with mark o) ≡ marked_row mark (tree_of o)

@@ -28,14 +28,14 @@ use Rattle.markdown_content.proofs.TreeCodes.{leaf_codes-row}
 -- Rows without runs.
 
 rest-runless : (t : Forest) (r : Row) → row_has_run (tree_onto t r) ≡ false → (has_run t ≡ false) × (row_has_run r ≡ false)
-rest-runless t x2 h = grind (arith, or_parts, has_run-row)
+rest-runless t r h = grind (arith, or_parts, has_run-row)
 
 behind-runless : (e : Element) (r : Row) → row_has_run (element_onto e r) ≡ false → row_has_run r ≡ false
-behind-runless x1 r h = grind (arith, rest-runless)
+behind-runless e r h = grind (arith, rest-runless)
 
 module _ (source : Source) where
   itself : (e f : Element) (r : Row) → IsReadAs source e f → row_has_run (element_onto e r) ≡ false → f ≡ e
-  itself e f r x4 h = grind (arith, rest-runless)
+  itself e f r k h = grind (arith, rest-runless)
 
   -- where no run is among the elements, they are read as themselves
   pub read-runless : (elements read : List Element) → AreReadAs source elements read → row_has_run (row_of_elements elements) ≡ false →
@@ -48,7 +48,7 @@ module _ (source : Source) where
   -- Sound elements.
 
   sound-element : (e f : Element) → IsReadAs source e f → IsElementRead source.bytes e → IsElementRead source.bytes f
-  sound-element e f x3 h = grind (arith, good-leaf)
+  sound-element e f k h = grind (arith, good-leaf)
 
   sound-read : (elements read : List Element) → AreReadAs source elements read → AllAre (IsElementRead source.bytes) elements →
       AllAre (IsElementRead source.bytes) read

@@ -20,7 +20,7 @@ has-join (leaf_then name link cs rest) u g h = (g.0, has-join rest u g.1 h)
 has-join (group_then name a b inside rest) u g h = (g.0, has-join rest u g.1 h)
 
 pub has-leaf : (name : Name) (cs : List Code) → HasCodes (leaf name cs)
-has-leaf name x2 = grind arith
+has-leaf name cs = grind arith
 
 abbrev AllHaveCodes : List Forest → Type 0
 AllHaveCodes [] = Unit {0}
@@ -57,7 +57,7 @@ pair-has front inside back h = grind (arith, has-join, has-leaf, has-joined)
 onto-has : (o : List Code) (inside : List Forest) (more : List (List Code × List Forest)) → AllHaveCodes inside →
     CutsHaveCodes more →
     AllHaveCodes (onto pair_group loose loose o inside more).0 × CutsHaveCodes (onto pair_group loose loose o inside more).1
-onto-has o inside x3 g h = grind (arith, has-leaf, all-append, pair-has)
+onto-has o inside more g h = grind (arith, has-leaf, all-append, pair-has)
 
 nest-has : (w : List Token) → WordHasCodes w →
     AllHaveCodes (nest pair_group loose loose w).0 × CutsHaveCodes (nest pair_group loose loose w).1

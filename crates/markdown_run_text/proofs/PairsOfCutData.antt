@@ -70,7 +70,7 @@ joined-append (t ∷ a) b = ap (λ x. t ⊕ x) (joined-append a b) ∙ sym (row-
 
 opened-is : (o : List Code) (inside : List Forest) (more : List (List Code × List Forest)) →
     opened o (split (joined inside)) (cuts more) ≡ (split (joined (onto pair_group loose loose o inside more).0), cuts (onto pair_group loose loose o inside more).1)
-opened-is o inside x3 = grind (arith, split-join, around-same)
+opened-is o inside more = grind (arith, split-join, around-same)
 
 pub cut_nest-is : (w : List Token) → cut_nest w ≡ (split (joined (found w).0), cuts (found w).1)
 cut_nest-is [] = refl

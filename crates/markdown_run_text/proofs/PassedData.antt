@@ -30,7 +30,7 @@ module _ (literals : Bool) where
   ends cs = ends_stretch (text_stops literals) cs
 
   stop-by : (cs : List Code) (p : Place) → ahead_at p ≡ cs → ends cs ≡ true → past_data literals p ≡ p
-  stop-by x1 p e h = grind (arith, until-stops)
+  stop-by cs p e h = grind (arith, until-stops)
 
   pub data-stops : (p : Place) → ends (ahead_at p) ≡ true → past_data literals p ≡ p
   data-stops p h = stop-by (ahead_at p) p refl h
@@ -45,7 +45,7 @@ module _ (literals : Bool) where
 -- Where no literal is on, a stretch.
 
 or-false : (b : Bool) → (b || false) ≡ b
-or-false x1 = grind arith
+or-false b = grind arith
 
 ends-plain : (c : Code) (cs : List Code) → ends false (c ∷ cs) ≡ stops plain_markers c.value
 ends-plain c cs = ap (λ b. is_line_ending c || b) (or-false (is_among plain_markers c))
@@ -105,7 +105,7 @@ end-from ms (c ∷ cs) p e = grind (arith, ahead_moved, past-one, past-none, end
 
 -- a code that stops, and is no sign, is a line ending or a marker
 without : (a b s x : Bool) → (a || (b || s)) ≡ true → s ≡ false → (a || (b || x)) ≡ true
-without x1 b s x e f = grind arith
+without a b s x e f = grind arith
 
 -- Behind a stretch that ends at no sign of words.
 
@@ -146,20 +146,20 @@ module _ (p q : Place) (end : q ≡ stretch_end p) (none : sign_at q ≡ false) 
 -- Code by code.
 
 both-false : (a b : Bool) → (not (a || false) && not b) ≡ false → (a || b) ≡ true
-both-false x1 b e = grind arith
+both-false a b e = grind arith
 
 both-true : (a b : Bool) → (not (a || false) && not b) ≡ true → (a || b) ≡ false
-both-true x1 b e = grind arith
+both-true a b e = grind arith
 
 nowhere : (b : Bool) → (b && false) ≡ true → ⊥
-nowhere x1 e = grind arith
+nowhere b e = grind arith
 
 -- a line ending is at the place
 abbrev at_ending : Place → Bool
 at_ending p = is_some_mark (codes "\n") (code_at p)
 
 line-stops-from : (cs : List Code) (p : Place) → ahead_at p ≡ cs → not (at_ending p) && goes_on true cs ≡ false → past_data true p ≡ p
-line-stops-from x1 p e h = grind (arith, data-ends, code_at_end, code_at_ahead, data-stops, both-false)
+line-stops-from cs p e h = grind (arith, data-ends, code_at_end, code_at_ahead, data-stops, both-false)
 
 pub line-stops : (p : Place) → goes_in_line p ≡ false → past_data true p ≡ p
 line-stops p h = line-stops-from (ahead_at p) p refl h
@@ -171,7 +171,7 @@ pub record OneCode (p : Place) : Type 0 where
   pub left : length (ahead_at (moved p)) + 1 ≡ length (ahead_at p)
 
 line-goes-from : (cs : List Code) (p : Place) → ahead_at p ≡ cs → not (at_ending p) && goes_on true cs ≡ true → OneCode p
-line-goes-from x1 p e h = grind (arith, nowhere, code_at_ahead, data-goes, both-true, left_moved)
+line-goes-from cs p e h = grind (arith, nowhere, code_at_ahead, data-goes, both-true, left_moved)
 
 pub line-goes : (p : Place) → goes_in_line p ≡ true → OneCode p
 line-goes p h = line-goes-from (ahead_at p) p refl h
@@ -186,27 +186,27 @@ goes-some literals p v e = grind (arith, ahead_some p v)
 
 -- a sign in a word of literals is a sign
 no-sign : (before here next : Option ℕ) → is_some_mark signs here ≡ false → holds_sign before here next ≡ false
-no-sign before x2 next h = grind arith
+no-sign before here next h = grind arith
 
 -- What ends a line that is passed at once.
 
 neither : (a b : Bool) → b ≡ false → (a && b) ≡ false
-neither x1 b e = grind arith
+neither a b e = grind arith
 
 -- data goes on at a line ending
 ending-goes : (literals : Bool) (p : Place) → code_at p ≡ Some line_feed → goes_on literals (ahead_at p) ≡ true
 ending-goes literals p e = grind (arith, goes-some literals p line_feed, or_from, neither literals (begins_word (ahead_at p)), no-first p)
 
 second : (a b : Bool) → (a || b) ≡ true → a ≡ false → b ≡ true
-second x1 b e f = grind arith
+second a b e f = grind arith
 
 first : (a b : Bool) → (a || b) ≡ true → b ≡ false → a ≡ true
-first x1 b e f = grind arith
+first a b e f = grind arith
 
 -- a code that stops, and is no line ending and no sign, is a marker
 marked : (literals : Bool) (v : ℕ) → stops (line_stops literals) v ≡ true → (v == line_feed) ≡ false → list_any (λ n. v == n) signs ≡ false →
     list_any (λ n. v == n) plain_markers ≡ true
-marked x1 v h line none = grind (arith, second, first, list_any-append)
+marked literals v h line none = grind (arith, second, first, list_any-append)
 
 -- where a code stops that is no sign, data goes on at a line ending alone
 goes-behind : (literals : Bool) (q : Place) → is_free (line_stops literals) (code_at q) ≡ false →
@@ -240,7 +240,7 @@ line-passed false p q end none = end ∙ plain-stretch p
 -- data goes on past a sign in no word
 pub sign-passed : (literals : Bool) (p q : Place) → literals ≡ true → q ≡ past_stretch (line_stops literals) p →
     is_some_mark signs (code_at q) ≡ true → sign_at q ≡ false → past_data literals (moved q) ≡ past_data literals p
-sign-passed x1 p q on end is none = grind (arith, sign-goes, part-past)
+sign-passed literals p q on end is none = grind (arith, sign-goes, part-past)
 
 -- fewer codes are left behind a sign that stands at the end of a stretch
 pub fewer-behind : (p q : Place) → q ≡ stretch_end p → is_some_mark signs (code_at q) ≡ true →
@@ -255,7 +255,7 @@ pub record PartEnds (p r : Place) (found : Bool) : Type 0 where
 
 pub part-ends : (p q r : Place) (found : Bool) → q ≡ stretch_end p → sign_at q ≡ false → found ≡ is_some_mark signs (code_at q) →
     (found ≡ true → r ≡ moved q) → (found ≡ false → r ≡ q) → PartEnds p r found
-part-ends p q r x4 end none is goes stays = grind (arith, sign-goes, part-past, fewer-behind, other-stops)
+part-ends p q r found end none is goes stays = grind (arith, sign-goes, part-past, fewer-behind, other-stops)
 
 -- a reader of a part that finds no sign behind the stretch, and one that goes past a sign in no word
 pub part-stops : (p q : Place) → q ≡ stretch_end p → is_some_mark signs (code_at q) ≡ false → PartEnds p q false

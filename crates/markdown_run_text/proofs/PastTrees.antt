@@ -18,7 +18,7 @@ use Rattle.markdown_run_text.specs.Row.{passes_after, past_tree}
 -- Whether a run stands in a row.
 
 pub or-apart : (a b c : Bool) → (a || (b || c)) ≡ ((a || b) || c)
-or-apart x1 b c = grind arith
+or-apart a b c = grind arith
 
 pub has_run-row : (t u : Forest) → has_run (t ⊕ u) ≡ (has_run t || has_run u)
 has_run-row empty u = refl
@@ -31,7 +31,7 @@ quiet-runless (leaf_then name link cs rest) h = (h.1.0, quiet-runless rest h.1.1
 quiet-runless (group_then name enter exit inside rest) h = (quiet-runless inside h.1.0, quiet-runless rest h.1.1)
 
 pub leaf-runless : (name : Name) (cs : List Code) → is_run name ≡ false → IsRunless (leaf name cs)
-leaf-runless name x2 e = grind arith
+leaf-runless name cs e = grind arith
 
 pub runless-no-run : (t : Forest) → IsRunless t → has_run t ≡ false
 runless-no-run empty h = refl
@@ -68,13 +68,13 @@ registered-last (n ∷ ns) = grind (arith, or_right, registered-last ns)
 
 once : (b : Bool) (ns : List ResolveName) → is_registered R.Attention ns ≡ b →
     is_registered R.Attention (if b then ns else ns ++ R.Attention ∷ []) ≡ true
-once x1 ns e = grind (arith, registered-last)
+once b ns e = grind (arith, registered-last)
 
 stays : (ns : List ResolveName) → is_registered R.Attention ns ≡ true → passes_after true ns ≡ ns
 stays ns e = ap (λ b. if b then ns else ns ++ R.Attention ∷ []) e
 
 passes-both : (a b : Bool) (ns : List ResolveName) → passes_after b (passes_after a ns) ≡ passes_after (a || b) ns
-passes-both x1 b ns = grind (arith, stays, once)
+passes-both a b ns = grind (arith, stays, once)
 
 -- Past a tree.
 
@@ -94,7 +94,7 @@ past_tree-empty T = sym (past-empty None T) ∙ past_tree-without empty T refl
 -- the pass of runs is registered past a run
 registers : (b : Bool) (T : Tokenizer) (ns : List ResolveName) →
     (if b then T else record T { resolvers = T.resolvers ++ R.Attention ∷ [] }) ≡ record T { resolvers = if b then T.resolvers else T.resolvers ++ R.Attention ∷ [] }
-registers x1 T ns = grind arith
+registers b T ns = grind arith
 
 pub past_tree-with : (t : Forest) (T : Tokenizer) → has_run t ≡ true →
     registered R.Attention (past None t T) ≡ past_tree t T
@@ -102,7 +102,7 @@ unfolding past past_tree registered
 past_tree-with t T e = grind (arith, registers)
 
 registered-ahead : (b : Bool) (T U : Tokenizer) → ahead U ≡ ahead T → ahead (if b then T else U) ≡ ahead T
-registered-ahead x1 T U e = grind arith
+registered-ahead b T U e = grind arith
 
 pub ahead-registered : (n : ResolveName) (T : Tokenizer) → ahead (registered n T) ≡ ahead T
 unfolding registered

@@ -221,11 +221,11 @@ module _ (T : Tokenizer) (ready : LabelEndStartReady T) (here : is_some_value 93
 
 refers-full : (T : Tokenizer) (o : Option ℕ) → is_some_value 91 o ≡ true → refers_by o T ≡ true →
     names_at (setting_in T) (moved (moved T.cursor)) ≡ true
-refers-full T x2 h k = grind (arith, if-true)
+refers-full T o h k = grind (arith, if-true)
 
 refers-own : (T : Tokenizer) (o : Option ℕ) → is_some_value 91 o ≡ false → refers_by o T ≡ true →
     (is_some_value 40 o ≡ false) × (is_named T.tokenize_state.label_starts T ≡ true)
-refers-own T x2 h k = grind (arith, if-false, not-true, and-left, and-right)
+refers-own T o h k = grind (arith, if-false, not-true, and-left, and-right)
 
 full-here : (T : Tokenizer) → is_some_value 91 (code_at (moved T.cursor)) ≡ true → names_at (setting_in T) (moved (moved T.cursor)) ≡ true →
     EndFollows (setting_in T) false reference_read (ahead_at (moved T.cursor))
@@ -240,7 +240,7 @@ full-here T front h =
     (sym (λ i. defines s (name_between s (k.from i).index (k.to i).index)) ∙ defined))
 
 own-answers : (T : Tokenizer) (x : Code) → point_of T.cursor ≡ x.start → (ls : List Kept.LabelStart) → is_named ls T ≡ true → AnswersBy T true x ls
-own-answers T x e x4 h = grind arith
+own-answers T x e k h = grind arith
 
 -- where one stands, it is read
 pub reference-ends : (T U : Tokenizer) → reference_here T ≡ true → U ≡ made_here (reference_read (done end_ops (ended T))) → Ends T U

@@ -219,7 +219,7 @@ module _ (f t : Code) (ts : List Code) (b : Code) (rest : List Code) (k : IsText
 
 -- a tab is a control
 no-tab : (v : ℕ) → is_between 1 31 v ≡ false → (b : Bool) → (v == 9) ≡ b → (v == 9) ≡ false
-no-tab v h x3 e = grind (arith, both_ways, same-value)
+no-tab v h k e = grind (arith, both_ways, same-value)
 
 -- a code that does not stop a destination without brackets
 record IsRawCode (c : Code) : Type 0 where
@@ -493,7 +493,7 @@ module _ (a : Code) (cs behind_it : List Code) (front : is_value 40 a ≡ true) 
 -- By what stands at the place.
 
 pub value-here : (n : ℕ) (o : Option ℕ) → is_some_value n o ≡ true → o ≡ Some n
-value-here n x2 h = grind (arith, eqb-true)
+value-here n o h = grind (arith, eqb-true)
 
 -- the code at the place has this value
 pub code-here : (n : ℕ) (p : Place) → is_some_value n (code_at p) ≡ true → IsAhead p n
@@ -505,7 +505,7 @@ pub record IsFreeOf (ms : List ℕ) (o : Option ℕ) : Type 0 where
   pub free : stops ms value ≡ false
 
 pub free-here : (ms : List ℕ) (o : Option ℕ) → is_free ms o ≡ true → IsFreeOf ms o
-free-here ms x2 h = grind (arith, not-true)
+free-here ms o h = grind (arith, not-true)
 
 -- text stands at the place
 pub record TextAt (ms : List ℕ) (p : Place) : Type 0 where
@@ -558,10 +558,10 @@ record IsBlank (o : Option ℕ) : Type 0 where
   blank : value == 32 || value == 9 ≡ true
 
 blank-here : (o : Option ℕ) → is_some_blank o ≡ true → IsBlank o
-blank-here x1 h = grind arith
+blank-here o h = grind arith
 
 or-true : (a : Bool) → (a || true) ≡ true
-or-true x1 = grind arith
+or-true a = grind arith
 
 tail-begins : (p : Place) → tail_at p ≡ true → BeginsTail p
 tail-begins p h = grind (arith, value-here, value-is, or-true, blank-here, and-left)
@@ -604,10 +604,10 @@ titled-some p v e blank quote close =
     (code-here 41 (past_between (title_stops v) (moved p)) close) b.blank (and-left (is_quote v) _ quote)
 
 quote-some : (o : Option ℕ) (q : Place) → quoted_at o q ≡ true → is_some o ≡ true
-quote-some x1 q h = grind arith
+quote-some o q h = grind arith
 
 value-of : (o : Option ℕ) → is_some o ≡ true → (v : ℕ) × (o ≡ Some v)
-value-of x1 h = grind arith
+value-of o h = grind arith
 
 titled-at : (p : Place) → title_at p ≡ true → closes_at (past_title p) ≡ true → IsResourceTail (ahead_at p)
 titled-at p h close = grind (arith, and-right, value-of, quote-some, titled-some, and-left)
@@ -674,7 +674,7 @@ target-state T = grind arith
 
 quoted-state : (o : Option ℕ) (T : Tokenizer) → (quoted_read o T).tokenize_state ≡ T.tokenize_state
 unfolding applied
-quoted-state x1 T = grind arith
+quoted-state o T = grind arith
 
 tail-state : (T : Tokenizer) → (tail_read T).tokenize_state ≡ T.tokenize_state
 unfolding applied

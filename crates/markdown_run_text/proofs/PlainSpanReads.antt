@@ -74,7 +74,7 @@ module _ (m : ℕ) (other : (m == 10) ≡ false) where
 
   -- text of spans, and the marker
   parts : (a b : Bool) → not (a || b) ≡ true → (a ≡ false) × (b ≡ false)
-  parts x1 b h = grind arith
+  parts a b h = grind arith
 
   text-parts : (c : Code) → is_text m c ≡ true → (is_line_ending c ≡ false) × (is_value m c ≡ false)
   text-parts c h = parts (is_line_ending c) (is_value m c) h
@@ -93,7 +93,7 @@ module _ (m : ℕ) (other : (m == 10) ≡ false) where
   -- the first stretch is a run
   stretches-run : (q : Code → Bool) → ((c d : Code) → q c ≡ true → joins (is_value m) c d ≡ q d) → (cs : List Code) (r : StretchRun q cs) →
       stretches (is_value m) cs ≡ (r.first ∷ r.others) ∷ stretches (is_value m) r.rest
-  stretches-run q agrees x3 r = grind (arith, stretch-span, span-takes)
+  stretches-run q agrees h r = grind (arith, stretch-span, span-takes)
 
   -- text from the first code on, and the run behind it
   closing-from : (n : ℕ) (cs : List Code) (t : StretchRun (is_text m) cs) (d : StretchRun (is_value m) t.rest) → length (d.first ∷ d.others) ≡ n →
@@ -133,7 +133,7 @@ module _ (m : ℕ) (other : (m == 10) ≡ false) (names : SpanNames) (cs : List 
 module _ (m : ℕ) where
   text-run : (cs : List Code) (n : ℕ) → next_is (is_value m) cs ≡ false → length (span (is_value m) (span (is_text m) cs).1).0 ≡ suc n →
       StretchRun (is_text m) cs
-  text-run x1 n h e = grind (arith, run-of, no-run, span-none)
+  text-run cs n h e = grind (arith, run-of, no-run, span-none)
 
   close-run : (cs : List Code) (front : StretchRun (is_value m) cs) (text : StretchRun (is_text m) front.rest) →
       length (span (is_value m) text.rest).0 ≡ length (front.first ∷ front.others) → IsPlainSpan m cs
@@ -210,7 +210,7 @@ no-line-before q free c (d ∷ ds) p e h k =
 
 within-line : (q : Code → Bool) → ((c : Code) → q c ≡ true → is_line_ending c ≡ false) → (cs : List Code) (p : Place) → ahead_at p ≡ cs →
     StretchRun q cs → code_before (moved_by (span q cs).0 p) ≡ Some line_feed → ⊥
-within-line q free x3 p e r k = grind (arith, no-line-before, span-takes)
+within-line q free h p e r k = grind (arith, no-line-before, span-takes)
 
 module _ (m : ℕ) (other : (m == 10) ≡ false) (T : Tokenizer) where
   abbrev P1 : Place
@@ -312,10 +312,10 @@ module _ (m : ℕ) (other : (m == 10) ≡ false) (T : Tokenizer) where
 -- By the marker.
 
 run-here : (p : Code → Bool) (cs : List Code) → next_is p cs ≡ true → StretchRun p cs
-run-here p x2 h = grind (arith, run-of)
+run-here p cs h = grind (arith, run-of)
 
 next-other : (m n : ℕ) (cs : List Code) → (m == n) ≡ false → next_is (is_value m) cs ≡ true → next_is (is_value n) cs ≡ false
-next-other m n x3 e h = grind (arith, other-value)
+next-other m n cs e h = grind (arith, other-value)
 
 next-here : (T : Tokenizer) (m : ℕ) → current_of T ≡ Some m → next_is (is_value m) (ahead T) ≡ true
 next-here T m e = let a : IsAhead T.cursor m = ahead_some T.cursor m e in ap (next_is (is_value m)) a.codes ∙ eq-eqb a.code.value m a.value
@@ -343,10 +343,10 @@ two-here : (m : ℕ) (p : Place) → code_at p ≡ Some m → code_at (moved p) 
 two-here m p e h = grind (arith, ahead_some p m, ahead_some (moved p) m, leading-more m, more-than-one (leading m (ahead_at (moved (moved p)))))
 
 or-so : (a b c : Bool) → a || b ≡ true → (b ≡ true → c ≡ true) → a || c ≡ true
-or-so x1 b c h k = grind arith
+or-so a b c h k = grind arith
 
 not-so : (b : Bool) → not b ≡ true → b ≡ false
-not-so x1 h = grind arith
+not-so b h = grind arith
 
 -- a span that is passed: where it begins, and where its text stands
 record SpanPassed (m : ℕ) (T : Tokenizer) (start from to : Point) : Type 0 where
@@ -391,7 +391,7 @@ module _ (T V : Tokenizer) (m : ℕ) (here : current_of T ≡ Some m) (begins : 
       ∙ or-so (single_dollar T) (is_some_value 36 (code_at (moved T.cursor))) (nat_lt 1 (leading 36 (ahead T))) long (λ h. two-here 36 T.cursor there (marker-here 36 (code_at (moved T.cursor)) h)))
 
   by-marker : (b : Bool) → (m == 96) ≡ b → Reads (span_at T) None T.tokenize_state T V
-  by-marker x1 e = grind (arith, by-code, by-math)
+  by-marker b e = grind (arith, by-code, by-math)
 
   passes-reads : Reads (span_at T) None T.tokenize_state T V
   passes-reads = by-marker (m == 96) refl

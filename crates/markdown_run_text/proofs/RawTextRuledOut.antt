@@ -12,7 +12,7 @@ use Rattle.markdown_notes.proofs.SequenceIndexLemmas.{right-made, ruled-out}
 use Rattle.markdown_run_text.specs.TextContent.{span_markers}
 
 neither : (a b : Bool) → ((a && true) || (b && true)) ≡ false → (a || (b || false)) ≡ false
-neither x1 b h = grind arith
+neither a b h = grind arith
 
 spans-absent : (cs : List Code) → last_where marks_span cs ≡ None →
     list_any (λ (c : Code). is_asked span_markers c.value) cs ≡ false

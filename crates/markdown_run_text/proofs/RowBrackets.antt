@@ -108,7 +108,7 @@ starts-marked [] = refl
 starts-marked (l ∷ ls) = ap (λ ns. l.start ∷ ns) (starts-marked ls)
 
 starts-barred : (b : Bool) (ls : List LabelStart) → starts_of (if b then ls else marked ls) ≡ starts_of ls
-starts-barred x1 ls = grind (arith, starts-marked)
+starts-barred b ls = grind (arith, starts-marked)
 
 first-of : (a b : ℕ × ℕ) (xs ys : List (ℕ × ℕ)) → a ∷ xs ≡ b ∷ ys → a ≡ b
 first-of a b xs ys e = cc
@@ -121,7 +121,7 @@ none-then x ns e = cc
 
 has-made : (kind : LabelKind) (x : ℕ × ℕ) (ns : List (ℕ × ℕ)) (n last : ℕ) (s : TokenizeState) (ls : List LabelStart) → starts_of ls ≡ x ∷ ns
     → HasMade kind x (n, last) ns s (with_label (with_kind kind ls) last (starts_set (with_kind kind ls) (ended_at n s)))
-has-made kind x ns n last s x7 e = grind (arith, none-then, first-of, starts-barred, rest-same)
+has-made kind x ns n last s ls e = grind (arith, none-then, first-of, starts-barred, rest-same)
 
 -- a start that waits as one with the same codes
 module _ (a : Brackets) (f g : Front) (inside : Brackets) (last : last_of g ≡ last_of f) where
@@ -176,11 +176,11 @@ starts-more (k ∷ ls) l = ap (λ ns. k.start ∷ ns) (starts-more ls l)
 
 has-lost-by : (b : Bool) (x : ℕ × ℕ) (ns : List (ℕ × ℕ)) (s : TokenizeState) (l : LabelStart) (ls : List LabelStart) → l.start ∷ starts_of ls ≡ x ∷ ns
     → HasLost x ns s (loosened (if b then l ∷ ls else as_link (l ∷ ls)) s)
-has-lost-by x1 x ns s l ls e = grind (arith, rest-same, starts-more, first-of)
+has-lost-by b x ns s l ls e = grind (arith, rest-same, starts-more, first-of)
 
 has-lost : (x : ℕ × ℕ) (ns : List (ℕ × ℕ)) (s : TokenizeState) (ls : List LabelStart) → starts_of ls ≡ x ∷ ns →
     HasLost x ns s (lost_by ls s)
-has-lost x ns s x4 e = grind (arith, none-then, has-lost-by)
+has-lost x ns s ls e = grind (arith, none-then, has-lost-by)
 
 -- and all of it
 loosened-step : (a : Brackets) (f : Front) (inside : Brackets) (T : Tokenizer) → IsApart a → IsApart inside → IsClosed inside → HasBrackets (waiting a f inside) T.tokenize_state T.events
@@ -212,7 +212,7 @@ put-step : (c : Brackets) (o : Opened) (U : Tokenizer) →
 put-step c o U h = subst (λ b. HasBrackets b U.tokenize_state U.events) (sym (assembled-put c o)) h
 
 lost-nothing : (ls : List LabelStart) (s : TokenizeState) → starts_of ls ≡ [] → lost_by ls s ≡ s
-lost-nothing x1 s e = grind (arith, none-then)
+lost-nothing ls s e = grind (arith, none-then)
 
 same-step : (b : Brackets) (T : Tokenizer) → HasOpened (none_waits b) T → HasOpened (none_waits b) (scratched T.tokenize_state T)
 unfolding scratched

@@ -35,7 +35,7 @@ whole-cut (outside u) = refl
 whole-cut (within o m x) = grind (arith, split-join, whole-cut o)
 
 put-cut : (t : Forest) (o : OpenTrees) → split_open (put_row t o) ≡ put_row (split t) (split_open o)
-put-cut t x2 = grind (arith, split-join)
+put-cut t o = grind (arith, split-join)
 
 abbrev cut_marked : Mark → OpenTrees → OpenTrees
 cut_marked (begins kind marker) o = within o marker empty

@@ -19,16 +19,16 @@ use Rattle.markdown_run_text.proofs.RowDataCut.{filled-alike}
 -- Rows.
 
 pub whole-put : (t : Forest) (o : OpenTrees) → whole (put_row t o) ≡ whole o ⊕ t
-whole-put t x2 = grind (arith, row-assoc)
+whole-put t o = grind (arith, row-assoc)
 
 put-empty : (o : OpenTrees) → put_row empty o ≡ o
-put-empty x1 = grind (arith, row-empty)
+put-empty o = grind (arith, row-empty)
 
 put-put : (t u : Forest) (o : OpenTrees) → put_row u (put_row t o) ≡ put_row (t ⊕ u) o
-put-put t u x3 = grind (arith, row-assoc)
+put-put t u o = grind (arith, row-assoc)
 
 filled-onto : (t : Forest) (r : Row) (o : OpenTrees) → filled (tree_onto t r) o ≡ filled r (put_row t o)
-filled-onto t x2 o = grind (arith, put-put)
+filled-onto t r o = grind (arith, put-put)
 
 -- Brackets in words, with trees in place of lists of trees.
 
@@ -64,11 +64,11 @@ joins (c ∷ more) = (c.0, joined c.1) ∷ joins more
 
 wrapped-is : (s : Start) (inside : List Forest) (end : End) →
     wrapped s.1 (joined inside) end ≡ joined (labelled s inside end)
-wrapped-is s inside x3 = grind (arith, row-empty, joined-append)
+wrapped-is s inside end = grind (arith, row-empty, joined-append)
 
 opened-is : (s : Start) (inside : List Forest) (more : List (End × List Forest))
     → opened s.1 (joined inside) (joins more) ≡ (joined (onto labelled loose_start loose_end s inside more).0, joins (onto labelled loose_start loose_end s inside more).1)
-opened-is s inside x3 = grind (arith, wrapped-is, joined-append)
+opened-is s inside more = grind (arith, wrapped-is, joined-append)
 
 read-is : (w : Word) → read w ≡ (joined (found w).0, joins (found w).1)
 read-is [] = refl
@@ -101,7 +101,7 @@ closed-end (within o m y) x = grind (arith, row-assoc, closed-end o (leaf N.Data
 
 closed-put : (t : Forest) (o : OpenTrees) (x : Forest) (more : List (End × Forest)) →
     closed o (t ⊕ x) more ≡ closed (put_row t o) x more
-closed-put t x2 x more = grind (arith, row-assoc)
+closed-put t o x more = grind (arith, row-assoc)
 
 closed-made : (m : List Code) (o : OpenTrees) (y : Forest) (back : List Code) (outcome : LabelKind × Forest) (x : Forest) (more : List (End × Forest))
     → closed (within o m y) empty (((back, Some outcome), x) ∷ more) ≡ closed (made_row back outcome.0 outcome.1 (within o m y)) x more
@@ -109,12 +109,12 @@ closed-made m o y back outcome x more = grind (arith, row-empty y, closed-put (l
 
 closed-lost : (o : OpenTrees) (back : List Code) (x : Forest) (more : List (End × Forest)) →
     closed o empty (((back, None), x) ∷ more) ≡ closed (put_row (leaf N.Data back) (lost_row o)) x more
-closed-lost x1 back x more = grind (arith, row-assoc, row-empty, closed-put, put-put)
+closed-lost o back x more = grind (arith, row-assoc, row-empty, closed-put, put-put)
 
 -- The marks of elements.
 
 marks-onto : (ks : List LabelKind) (t : Forest) (r : Row) → AreMarksAt ks (tree_onto t r) → AreMarksAt ks r
-marks-onto ks t x3 h = grind arith
+marks-onto ks t r h = grind arith
 
 element-read : (es : List Element) (ks : List LabelKind) (o : OpenTrees) → IsFor ks o → AreMarksAt ks (row_of_elements es) →
     closed o (read (word_of es)).0 (read (word_of es)).1 ≡ whole (filled (row_of_elements es) o)

@@ -61,10 +61,10 @@ tree-fields t T = refl
 
 labelled-fields : (kind : LabelKind) (ls : List Kept.LabelStart) (start : LabelKind) (ks : List LabelKind) (n m : ℕ) (s : TokenizeState) → kinds_in ls ≡ start ∷ ks → EndsRest s
     → (let u : TokenizeState = labelled (with_kind kind ls) n (record (record s { end = m }) { label_starts = with_kind kind ls }) in u ≡ relisted u s)
-labelled-fields kind x2 start ks n m s e k = grind arith
+labelled-fields kind ls start ks n m s e k = grind arith
 
 lost-relisted : (ls : List Kept.LabelStart) (s : TokenizeState) → EndsRest s → lost_by ls s ≡ relisted (lost_by ls s) s
-lost-relisted x1 s k = grind arith
+lost-relisted ls s k = grind arith
 
 mark-fields : (ks : List LabelKind) (mark : Mark) (T : Tokenizer) → kinds_of T ≡ ks → IsMarkAt ks mark →
     EndsRest T.tokenize_state →

@@ -49,17 +49,17 @@ codes-joined (row_then t mark rest) q =
 -- How rows are cut.
 
 pub split-onto : (t : Forest) (q : Row) → split_row (tree_onto t q) ≡ tree_onto (split t) (split_row q)
-split-onto t x2 = grind (arith, split-join)
+split-onto t q = grind (arith, split-join)
 
 pub split-joined : (r q : Row) → split_row (joined_rows r q) ≡ joined_rows (split_row r) (split_row q)
 split-joined (row_end t) q = split-onto t q
 split-joined (row_then t mark rest) q = ap (row_then (split t) mark) (split-joined rest q)
 
 pub onto-twice : (t u : Forest) (q : Row) → tree_onto t (tree_onto u q) ≡ tree_onto (t ⊕ u) q
-onto-twice t u x3 = grind (arith, row-assoc)
+onto-twice t u q = grind (arith, row-assoc)
 
 pub onto-joined : (t : Forest) (r q : Row) → joined_rows (tree_onto t r) q ≡ tree_onto t (joined_rows r q)
-onto-joined t x2 q = grind (arith, onto-twice)
+onto-joined t r q = grind (arith, onto-twice)
 
 -- Which rows runs leave.
 
@@ -71,7 +71,7 @@ pub part-row : (t u : Forest) → IsRowPart t → IsRowPart u → IsRowPart (t �
 part-row t u h k = grind (arith, HasLines-row, outer-row, row-apart)
 
 pub row-onto : (ks : List LabelKind) (t : Forest) (q : Row) → IsRowPart t → IsRowAt ks q → IsRowAt ks (tree_onto t q)
-row-onto ks t x3 h k = grind (arith, part-row)
+row-onto ks t q h k = grind (arith, part-row)
 
 pub row-joined : (ks : List LabelKind) (r q : Row) → IsRowAt ks r → IsRowAt (kinds_after r ks) q →
     IsRowAt ks (joined_rows r q)

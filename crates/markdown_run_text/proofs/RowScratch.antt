@@ -32,25 +32,25 @@ use Rattle.markdown_run_text.specs.RowStart.{IsFreshRow, IsPastCodes, registers,
 -- Passes.
 
 passes-tree : (a b r : Bool) → passes_after r (passes_of a b) ≡ passes_of a (b || r)
-passes-tree x1 x2 x3 = grind arith
+passes-tree a b r = grind arith
 
 -- with the pass of labels first, unless it is there
 abbrev with_labels : List ResolveName → List ResolveName
 with_labels ns = if is_registered R.Label ns then ns else R.Label ∷ ns
 
 passes-labels : (a b : Bool) → with_labels (passes_of a b) ≡ passes_of (a || true) b
-passes-labels x1 x2 = grind arith
+passes-labels a b = grind arith
 
 by-before : (b : Bool) (T : Tokenizer) →
     (if b then T else record T { resolvers = R.Label ∷ T.resolvers }) ≡ record T { resolvers = if b then T.resolvers else R.Label ∷ T.resolvers }
-by-before x1 T = grind arith
+by-before b T = grind arith
 
 before-is : (T : Tokenizer) → registered_before R.Label T ≡ record T { resolvers = with_labels T.resolvers }
 unfolding registered_before
 before-is T = by-before (is_registered R.Label T.resolvers) T
 
 or-nothing : (a : Bool) → a ≡ (a || false)
-or-nothing x1 = grind arith
+or-nothing a = grind arith
 
 -- Each step.
 
@@ -87,19 +87,19 @@ kinds-marked [] = refl
 kinds-marked (l ∷ ls) = ap (λ ks. l.kind ∷ ks) (kinds-marked ls)
 
 kinds-barred : (b : Bool) (ls : List LabelStart) → kinds (if b then ls else marked ls) ≡ kinds ls
-kinds-barred x1 ls = grind (arith, kinds-marked)
+kinds-barred b ls = grind (arith, kinds-marked)
 
 kinds-made : (kind : LabelKind) (ls : List LabelStart) (last n : ℕ) (s : TokenizeState) →
     kinds (labelled (with_kind kind ls) last (starts_set (with_kind kind ls) (ended_at n s))).label_starts ≡ rest_of (kinds ls)
-kinds-made kind x2 last n s = grind (arith, kinds-barred)
+kinds-made kind ls last n s = grind (arith, kinds-barred)
 
 kinds-lost-by : (b : Bool) (l : LabelStart) (ls : List LabelStart) (s : TokenizeState) →
     kinds (loosened (if b then l ∷ ls else as_link (l ∷ ls)) s).label_starts ≡ kinds ls
-kinds-lost-by x1 l ls s = grind arith
+kinds-lost-by b l ls s = grind arith
 
 kinds-lost : (s : TokenizeState) (ls : List LabelStart) → s.label_starts ≡ ls →
     kinds (lost_by ls s).label_starts ≡ rest_of (kinds ls)
-kinds-lost s x2 e = grind (arith, kinds-lost-by)
+kinds-lost s ls e = grind (arith, kinds-lost-by)
 
 pub kinds-mark : (mark : Mark) (T : Tokenizer) → kinds_of (past_mark mark T) ≡ kinds_past mark (kinds_of T)
 unfolding past past_mark scratched made end_made
@@ -157,10 +157,10 @@ record IsRested (s V : TokenizeState) : Type 0 where
 made-rests : (kind : LabelKind) (ls : List LabelStart) (k : LabelKind) (ks : List LabelKind) (last n : ℕ) (s : TokenizeState) →
     kinds ls ≡ k ∷ ks → s.end ≡ 0 → s.seen ≡ false →
     IsRested s (labelled (with_kind kind ls) last (starts_set (with_kind kind ls) (ended_at n s)))
-made-rests kind x2 k ks last n s e end seen = grind (arith, no-kinds)
+made-rests kind ls k ks last n s e end seen = grind (arith, no-kinds)
 
 lost-rests : (ls : List LabelStart) (s : TokenizeState) → s.end ≡ 0 → s.seen ≡ false → IsRested s (lost_by ls s)
-lost-rests x1 s end seen = grind arith
+lost-rests ls s end seen = grind arith
 
 module _ (a b : Bool) (cs : List Code) (T U : Tokenizer) (h : IsPastCodes a b cs T U) where
   rest-mark : (mark : Mark) → IsMarkAt (kinds_of U) mark →

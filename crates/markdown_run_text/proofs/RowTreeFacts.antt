@@ -51,10 +51,10 @@ module _ (P : Forest → Type 0) (Fit : List Code → Type 0) (k : IsKeptByRows 
   grouped-kept n x e h = k.one_group n (enter_of x) (exit_after (enter_of x) x) x e h
 
   start-kept : (kind : LabelKind) (cs : List Code) → P (start_tree kind cs)
-  start-kept x1 cs = grind (arith, grouped-kept)
+  start-kept kind cs = grind (arith, grouped-kept)
 
   name-plain : (kind : LabelKind) → is_plain (label_name kind) ≡ true
-  name-plain x1 = grind arith
+  name-plain kind = grind arith
 
   pub label-kept : (kind : LabelKind) (marker : List Code) (inside : Forest) (back : List Code) (tail : Forest) →
       Fit marker → P inside → P tail → P (label_group kind marker inside back tail)
@@ -79,7 +79,7 @@ module _ (P : Forest → Type 0) (Fit : List Code → Type 0) (k : IsKeptByRows 
   whole-kept (within o m x) h = grind (arith, whole-kept o)
 
   put-kept : (t : Forest) (o : OpenTrees) → P t → IsKeptIn o → IsKeptIn (put_row t o)
-  put-kept t x2 h i = grind arith
+  put-kept t o h i = grind arith
 
   abbrev pub IsMarkKept : Mark → Type 0
   IsMarkKept (begins kind marker) = Fit marker
@@ -116,10 +116,10 @@ plain-not_data N.Data e = cc
 plain-not_data _ e = refl
 
 plain-not_ending : (n : Name) → is_plain n ≡ true → is_ending n ≡ false
-plain-not_ending x1 e = grind arith
+plain-not_ending n e = grind arith
 
 plain-not_run : (n : Name) → is_plain n ≡ true → is_run n ≡ false
-plain-not_run x1 e = grind arith
+plain-not_run n e = grind arith
 
 line-fewer : (n : ℕ) (cs : List Code) → IsLine cs → IsLine (drop n cs)
 line-fewer zero cs h = h
@@ -127,10 +127,10 @@ line-fewer (suc n) [] h = refl
 line-fewer (suc n) (c ∷ cs) h = line-fewer n cs (or_parts (is_line_ending c) (list_any is_line_ending cs) h).1
 
 line-data : (cs : List Code) → IsLine cs → HasRowLines (leaf N.Data cs)
-line-data x1 h = grind arith
+line-data cs h = grind arith
 
 line-leaf : (n : Name) (cs : List Code) → is_plain n ≡ true → HasRowLines (leaf n cs)
-line-leaf n x2 e = grind (arith, both_ways, plain-data)
+line-leaf n cs e = grind (arith, both_ways, plain-data)
 
 lines-kept : IsKeptByRows HasRowLines IsLine
 lines-kept = grind (arith, HasLines-row, line-data, line-fewer, line-leaf, plain-not_data, plain-not_ending)
@@ -194,7 +194,7 @@ codes-made back kind tail o m x =
     ∙ ap (λ cs. cs ++ (back ++ leaf_codes tail)) (sym (codes-within o m x))
 
 codes-lost : (o : OpenTrees) → codes_in (lost_row o) ≡ codes_in o
-codes-lost x1 = grind (arith, whole-put)
+codes-lost o = grind (arith, whole-put)
 
 codes-marked : (ks : List LabelKind) (mark : Mark) (o : OpenTrees) → IsMarkAt ks mark → IsFor ks o →
     codes_in (marked_row mark o) ≡ codes_in o ++ mark_codes mark
@@ -234,11 +234,11 @@ abbrev HasFoundCodes : FoundLabels → Type 0
 HasFoundCodes r = HasCodes r.0 × HaveEndCodes r.1
 
 wrapped-codes : (m : List Code) (x : Forest) (end : End) → HasCodes x → HasEndCodes end → HasCodes (wrapped m x end)
-wrapped-codes m x x3 h k = grind (arith, has-join, has-leaf, label-kept, codes-kept)
+wrapped-codes m x end h k = grind (arith, has-join, has-leaf, label-kept, codes-kept)
 
 opened-codes : (m : List Code) (x : Forest) (more : List (End × Forest)) → HasCodes x → HaveEndCodes more →
     HasFoundCodes (opened m x more)
-opened-codes m x x3 h k = grind (arith, has-join, has-leaf, wrapped-codes)
+opened-codes m x more h k = grind (arith, has-join, has-leaf, wrapped-codes)
 
 read-codes : (es : List Element) → HaveCodes es → HasFoundCodes (read (word_of es))
 read-codes [] h = (tt, tt)

@@ -46,7 +46,7 @@ states_and_called other s = states (called other) s
 
 at-end : (T : Tokenizer) → current_of T ≡ None → (ok : Bool) (U : Tokenizer) → (ok ≡ true) × (U ≡ string_passed T) →
     before_ends T ok U
-at-end T e x3 U k = grind (arith, finishes-end)
+at-end T e h U k = grind (arith, finishes-end)
 
 no-escape : (T : Tokenizer) (v : ℕ) → current_of T ≡ Some v → v == byte "\\" ≡ false → escape_here T (ahead T) ≡ None
 no-escape T v e h =

@@ -56,7 +56,7 @@ referenced-element s cs t rest none e = grind (arith, unescaped, first-choice, p
 by-itself : (b : Bool) (c : Code) (cs : List Code) → is_line_ending c ≡ b →
     either line_ending data_code (c ∷ cs) ≡ Some (plain (code_leaf c), cs)
 unfolding line_ending
-by-itself x1 c cs e = grind (arith, either-some, ending-alone, either-second, bind-none, one-other, data-alone)
+by-itself b c cs e = grind (arith, either-some, ending-alone, either-second, bind-none, one-other, data-alone)
 
 -- a code by itself: a line ending, or data
 pub code-element : (c : Code) (cs : List Code) → either line_ending data_code (c ∷ cs) ≡ Some (plain (code_leaf c), cs)
@@ -74,10 +74,10 @@ single-element s c cs none e = grind (arith, unescaped, first-choice, plain-swit
 pub no-backslash : (on : Bool) (c : Code) (cs : List Code) → is_value (byte "\\") c ≡ false →
     (provided on >> character_escape) (c ∷ cs) ≡ None
 unfolding character_escape
-no-backslash x1 c cs e = grind (arith, switched-off, switched-on, bind-none, one-other)
+no-backslash on c cs e = grind (arith, switched-off, switched-on, bind-none, one-other)
 
 unread : (o : Option (Forest × List Code)) → tree_ops o ≡ None → o ≡ None
-unread x1 e = grind arith
+unread o e = grind arith
 
 -- no reference begins at another code than `&`
 pub no-ampersand : (names : Table) (on : Bool) (c : Code) (cs : List Code) → is_value (byte "&") c ≡ false →
@@ -85,7 +85,7 @@ pub no-ampersand : (names : Table) (on : Bool) (c : Code) (cs : List Code) → i
 no-ampersand names on c cs e = grind (arith, unread ((provided on >> character_reference names) (c ∷ cs)), no-reference names on (c ∷ cs), and-false on)
 
 neither : (a b : Bool) → (a || (b || false)) ≡ false → (a ≡ false) × (b ≡ false)
-neither x1 b e = grind arith
+neither a b e = grind arith
 
 -- a code at which data does not stop
 pub unmarked-element : (p : ParseState) (c : Code) (cs : List Code) → is_among string_markers c ≡ false →

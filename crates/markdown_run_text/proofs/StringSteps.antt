@@ -41,7 +41,7 @@ passes-ready T U p r = ready-past T U (same-fields T U p r) r
 
 -- what follows some elements, follows from before them
 pub passes-ends : (T U : Tokenizer) → PassesElements T U → (ok : Bool) (V : Tokenizer) → before_ends U ok V → before_ends T ok V
-passes-ends T U p x4 V k = grind (arith, advances-finishes (string_here T) string_passed T U V, same-string T U)
+passes-ends T U p h V k = grind (arith, advances-finishes (string_here T) string_passed T U V, same-string T U)
 
 pub escape-past : (T U : Tokenizer) → Reads (escape_here T) None T.tokenize_state T U → PassesElements T U
 escape-past T U k =

@@ -219,7 +219,7 @@ module _ (W : Words) (within : EqualsLayer states_and_called W) where
     -- what alone is tried at the code at hand
     tries-sole : (v : ℕ) → current_of T ≡ Some v → (name : StateName) (o : Option (Tokenizer → TreeReading)) →
         SoleBy T (states_and_called (words_in W) name) o → Before (attempt_step name TextBeforeData T)
-    tries-sole v e name x4 h = grind (arith, try-law 8 T name TextBeforeData, to-data 8 T v)
+    tries-sole v e name k h = grind (arith, try-law 8 T name TextBeforeData, to-data 8 T v)
 
     each-sole : (rows : TriesTable StateName) → EachRowPasses (IsSoleAt W T) rows →
         EachRowPasses (λ (v : ℕ) (o : Option (StateName × StateName)). current_of T ≡ Some v → Before (tries_at o T)) (or_data rows)

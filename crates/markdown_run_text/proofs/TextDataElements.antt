@@ -23,7 +23,7 @@ use Rattle.markdown_run_text.specs.TextContent.{literal_letters}
 -- Words.
 
 none-of-some : {A : Type 0} (o : Option A) → not (is_none o) ≡ false → o ≡ None
-none-of-some x1 e = grind arith
+none-of-some o e = grind arith
 
 -- where neither is read
 either-none : {A : Type 0} (a b : Reading A) (cs : List Code) → either a b cs ≡ None → (a cs ≡ None) × (b cs ≡ None)

@@ -39,10 +39,10 @@ plain_of o = elim o [ None ↦ None | Some r ↦ Some (plain r.0, r.1) ]
 pub plain-switched : (on : Bool) (a : Reading Forest) (cs : List Code) →
     switched on (as_plain a) cs ≡ plain_of ((provided on >> a) cs)
 unfolding switched as_plain ◌>>◌ ◌>>=◌ provided gives plain_of
-plain-switched x1 a cs = grind arith
+plain-switched on a cs = grind arith
 
 pub off-or-none : (on : Bool) (a : Reading Forest) (cs : List Code) → a cs ≡ None → (provided on >> a) cs ≡ None
-off-or-none x1 a cs e = grind (arith, switched-on, switched-off)
+off-or-none on a cs e = grind (arith, switched-on, switched-off)
 
 -- a code by itself
 
@@ -65,13 +65,13 @@ ending-alone c cs e =
 -- data holds everywhere
 pub data-holds : (stops : List Code → Bool) (cs : List Code) → data_up_to stops cs ≡ None → ⊥
 unfolding data_up_to
-data-holds stops x2 e = grind arith
+data-holds stops cs e = grind arith
 
 -- a row and data behind it
 plain-or-data : (row : Reading Element) (c : Code) (cs : List Code) (o : Option (Forest × List Code)) →
     is_line_ending c ≡ false → row (c ∷ cs) ≡ plain_of o → either row data_code (c ∷ cs) ≡ element_here c cs o
 unfolding plain_of
-plain-or-data row c cs x4 e k = grind (arith, either-second, data-alone, either-some)
+plain-or-data row c cs o e k = grind (arith, either-second, data-alone, either-some)
 
 -- a code without a row is data
 tried-data : (rows : Tries) (v : ℕ) → list_any (λ n. v == n) (codes_in rows) ≡ false → tried rows v ≡ data_code

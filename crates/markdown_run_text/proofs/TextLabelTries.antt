@@ -34,10 +34,10 @@ use Rattle.markdown_run_text.specs.ElementsAsRead.{source_of}
 -- Tests, where the first of them holds.
 
 pub later-tests : (a b c : Bool) → a ≡ true → (a && b) && c ≡ false → b && c ≡ false
-later-tests x1 b c h k = grind arith
+later-tests a b c h k = grind arith
 
 pub right-test : (a b : Bool) → a ≡ true → a && b ≡ false → b ≡ false
-right-test x1 b h k = grind arith
+right-test a b h k = grind arith
 
 -- Codes that come next.
 
@@ -53,7 +53,7 @@ pair-some v w c d cs e f = grind arith
 pair-none : (v w : ℕ) (cs : List Code) → next_is (is_value v) cs && next_is (is_value w) (rest_of cs) ≡ false →
     word_of (v ∷ w ∷ []) cs ≡ None
 unfolding word_of
-pair-none v w x3 e = grind arith
+pair-none v w cs e = grind arith
 
 -- Switches.
 
@@ -65,7 +65,7 @@ on-some on a cs r e h = switched-on a on cs e ∙ h
 -- it is off, or what is read does not stand here
 pub on-none : (on : Bool) (a : Reading Element) (cs : List Code) → (on ≡ true → a cs ≡ None) → switched on a cs ≡ None
 unfolding switched
-on-none x1 a cs h = grind (arith, switched-on, switched-off)
+on-none on a cs h = grind (arith, switched-on, switched-off)
 
 -- Starts.
 
@@ -178,12 +178,12 @@ same-end T earlier cs = refl
 
 some-back : (x : List Code) (o : Option ((LabelKind × Forest) × List Code)) (back : List Code) (kind : LabelKind) (tail : Forest) (rest : List Code) → elim o as (λ _. Option ((List Code × (LabelKind × Forest)) × List Code)) [ None ↦ None | Some r ↦ Some ((x, r.0), r.1) ] ≡ Some ((back, (kind, tail)), rest)
     → (x ≡ back) × (o ≡ Some ((kind, tail), rest))
-some-back x x2 back kind tail rest e = grind arith
+some-back x o back kind tail rest e = grind arith
 
 none-back : (x : List Code) (o : Option ((LabelKind × Forest) × List Code)) →
     elim o as (λ _. Option ((List Code × (LabelKind × Forest)) × List Code)) [ None ↦ None | Some r ↦ Some ((x, r.0), r.1) ] ≡ None →
     o ≡ None
-none-back x x2 e = grind arith
+none-back x o e = grind arith
 
 module _ (T : Tokenizer) (here : current_of T ≡ Some (byte "]")) (on : is_on T ≡ true) where
   abbrev B : BeginsWithValue (byte "]") (ahead T)

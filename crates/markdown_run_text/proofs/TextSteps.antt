@@ -127,7 +127,7 @@ some-last (c ∷ []) h = refl
 some-last (c ∷ d ∷ cs) h = some-last (d ∷ cs) (omega arith)
 
 pub and-none : (a b : Bool) (o : Option ℕ) → is_none o ≡ false → a && (b && is_none o) ≡ false
-and-none x1 b o e = grind arith
+and-none a b o e = grind arith
 
 pub no-check-behind : (cs : List Code) (T U : Tokenizer) → U.cursor ≡ moved_by cs T.cursor → ahead T ≡ cs ++ ahead U →
     codes_left U < codes_left T → GfmTaskListItemCheck.check_here U (ahead U) ≡ None
@@ -144,7 +144,7 @@ no-check-past T U a = grind (arith, no-check-behind, row-cursor)
 -- what follows an element, follows from before it
 pub advances-ends : (T U : Tokenizer) → KeepsTheRest T U → Advances (text_choice_of T) T U → (ok : Bool) (V : Tokenizer) →
     before_ends U ok V → before_ends T ok V
-advances-ends T U e a x5 V k = grind (arith, advances-finishes (text_choice_of T) text_passed T U V, choice-same T U)
+advances-ends T U e a h V k = grind (arith, advances-finishes (text_choice_of T) text_passed T U V, choice-same T U)
 
 -- Data, where the code at hand is an element by itself.
 
@@ -203,7 +203,7 @@ passed-attempts T alone = attempts-registered R.Text (registered R.Data T) ∙ a
 
 pub at-end : (T : Tokenizer) → current_of T ≡ None → (ok : Bool) (U : Tokenizer) → (ok ≡ true) × (U ≡ text_passed T) →
     before_ends T ok U
-at-end T e x3 U k = grind (arith, finishes-end)
+at-end T e h U k = grind (arith, finishes-end)
 
 -- Ends of labels.
 
@@ -251,7 +251,7 @@ look-marked T r = grind arith
 -- what is known is what was made, where that pays
 pub made-known : {A : Type 0} (pays : Bool) (made known : A) → (if pays then Some made else None) ≡ Some known →
     known ≡ made
-made-known x1 made known e = grind arith
+made-known pays made known e = grind arith
 
 pub literals-marked : (T : Tokenizer) → GfmAutolinkLiteral.LiteralStartReady T → GfmAutolinkLiteral.LiteralStartReady (text_marked T)
 unfolding scratched
@@ -265,7 +265,7 @@ listed-made s start end names e = grind arith
 -- what is lent is right with the brackets of a part too
 lent-known : (s : Setting) (start end : ℕ) (lent known : Names) (pays : Bool) → AreListed s lent →
     Some (record lent { brackets = if pays then brackets_between s.bytes start end else lent.brackets }) ≡ Some known → AreListed s known
-lent-known s start end lent known x6 h e = grind (arith, listed-made, made-known)
+lent-known s start end lent known pays h e = grind (arith, listed-made, made-known)
 
 -- and so are the names that a text is read with
 pub names-known : (c : Place) (p : ParseState) (lent : Option Names) (known : Names) →
@@ -297,4 +297,4 @@ marked-start T r = grind (arith, stops-marked, spans-marked, look-marked, litera
 
 pub check-elements : (T : Tokenizer) (o : Option ℕ) → current_of T ≡ o →
     ReadsElements (GfmTaskListItemCheck.check_here T) T
-check-elements T x2 e = grind (arith, no-check-at-end, check-reads)
+check-elements T o e = grind (arith, no-check-at-end, check-reads)

@@ -189,10 +189,10 @@ run-leaf T v t rest e m holds =
 -- Checks.
 
 and-turned : (a b c : Bool) → (a && b) && c ≡ c && (b && a)
-and-turned x1 x2 x3 = grind arith
+and-turned a b c = grind arith
 
 pub none-valued : (o : Option Code) → is_none (value_of o) ≡ is_none o
-none-valued x1 = grind arith
+none-valued o = grind arith
 
 -- where a check may begin
 check-is : (T : Tokenizer) (earlier : List Element) (previous : Option Code) → StandsAfter earlier previous T →

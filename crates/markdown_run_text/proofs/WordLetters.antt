@@ -13,7 +13,7 @@ use Rattle.markdown_run_text.specs.TextStops.{begins_word}
 use Rattle.markdown_run_text.specs.PlacesPassed.{begins_as, is_some_letter, is_word, letter_is, may_begin, one_stands}
 
 none-first : (c : Code) (o : Option (List Code × List Code)) → is_none (with_first c o) ≡ is_none o
-none-first c x2 = grind arith
+none-first c o = grind arith
 
 pub word-goes : (n : ℕ) (ns : List ℕ) (p : Place) → is_some_letter n (code_at p) ≡ true → is_word (n ∷ ns) p ≡ is_word ns (moved p)
 word-goes n ns p h = by_code (code_at p) refl h
@@ -55,10 +55,10 @@ one-read [] p = refl
 one-read (word ∷ words) p = grind (arith, either-some-of, one-read words p)
 
 or-false : (b : Bool) → (b || false) ≡ b
-or-false x1 = grind arith
+or-false b = grind arith
 
 or-again : (a b c : Bool) → (a || (b || c)) ≡ ((a || b) || c)
-or-again x1 b c = grind arith
+or-again a b c = grind arith
 
 -- and where one is added behind these
 pub one-behind : (words : List (List ℕ)) (word : List ℕ) (p : Place) → one_stands (words ++ word ∷ []) p ≡ (one_stands words p || is_word word p)
@@ -68,7 +68,7 @@ one-behind (w ∷ ws) word p = ap (λ b. is_word w p || b) (one-behind ws word p
 -- where no word may begin, none stands
 
 not-as : (word : List ℕ) (p : Place) → begins_as word (code_at p) (code_at (moved p)) ≡ false → is_word word p ≡ false
-not-as x1 p h = grind (arith, word-stops, word-goes)
+not-as word p h = grind (arith, word-stops, word-goes)
 
 none-of : (words : List (List ℕ)) (p : Place) → list_any (λ word. begins_as word (code_at p) (code_at (moved p))) words ≡ false → one_stands words p ≡ false
 none-of [] p h = refl

@@ -17,7 +17,7 @@ use Rattle.markdown_run_text.specs.PlacesPassed.{holds_sign, markers_and_signs, 
 use Rattle.markdown_run_text.specs.TextStops.{begins_word}
 
 clash : {A : Type 0} → (b : Bool) → b ≡ true → b ≡ false → A
-clash x1 h k = grind arith
+clash b h k = grind arith
 
 -- the code before the place behind a code is that code
 pub before-moved : (p : Place) → code_before (moved p) ≡ code_at p
@@ -36,11 +36,11 @@ record FirstLetter (n : ℕ) (ns : List ℕ) (cs : List Code) : Type 0 where
 
 with-some : (c : Code) (o : Option (List Code × List Code)) (r : List Code × List Code) → with_first c o ≡ Some r →
     (read : List Code × List Code) × (o ≡ Some read)
-with-some c x2 r e = grind arith
+with-some c o r e = grind arith
 
 first-letter : (n : ℕ) (ns : List ℕ) (cs : List Code) (r : List Code × List Code) → letters (n ∷ ns) cs ≡ Some r →
     FirstLetter n ns cs
-first-letter n ns x3 r e = grind (arith, letters-none, with-some, letters-more)
+first-letter n ns cs r e = grind (arith, letters-none, with-some, letters-more)
 
 -- Letters and signs.
 

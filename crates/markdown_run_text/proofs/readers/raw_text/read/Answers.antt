@@ -4,7 +4,7 @@ use Rattle.markdown_run_text.proofs.PlainSpanReads.{walk-reads}
 use Rattle.markdown_run_text.proofs.readers.raw_text.read.Goals as goal
 
 both : (a b : Bool) → a ≡ true → b ≡ false → (a && not b) ≡ true
-both x1 b e h = grind arith
+both a b e h = grind arith
 
 pub returns-clause-reads : goal.returns-clause-reads
 returns-clause-reads c =
