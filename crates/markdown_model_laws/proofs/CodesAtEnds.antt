@@ -11,12 +11,11 @@ use Rattle.markdown_model.proofs.DefinitionSteps.{span-all, span-stops}
 use Rattle.markdown_model.proofs.GrammarSteps.{span-takes, span-none}
 use Rattle.markdown_model_laws.specs.BlanksApart.{EndsIn}
 
-last-of-more : (xs : List Code) (y : Code) (ys : List Code) → last_code (xs ++ y ∷ ys) ≡ last_code (y ∷ ys)
-last-of-more [] y ys = refl
-last-of-more (x ∷ []) y ys = refl
+pub last-of-more : (xs : List Code) (y : Code) (ys : List Code) → last_code (xs ++ y ∷ ys) ≡ last_code (y ∷ ys)
 last-of-more (x ∷ z ∷ xs) y ys = last-of-more (z ∷ xs) y ys
+last-of-more xs y ys = refl
 
-last-reversed : (cs : List Code) → last_code (reverse cs) ≡ first_code cs
+pub last-reversed : (cs : List Code) → last_code (reverse cs) ≡ first_code cs
 last-reversed [] = refl
 last-reversed (c ∷ cs) = ap last_code (reverse-append (c ∷ []) cs) ∙ last-of-more (reverse cs) c []
 

@@ -4,7 +4,6 @@ use Rattle.std.proofs.Math.Bool.{and-false}
 use Rattle.std.proofs.lemmas.Bool.{both_ways}
 use Rattle.markdown_event.proofs.AndParts.{and-left, and-right}
 use Rattle.markdown_model.specs.Setting.{rules}
-use Rattle.std.proofs.lemmas.List.{reverse-append}
 use Rattle.markdown_model.proofs.GivenNames.{blank-named}
 use Rattle.markdown_event.specs.declared.event.Name.{Name}
 use Rattle.markdown_content.specs.Codes.{Code, is_blank}
@@ -22,24 +21,17 @@ use Rattle.markdown_model.proofs.MergedDataIsApart.{merged_data_is_apart}
 use Rattle.markdown_model.proofs.DefinitionSteps.{span-stops}
 use Rattle.markdown_model_laws.specs.EmailsInData.{is_email}
 use Rattle.markdown_model_laws.specs.DataIsTight.{IsTight, DataIsTight}
+use Rattle.markdown_model_laws.proofs.CodesAtEnds.{last-of-more, last-reversed}
 use Rattle.markdown_model_laws.proofs.EachPass.{pairs_in, unmailed, text-has}
 use Rattle.markdown_model_laws.proofs.EmailLeaves.{IsEmailLeaf, AnswerIsEmail, answer-email}
 
 -- Last codes.
-
-last-of-more : (xs : List Code) (y : Code) (ys : List Code) → last_code (xs ++ y ∷ ys) ≡ last_code (y ∷ ys)
-last-of-more (x ∷ z ∷ xs) y ys = last-of-more (z ∷ xs) y ys
-last-of-more xs y ys = refl
 
 -- what the last code of a list fails, the last one of its back fails too
 last-of-back : (xs ys : List Code) → is_some_code is_blank (last_code (xs ++ ys)) ≡ false →
     is_some_code is_blank (last_code ys) ≡ false
 last-of-back xs [] h = refl
 last-of-back xs (y ∷ ys) h = ap (is_some_code is_blank) (sym (last-of-more xs y ys)) ∙ h
-
-last-reversed : (cs : List Code) → next_is is_blank cs ≡ false → is_some_code is_blank (last_code (reverse cs)) ≡ false
-last-reversed [] h = refl
-last-reversed (c ∷ cs) h = grind (arith, reverse-append (c ∷ []) cs, last-of-more)
 
 -- Leaves that are no data and no line ending.
 
@@ -118,7 +110,7 @@ front-last false cs h = h
 
 back-last : (back : Bool) (cs : List Code) → back ≡ true →
     is_some_code is_blank (last_code (reverse (back_cut back cs).1)) ≡ false
-back-last true cs h = last-reversed (span is_blank (reverse cs)).1 (span-stops is_blank (reverse cs))
+back-last true cs h = ap (is_some_code is_blank) (last-reversed (span is_blank (reverse cs)).1) ∙ span-stops is_blank (reverse cs)
 back-last false cs h = cc
 
 tight-data : (front whole back : Bool) (hard : HardBreaks) (cs : List Code) (f : Forest) → ends_before whole f ≡ back →
