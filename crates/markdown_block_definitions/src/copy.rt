@@ -1,4 +1,4 @@
-//! The codes of a text, copied: their values, and which of them are no later columns of a tab.
+//! The codes of a document, one by one, and those of a text, copied: their values, and which of them are no later columns of a tab.
 
 ghost use Rattle.std.specs.Prelude.{◌≡◌, ◌<◌, ◌≤◌, ◌+◌, length, drop, true, [], IfOk, MatchOption, slice_index};
 ghost use Rattle.markdown_content.specs.Codes.{codes_of, is_line_ending_byte, line_ending_len};
@@ -9,23 +9,26 @@ ghost use Rattle.markdown_block_definitions.specs.TextCopies.{IsSpot, IsRead, En
 use markdown_content::parser::Piece;
 use std::alloc::AllocError;
 
-// A place of a document in its line: the index of a byte, how many codes of a tab there stand before, and how many columns since the last tab stop.
+/// A place of a document in its line.
 #[derive(Clone, Copy)]
-pub(crate) struct Spot {
-    pub(crate) index: usize,
-    pub(crate) vs: usize,
-    pub(crate) phase: usize,
+pub struct Spot {
+    /// The index of a byte.
+    pub index: usize,
+    /// How many codes of the tab there stand before.
+    pub vs: usize,
+    /// How many columns stand behind the last tab stop.
+    pub phase: usize,
 }
 
-// Whether a byte is a line feed or a carriage return.
-fn is_line_ending(byte: u8) -> bool
+/// Returns whether a byte is a line feed or a carriage return.
+pub fn is_line_ending(byte: u8) -> bool
     ensures { result ≡ is_line_ending_byte byte }
 {
     byte == b'\n' || byte == b'\r'
 }
 
-// How many bytes the line ending has that begins at an index.
-fn line_ending_len(bytes: &[u8], index: usize) -> usize
+/// Returns how many bytes the line ending has that begins at an index (CommonMark 2.1).
+pub fn line_ending_len(bytes: &[u8], index: usize) -> usize
     requires { index < length bytes.now }
     ensures { result ≡ line_ending_len (slice_index bytes.now index) (drop (index + 1) bytes.now) }
 {
@@ -48,8 +51,8 @@ fn ends_line(bytes: &[u8], index: usize) -> bool
     line_ending_len(bytes, index - 1) == 1
 }
 
-// Where the line of an index begins.
-pub(crate) fn line_start(bytes: &[u8], index: usize) -> usize
+/// Returns where the line of an index begins.
+pub fn line_start(bytes: &[u8], index: usize) -> usize
     ensures spot { IsSpot bytes.now (line_spot result) }
     ensures before { result ≤ index }
 {
@@ -83,8 +86,8 @@ fn past_tab(spot: Spot) -> Spot
     }
 }
 
-// The value of the code at a place before the end, and the place behind it.
-pub(crate) fn read(bytes: &[u8], spot: Spot) -> (u8, Spot)
+/// Returns the value of the code at a place before the end, and the place behind it.
+pub fn read(bytes: &[u8], spot: Spot) -> (u8, Spot)
     requires is_spot { IsSpot bytes.now spot }
     requires begins { spot.index < length bytes.now }
     ensures { IsRead bytes.now spot result.0 result.1 }
@@ -112,8 +115,8 @@ pub(crate) fn read(bytes: &[u8], spot: Spot) -> (u8, Spot)
     (b'\t', past_tab(spot))
 }
 
-// Whether a place stands before another.
-pub(crate) fn is_before(spot: Spot, place: (usize, usize)) -> bool
+/// Returns whether a place stands before another.
+pub fn is_before(spot: Spot, place: (usize, usize)) -> bool
     ensures { result ≡ is_spot_before spot place }
 {
     spot.index < place.0 || (spot.index == place.0 && spot.vs < place.1)

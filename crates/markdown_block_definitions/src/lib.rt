@@ -1,7 +1,7 @@
 //! Reads link reference definitions at the front of a text, by CommonMark 0.31.2.
 #![tactic(auto)]
 
-mod copy;
+pub mod copy;
 mod definition;
 mod destinations;
 pub mod document;
