@@ -1,6 +1,6 @@
 //! The lines that are printed, one for each link.
 
-use crate::definition::Target;
+use crate::target::Target;
 use markdown_inline::event::Point;
 use std::alloc::AllocError;
 

@@ -2,7 +2,7 @@
 
 ghost use Rattle.markdown_content.specs.LabelTexts.{HasLabelTexts};
 
-use crate::definition::Target;
+use crate::target::Target;
 use crate::lines::Lines;
 use markdown_inline::configuration::{COMMONMARK, Constructs, ParseOptions};
 use markdown_inline::definitions::Definitions;

@@ -1,10 +1,10 @@
-//! Why the program ends without all of its output.
+//! Why a program ends without all of its output.
 
 use std::alloc::AllocError;
 use std::fmt::{self, Display, Formatter};
 use std::io::{self, ErrorKind};
 
-/// Why a file is not listed, or none is.
+/// Why nothing is made of a file, or of any.
 #[derive(Drop)]
 pub enum Fault {
     /// This word is not known.
@@ -32,7 +32,7 @@ impl Fault {
         }
     }
 
-    /// Whether it is the fault of one file, so that others can be listed.
+    /// Whether it is the fault of one file, so that the others can be read.
     pub fn is_of_file(&self) -> bool {
         matches!(self, Fault::NotText | Fault::Read(_))
     }
@@ -57,10 +57,18 @@ impl From<AllocError> for Fault {
     }
 }
 
-/// What an error of a reader is: refused memory is that wherever it comes.
-pub fn of_read(error: io::Error) -> Fault {
+/// What an error of reading is: refused memory is that wherever it comes.
+pub(crate) fn of_read(error: io::Error) -> Fault {
     match error.kind() {
         ErrorKind::OutOfMemory => Fault::OutOfMemory,
         _ => Fault::Read(error),
+    }
+}
+
+/// What an error of writing is.
+pub(crate) fn of_write(error: io::Error) -> Fault {
+    match error.kind() {
+        ErrorKind::OutOfMemory => Fault::OutOfMemory,
+        _ => Fault::Write(error),
     }
 }

@@ -1,0 +1,70 @@
+//! Writes the HTML of Markdown files. `HELP` has the page that `--help` prints.
+#![tactic(auto)]
+
+use markdown_files::fault::Fault;
+use markdown_files::files::{self, Program};
+use markdown_html_model::options::{HtmlOptions, LineEnds};
+use markdown_page::document::to_html;
+use std::alloc::Global;
+use std::process::ExitCode;
+
+// Writes HTML with these options.
+#[derive(Drop)]
+struct Html {
+    options: HtmlOptions,
+}
+
+impl Program for Html {
+    const NAME: &'static str = "mdhtml";
+
+    const HELP: &'static str = "mdhtml writes the HTML of Markdown files, by CommonMark 0.31.2.
+
+    mdhtml [WORD].. [--] FILE..     each file is a document of its own
+    mdhtml [WORD].. < FILE
+    mdhtml --help | --version       this page, or the version
+
+Nothing of a file becomes markup but by the rules of Markdown, and no link leads to a script, unless a word says otherwise.
+
+Words
+    --raw         HTML is written as it stands; else it is text
+    --any-link    links lead wherever they say; else to listed schemes alone
+    --lf, --crlf  each line ending is written so; else those of the file stay
+
+Statuses, of the first fault; a line on standard error says why
+    0  the HTML was written
+    2  a word is not known, or is not UTF-8
+    3  a file is not UTF-8
+    5  memory was refused
+    6  reading or writing failed
+";
+
+    const VERSION: &'static str = "mdhtml 1.0.0\n";
+
+    fn new() -> Html {
+        Html {
+            options: HtmlOptions::safe(),
+        }
+    }
+
+    fn take(&mut self, word: &str) -> bool {
+        match word {
+            "--raw" => self.options.raw_html = true,
+            "--any-link" => self.options.any_link = true,
+            "--lf" => self.options.line_ends = LineEnds::Lf,
+            "--crlf" => self.options.line_ends = LineEnds::CrLf,
+            _ => return false,
+        }
+        true
+    }
+
+    fn output(&self, alloc: Global, _file: Option<&str>, bytes: &[u8]) -> Result<Vec<u8>, Fault> {
+        match to_html(alloc, bytes, self.options)? {
+            Some(html) => Ok(html),
+            None => Err(Fault::NotText),
+        }
+    }
+}
+
+fn main(rt: HostRuntime) -> ExitCode {
+    files::main::<Html>(&rt)
+}
