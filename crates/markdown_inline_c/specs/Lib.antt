@@ -1,6 +1,7 @@
 -- What crosses to C.
 -- What has to be believed: what public contracts cite.
 pub mod FlatInput
+pub mod FlatDocuments
 pub mod FlatEvents
 pub mod ShortEvents
 pub mod FlatLeaves

@@ -10,9 +10,14 @@
 ghost use Rattle.std.specs.Prelude.{◌≡◌, ◌∷◌, [], IsUtf8, length, map};
 ghost use Rattle.markdown_inline_c.specs.FlatInput.{pieces_of, IsStringInput, IsTextInput};
 ghost use Rattle.markdown_inline_c.specs.FlatEvents.{flat_event, string_events_of, text_events_of};
+ghost use Rattle.markdown_model.specs.InlineTree.{string_events, text_events};
+ghost use Rattle.markdown_inline_c.specs.FlatInput.{pieces_of, string_setting, text_setting, IsStringInput, IsTextInput};
+ghost use Rattle.markdown_page_model.specs.PageHtml.{document_html};
+ghost use Rattle.markdown_inline_c.specs.FlatDocuments.{IsDocumentInput, IsDocumentHtmlFault};
+ghost use Rattle.markdown_inline_c.specs.FlatEvents.{flat_event};
 ghost use Rattle.markdown_inline_c.specs.ShortEvents.{short_events};
 ghost use Rattle.markdown_inline_c.specs.FlatLeaves.{leaves_of};
-ghost use Rattle.markdown_inline_c.specs.FlatHtml.{html_of, IsHtmlInput};
+ghost use Rattle.markdown_inline_c.specs.FlatHtml.{html_of, html_options_of, IsHtmlInput};
 ghost use Rattle.markdown_inline_c.specs.FlatLines.{AreLinePieces};
 ghost use Rattle.markdown_inline_c.specs.References.{IsReference, reference_text};
 ghost use Rattle.markdown_inline_c.specs.Answers.{IsAnswer, IsTested};
@@ -25,6 +30,7 @@ ghost use Rattle.markdown_content.specs.Content.{IsContent, IsTextContent};
 pub mod answer;
 pub mod check;
 pub mod contents;
+pub mod document;
 pub mod fault;
 pub mod flat;
 pub mod form;
@@ -321,6 +327,24 @@ pub extern "C" fn markdown_inline_html_of(
     let pieces = [whole_piece(bytes)];
     let input = whole_input(bytes, &pieces, options);
     markdown_inline_html(alloc, &input, &[], html_options, 0, html, count)
+}
+
+/// The HTML of a document: of its blocks and of what is inside them, by CommonMark 0.31.2. No text becomes markup and no link leads to a script, unless
+/// the options say otherwise; they are those of `markdown_inline_html`.
+///
+/// With status 0 the HTML, in UTF-8, stands at the front of `html`, and `count` is how many bytes it has. With status 6 `count` is that too, and
+/// they are more than there is room for. The status is 2, 9, 3 or 5 too. Nothing else is written.
+#[unsafe(no_mangle)]
+pub extern "C" fn markdown_inline_document_html(
+    alloc: Global,
+    bytes: &[u8],
+    html_options: u32,
+    html: &mut [u8],
+    count: &mut usize,
+) -> u32
+    ensures { IsAnswer (document_html (html_options_of html_options) bytes.now) (IsDocumentInput bytes.now html_options) (IsDocumentHtmlFault bytes.now html_options) html.old html.new count.old count.new result }
+{
+    answer(document::document_html(alloc, bytes, html_options), html, count)
 }
 
 /// The texts of strings, one after another, with escaped punctuation in place of its escape, and in place of each character reference its text
