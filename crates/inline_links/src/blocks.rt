@@ -5,7 +5,7 @@ ghost use Rattle.markdown_content.specs.Content.{document_limit};
 
 use crate::links::OPTIONS;
 use crate::target::Target;
-use markdown_block_definitions::document::document;
+use markdown_block_definitions::document::read;
 use markdown_block_definitions::front::Definition;
 use markdown_blocks::block::{Leaf, Row};
 use markdown_html_model::resolve::{decoding_of, push_resolved};
@@ -31,10 +31,11 @@ impl Blocks {
             return Ok(());
         };
         match leaf {
-            Leaf::Heading(_, piece) => self.texts.push(Vec::from_slice(alloc, &[piece])?),
-            Leaf::Underlined(_, pieces) | Leaf::Paragraph(pieces) => self.texts.push(pieces),
-            _ => Ok(()),
+            Leaf::Heading(_, piece) => self.texts.push(Vec::from_slice(alloc, &[piece])?)?,
+            Leaf::Underlined(_, pieces) | Leaf::Paragraph(pieces) => self.texts.push(pieces)?,
+            _ => {}
         }
+        Ok(())
     }
 
     // Adds a definition, unless one with its identifier stands before it.
@@ -76,7 +77,7 @@ fn target_of(alloc: Global, definition: &Definition) -> Result<Target, AllocErro
 pub fn of(alloc: Global, bytes: &[u8]) -> Result<Blocks, AllocError>
     requires { length bytes.now ≤ document_limit }
 {
-    let found = document(alloc, bytes)?;
+    let found = read(alloc, bytes)?;
     let mut blocks = Blocks {
         texts: Vec::new(alloc),
         definitions: Definitions::new(alloc),
