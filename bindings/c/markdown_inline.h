@@ -1,7 +1,8 @@
-/* The inline layer of Markdown, for callers in C99 and C++.
+/* Markdown, for callers in C99 and C++.
  *
- * A block parser hands over a document and the pieces of it that make up a paragraph, and gets the events of the paragraph's inline tree: what
- * begins or ends, and where. What each call promises is proved; the contracts stand in crates/markdown_inline_c.
+ * markdown_inline_document_html writes the HTML of a document, its blocks included. The other calls read the text inside one block: a block parser hands
+ * over a document and the pieces of it that make up a paragraph, and gets the paragraph's HTML, or the events of its inline tree: what begins or ends, and
+ * where. What each call promises is proved; the contracts stand in crates/markdown_inline_c.
  *
  * The interface, version 1:
  *
@@ -396,6 +397,14 @@ typedef char markdown_inline_checks_sizes[sizeof(size_t) == 8 && sizeof(void *) 
 
 /* The version of the library. */
 MARKDOWN_INLINE_API uint32_t markdown_inline_version(void);
+
+/* Writes the HTML of a document, in UTF-8: of its blocks and of the text inside them, as CommonMark 0.31.2 says. The document's own definitions count, and
+ * the call takes no others. `html_options` has the bits MARKDOWN_INLINE_HTML_RAW and MARKDOWN_INLINE_HTML_ANY_LINK. Without them raw HTML is written as text,
+ * and no link leads to a script. Line endings of the document stay; those that the page itself brings are line feeds.
+ * There is no limit on how many bytes definitions bring: n references to a definition of n bytes write n * n bytes.
+ * DONE: the HTML stands at the front of the array, and `*count` is how many bytes it has. TOO_SMALL: `*count` is how many it has, and the array is as before;
+ * call again with room for them. UNKNOWN_OPTION, TOO_LONG, NOT_UTF8, NO_MEMORY: nothing is written. */
+MARKDOWN_INLINE_API uint32_t markdown_inline_document_html(const uint8_t *bytes, size_t bytes_len, uint32_t html_options, uint8_t *html, size_t html_len, size_t *count);
 
 /* Whether the pieces are a content of the document: DONE, or TOO_LONG, NOT_UTF8, NO_CONTENT or NO_MEMORY. */
 MARKDOWN_INLINE_API uint32_t markdown_inline_is_content(const uint8_t *bytes, size_t bytes_len, const markdown_inline_piece *pieces, size_t pieces_len);

@@ -544,6 +544,47 @@ static void test_html_of(void) {
     want("nothing alone", markdown_inline_html_of(NULL, 0, 0, 0, NULL, 0, &count) == MARKDOWN_INLINE_DONE && count == 0);
 }
 
+/* A document has the HTML of its blocks, which is handed out where there is room: examples of CommonMark 0.31.2 (2.2, 4.6, 4.7, 5.1, 5.3), and what the options
+ * change. */
+static void test_document_html(void) {
+    static const uint32_t all = MARKDOWN_INLINE_HTML_RAW | MARKDOWN_INLINE_HTML_ANY_LINK;
+    static const struct {
+        const char *document, *html;
+        uint32_t options;
+    } cases[] = {{"- foo\n\n\t\tbar\n", "<ul>\n<li>\n<p>foo</p>\n<pre><code>  bar\n</code></pre>\n</li>\n</ul>\n", 0},
+        {"[foo]: /url \"title\"\n\n[foo]\n", "<p><a href=\"/url\" title=\"title\">foo</a></p>\n", 0},
+        {"> # Foo\n> bar\n> baz\n", "<blockquote>\n<h1>Foo</h1>\n<p>bar\nbaz</p>\n</blockquote>\n", 0}, {"- foo\n- bar\n+ baz\n", "<ul>\n<li>foo</li>\n<li>bar</li>\n</ul>\n<ul>\n<li>baz</li>\n</ul>\n", 0},
+        {"<div id=\"foo\"\n  class=\"bar\">\n</div>\n", "<div id=\"foo\"\n  class=\"bar\">\n</div>\n", all}, {"", "", 0}, {"<b>\n\n[a](b:c)\n", "&lt;b&gt;\n<p><a href=\"\">a</a></p>\n", 0},
+        {"<b>\n\n[a](b:c)\n", "<b>\n<p><a href=\"\">a</a></p>\n", MARKDOWN_INLINE_HTML_RAW}, {"<b>\n\n[a](b:c)\n", "&lt;b&gt;\n<p><a href=\"b:c\">a</a></p>\n", MARKDOWN_INLINE_HTML_ANY_LINK}};
+    static const struct {
+        const char *bytes;
+        size_t len;
+        uint32_t options, status;
+    } refused[] = {{"a", 1, 4, MARKDOWN_INLINE_UNKNOWN_OPTION}, {"\xff", 1, 1u << 31, MARKDOWN_INLINE_UNKNOWN_OPTION}, {"\xff", (SIZE_MAX >> 3) + 1, 4, MARKDOWN_INLINE_UNKNOWN_OPTION},
+        {"\xff", (SIZE_MAX >> 3) + 1, 0, MARKDOWN_INLINE_TOO_LONG}, {"a\xff", 2, 0, MARKDOWN_INLINE_NOT_UTF8}};
+    uint8_t found[128], before[128];
+    size_t count;
+    memset(before, 1, sizeof before);
+    for (size_t at = 0; at < sizeof cases / sizeof *cases; at++) {
+        const uint8_t *bytes = (const uint8_t *)cases[at].document;
+        size_t len = strlen(cases[at].html);
+        for (size_t room = 0; room <= len + 2; room++) {
+            size_t written = room < len ? 0 : len;
+            uint32_t wanted = room < len ? MARKDOWN_INLINE_TOO_SMALL : MARKDOWN_INLINE_DONE;
+            memset(found, 1, sizeof found);
+            want("a status of a document", markdown_inline_document_html(bytes, strlen(cases[at].document), cases[at].options, found, room, &count) == wanted);
+            want("the HTML of a document", count == len && !memcmp(found, cases[at].html, written) && !memcmp(found + written, before, sizeof found - written));
+        }
+    }
+    memset(found, 1, sizeof found);
+    for (size_t at = 0; at < sizeof refused / sizeof *refused; at++) {
+        count = 77;
+        want("a document is refused", markdown_inline_document_html((const uint8_t *)refused[at].bytes, refused[at].len, refused[at].options, found, 128, &count) == refused[at].status);
+        want("nothing is written of what is refused", count == 77 && !memcmp(found, before, sizeof found));
+    }
+    want("no document", markdown_inline_document_html(NULL, 0, 0, NULL, 0, &count) == MARKDOWN_INLINE_DONE && count == 0);
+}
+
 /* Strings have the texts of their parts, and as many as have room are written. */
 static void test_strings(void) {
     /* Two lines in a block quote, a destination with an escape and a reference, NUL, and a part that is no UTF-8. */
@@ -931,6 +972,7 @@ static int call_once(const char *call) {
     if (!strcmp(call, "short_texts")) return (int)markdown_inline_short_texts(&input, contents, 2, short_events, 256, ends, 2, &outcome);
     if (!strcmp(call, "html")) return (int)markdown_inline_html(&input, &target, 1, 0, 0, bytes, 512, &count);
     if (!strcmp(call, "html_of")) return (int)markdown_inline_html_of((const uint8_t *)"a *b* [c](/d)", 13, input.options, 0, bytes, 512, &count);
+    if (!strcmp(call, "document_html")) return (int)markdown_inline_document_html((const uint8_t *)"# a\n\n> - *b* [c]\n\n[c]: /d\n", 27, 0, bytes, 512, &count);
     if (!strcmp(call, "strings")) {
         static const markdown_inline_range parts[] = {{0, 3}, {4, 9}}, strings[] = {{0, 2}, {1, 2}};
         return (int)markdown_inline_strings(MARKDOWN_INLINE_COMMONMARK, 0, (const uint8_t *)"a\\* &amp;", 9, parts, 2, strings, 2, bytes, 512, ends, 2, &outcome);
@@ -964,6 +1006,7 @@ int main(int argc, char **argv) {
     test_ids();
     test_html();
     test_html_of();
+    test_document_html();
     test_htmls();
     test_limit();
     test_blame();

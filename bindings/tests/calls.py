@@ -283,7 +283,7 @@ class Calls(unittest.TestCase):
 
 
 # Each module of tests, with how many tests it has at least: where fewer are found, something is not run.
-MODULES = {'calls': 23, 'links': 8, 'arguments': 14, 'events': 13, 'install': 1, 'lent': 14, 'page': 12, 'play': 13, 'plugin': 17, 'program': 16, 'typed': 3}
+MODULES = {'calls': 23, 'documents': 3, 'links': 8, 'arguments': 14, 'events': 13, 'install': 1, 'lent': 14, 'page': 12, 'play': 13, 'plugin': 17, 'program': 17, 'typed': 3}
 
 
 def main():

@@ -130,6 +130,22 @@ static uint32_t answer_html(markdown_inline_input *input, char **words) {
     return status;
 }
 
+static uint32_t answer_document(const markdown_inline_input *input, uint32_t options) {
+    size_t count = 0;
+    uint8_t *html = NULL;
+    uint32_t status = markdown_inline_document_html(input->bytes, input->bytes_len, options, NULL, 0, &count);
+    if (status == MARKDOWN_INLINE_TOO_SMALL) {
+        html = (uint8_t *)room(count, 1);
+        status = markdown_inline_document_html(input->bytes, input->bytes_len, options, html, count, &count);
+    }
+    if (status == MARKDOWN_INLINE_DONE) {
+        printf(" ");
+        print_bytes(html, count);
+    }
+    free(html);
+    return status;
+}
+
 static void print_blamed(size_t blamed) {
     if (blamed != MARKDOWN_INLINE_NONE) printf(" %zu", blamed);
 }
@@ -238,6 +254,7 @@ static void answer(char **words) {
     } else {
         uint32_t status = !strcmp(words[0], "leaves") ? answer_leaves(&input)
             : !strcmp(words[0], "html") ? answer_html(&input, words + 6)
+            : !strcmp(words[0], "document") ? answer_document(&input, (uint32_t)strtoul(words[6], NULL, 10))
             : !strcmp(words[0], "htmls") ? answer_htmls(&input, words + 6)
             : !strcmp(words[0], "shorts") ? answer_shorts(&input, words + 6) : answer_texts(&input, words + 6);
         if (status != MARKDOWN_INLINE_DONE) printf(": %s", markdown_inline_status_text(status));

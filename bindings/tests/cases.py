@@ -8,11 +8,11 @@ import collections
 import sys
 from itertools import accumulate
 
-from markdown_inline import COMMONMARK, CRATE, GFM, MATH, OPTIONS, Content, Error, Kind, Piece, html, htmls, leaves, short_texts, string, text, texts
+from markdown_inline import COMMONMARK, CRATE, GFM, MATH, OPTIONS, Content, Error, Kind, Piece, document_html, html, htmls, leaves, short_texts, string, text, texts
 
 SWITCHES, SETS = {'gfm': GFM, 'math': MATH, 'task': OPTIONS['first_of_item']}, {'commonmark': COMMONMARK, 'crate': CRATE}
 # How many cases come at least in all, of each kind, and by words. A file has kinds of one of these rows.
-LEAST, KINDS = 600, ({'text': 400, 'string': 40}, {'leaves': 300, 'html': 300, 'texts': 60, 'shorts': 60, 'htmls': 60})
+LEAST, KINDS = 600, ({'text': 400, 'string': 40}, {'leaves': 300, 'html': 300, 'texts': 60, 'shorts': 60, 'htmls': 60, 'document': 60})
 seen = collections.Counter()
 
 
@@ -93,6 +93,8 @@ def found(how, document, spans, given, places, labels, rest):
     if how == 'html':
         defined, bits = dict(zip(labels, map(target, listed(rest[1])))), int(rest[0])
         return ' ' + html(document, spans, definitions=defined, raw_html=bool(bits & 1), any_link=bool(bits & 2), **given).encode().hex()
+    if how == 'document':
+        return ' ' + document_html(document, raw_html=bool(int(rest[0]) & 1), any_link=bool(int(rest[0]) & 2)).encode().hex()
     if how == 'htmls':
         defined, bits = dict(zip(labels, map(target, listed(rest[1])))), int(rest[0])
         contents = [content(it, spans) for it in listed(rest[2])]

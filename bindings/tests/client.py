@@ -2,8 +2,8 @@
 from typing import Dict, List, Optional, Tuple
 
 from markdown_inline import (
-    COMMONMARK, GFM, OPTIONS, Address, Content, Error, Event, Events, Kind, Leaf, Leaves, Name, Node, Piece, ShortEvent, ShortTexts, Texts, Tree, __version__, html, htmls, identifier,
-    is_text, leaves, links, pieces_of_lines, reference, short_texts, string, strings, text, texts, tree)
+    COMMONMARK, GFM, OPTIONS, Address, Content, Error, Event, Events, Kind, Leaf, Leaves, Name, Node, Piece, ShortEvent, ShortTexts, Texts, Tree, __version__, document_html, html, htmls,
+    identifier, is_text, leaves, links, pieces_of_lines, reference, short_texts, string, strings, text, texts, tree)
 
 
 def lines(document: str, defined: Dict[str, str]) -> List[int]:
@@ -32,7 +32,7 @@ def words(document: str, defined: Dict[str, str]) -> List[str]:
     root: Tree = tree(document)
     nodes: List[Node] = [it for it in root.find(Name.Link, Name.Image) for it in it.children]
     try:
-        found = [html(document, definitions=defined), *htmls(document, [], definitions=titled), *strings(document, [[(0, 1)]], rules='crate')]
+        found = [html(document, definitions=defined), document_html(document, raw_html=True), *htmls(document, [], definitions=titled), *strings(document, [[(0, 1)]], rules='crate')]
     except Error as error:
         found = ['%d %s' % (error.status, error.at)]
     return found + [it.text for it in nodes] + [it.title or it.destination for it in addresses] + [identifier('A'), reference('&amp;'), str(is_text('a')), __version__]

@@ -6,8 +6,8 @@ usage: draw.py SEED COUNT ROWS CASES MORE
 ROWS gets them as the program of crates/markdown_test_runs reads them, and CASES as the callers here do: how it is read, the bits of the options,
 the pieces, the labels of definitions and of footnotes, the document; texts in hexadecimal, `-` for none, commas between pieces and labels. MORE gets
 calls that the program does not make, which the callers compare among each other: a text's leaves; its HTML, with two words more, the bits of what it
-may hold, and the destination of each definition behind a `=`, with a title behind a colon where it has one; and the texts of several contents, also in short
-events, with one word more, each content's first and last piece, and whether it begins a list item."""
+may hold, and the destination of each definition behind a `=`, with a title behind a colon where it has one; the texts of several contents, also in short
+events, with one word more, each content's first and last piece, and whether it begins a list item; and the HTML of a document, with the bits of what it may hold."""
 import os
 import random
 import re
@@ -30,6 +30,7 @@ PREFIXES = ['', '> ', '>', '   ', '- ', '\t', ' \t', '>\t', '1. ']
 LABELS = ['a', 'b c', 'd', 'é', 'word', 'x']
 NOTES = ['n', 'a', '*b*']
 TARGETS = ['', '/u', 'http://v.w', 'javascript:x', ' y:z', '"&<>', 'é?a=b&c', 'mailto:d@e']
+BLOCKS = ['', '', '# ', '    ', '- ', '3) ', '> ', '~~~ é\n', '<div>\n', '[a]: /u "f"\n', '***\n']
 TITLES = [None, '', 'f', 'g "h" <i>', "&amp;'"]
 ESCAPES = {'\\': '\\\\', '\n': '\\n', '\r': '\\r', '\t': '\\t', '\0': '\\0'}
 
@@ -110,6 +111,12 @@ def several_in_html(draw, cases):
     return ' '.join(['htmls'] + words[1:6]) + in_html(draw, cases[0][3]) + ' %s %d' % (words[6], draw.choice([0, 0, 1, 4, 16, 64]))
 
 
+def in_blocks(draw, cases):
+    """A call for the HTML of a document of these cases, each behind something that may begin a block."""
+    document = b''.join(draw.choice(BLOCKS).encode() + given + draw.choice([b'\n', b'\r\n\r\n']) for *_, given in cases)
+    return line('document', 0, [], [], [], document) + ' %d' % draw.randrange(4)
+
+
 def more(draw, drawn):
     """The calls that the program does not make."""
     texts = [it for it in drawn if it[0] == 'text']
@@ -120,6 +127,8 @@ def more(draw, drawn):
         yield several(draw, texts[at:at + draw.randrange(1, 5)])
         yield several(draw, texts[at:at + draw.randrange(1, 5)], 'shorts')
         yield several_in_html(draw, texts[at:at + draw.randrange(1, 5)])
+    for at in range(0, len(drawn) - 4, 4):
+        yield in_blocks(draw, drawn[at:at + draw.randrange(1, 5)])
 
 
 def write(path, lines):

@@ -2,6 +2,7 @@
 import os
 import subprocess
 import sys
+import tempfile
 import time
 import unittest
 
@@ -58,6 +59,25 @@ class Program(unittest.TestCase):
         self.assertEqual(run('--html', 'text', 'raw', 'any-link', given=given), (0, '<b> <a href="javascript:c">a</a> <em>[B  d]</em> ~e~\n', ''))
         # The first of two definitions of a label.
         self.assertEqual(run('--html', 'define=a', 'to=/b', 'define=A', 'to=/c', given=b'[a]')[1], '<a href="/b">a</a>\n')
+
+    def test_documents(self):
+        given, found = b'# a *b*\n\n- [c](/d)\n', '<h1>a <em>b</em></h1>\n<ul>\n<li><a href="/d">c</a></li>\n</ul>\n'
+        self.assertEqual(run('--document', given=given), (0, found, ''))
+        self.assertEqual(run('--document', 'raw', given=b'<b>\n\n[a](b:c)\n'), (0, '<b>\n<p><a href="">a</a></p>\n', ''))
+        self.assertEqual(run('--document', given=b'a\xff'), (3, '', 'markdown_inline: document is not UTF-8\n'))
+        for words in (('--document', '--raw'), ('--document', '-'), ('--document', '--document'), ('text', '--document')):
+            self.assertEqual(run(*words, given=b'a')[:2], (2, ''), words)
+        with tempfile.TemporaryDirectory() as room:
+            files = [os.path.join(room, it) for it in ('a.md', 'é', 'c')]
+            for path, words in zip(files, (given, b'<b>\n\n[a](b:c)\n', b'\xff')):
+                with open(path, 'wb') as file:
+                    file.write(words)
+            self.assertEqual(run('--document', *files[:2]), (0, found + '&lt;b&gt;\n<p><a href="">a</a></p>\n', ''))
+            self.assertEqual(run('--document', 'any-link', 'raw', files[1]), (0, '<b>\n<p><a href="b:c">a</a></p>\n', ''))
+            # Where a file is refused, nothing is written of the others.
+            self.assertEqual(run('--document', *files), (3, '', 'markdown_inline: %r: document is not UTF-8\n' % files[2]))
+            for path in (room, os.path.join(room, 'none'), os.fsdecode(b'none\xff')):
+                self.assertEqual(run('--document', files[0], path), (6, '', 'markdown_inline: %r: read failed\n' % path))
 
     def test_links(self):
         given = b'[a ![b](c\\_d "e&amp;\n  f")](<g>) [q][] x *[Q]* <h@i.j>\n<kk:l> www.m.n o@p.q [r [^n]][q] [s]'

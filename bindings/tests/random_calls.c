@@ -450,8 +450,8 @@ static uint32_t html_status(const drawn *it) {
 
 /* The calls. Each is made without room, with just enough, and with another room. */
 
-typedef enum which { IS_CONTENT, IS_TEXT, STRING, TEXT, LEAVES, HTML, HTML_OF, IDENTIFIER, REFERENCE, TEXTS, SHORT_TEXTS, HTMLS, STRINGS, PIECES_OF_LINES } which;
-static const char *const NAMES[] = {"is_content", "is_text", "string", "text", "leaves", "html", "html_of", "identifier", "reference", "texts", "short_texts", "htmls", "strings", "pieces_of_lines"};
+typedef enum which { IS_CONTENT, IS_TEXT, STRING, TEXT, LEAVES, HTML, HTML_OF, DOCUMENT_HTML, IDENTIFIER, REFERENCE, TEXTS, SHORT_TEXTS, HTMLS, STRINGS, PIECES_OF_LINES } which;
+static const char *const NAMES[] = {"is_content", "is_text", "string", "text", "leaves", "html", "html_of", "document_html", "identifier", "reference", "texts", "short_texts", "htmls", "strings", "pieces_of_lines"};
 
 /* What a call finds. */
 typedef union answer {
@@ -514,6 +514,7 @@ static uint32_t made(which call, const drawn *it, void *array, size_t len) {
     case LEAVES: return markdown_inline_leaves(input, (markdown_inline_leaf *)array, len, count);
     case HTML: return markdown_inline_html(input, targets, it->targets_len, it->html_options, it->limit, (uint8_t *)array, len, count);
     case HTML_OF: return markdown_inline_html_of(input->bytes, input->bytes_len, input->options, it->html_options, (uint8_t *)array, len, count);
+    case DOCUMENT_HTML: return markdown_inline_document_html(input->bytes, input->bytes_len, it->html_options, (uint8_t *)array, len, count);
     case IDENTIFIER: return markdown_inline_identifier(input->labels, input->labels_len, (uint8_t *)array, len, count);
     case REFERENCE: return markdown_inline_reference(input->options, input->labels, input->labels_len, (uint8_t *)array, len, count);
     case TEXTS: return markdown_inline_texts(input, contents, it->contents_len, (markdown_inline_event *)array, len, ends, ends_len, outcome);
@@ -1001,6 +1002,54 @@ static void try_whole(const drawn *it) {
     want("the HTML of bytes alone", called(HTML, &alone, sizeof found, 0) == MARKDOWN_INLINE_DONE && found_len == len && !memcmp(found.bytes, html.bytes, len));
 }
 
+/* Whether each element of HTML ends in the one in which it begins. No `<` is text. */
+static int is_nested(const uint8_t *html, size_t len) {
+    static const char *const EMPTY[] = {"br", "hr", "img"};
+    const uint8_t *open[4 * BYTES];
+    size_t depth = 0;
+    for (size_t at = 0; at < len; at++) {
+        if (html[at] != '<') continue;
+        int is_empty = 0, is_end = html[at + 1] == '/';
+        const uint8_t *name = html + at + 1 + is_end;
+        size_t name_len = strcspn((const char *)name, " >");
+        for (size_t one = 0; one < sizeof EMPTY / sizeof *EMPTY; one++) is_empty |= strlen(EMPTY[one]) == name_len && !memcmp(EMPTY[one], name, name_len);
+        if (is_empty) continue;
+        if (!is_end)
+            open[depth++] = name;
+        else if (depth == 0 || memcmp(open[--depth], name, name_len) || !strchr(" >", open[depth][name_len]))
+            return 0;
+    }
+    return depth == 0;
+}
+
+/* The bytes of a case as a document; and a line of them as a heading, whose text has the HTML of that line alone (CommonMark 4.2). */
+static void try_document(const drawn *it) {
+    static answer html;
+    drawn heading = *it;
+    size_t len = 3;
+    lend_case(it);
+    if (!is_done(DOCUMENT_HTML, it, it->html_options < 4 ? document_status(it) : (uint32_t)MARKDOWN_INLINE_UNKNOWN_OPTION)) return;
+    want("the HTML of a document is UTF-8", is_utf8(found.bytes, found_len));
+    want("the HTML of a document is whole lines", found_len == 0 || found.bytes[found_len - 1] == '\n' || found.bytes[found_len - 1] == '\r');
+    if (!(it->html_options & MARKDOWN_INLINE_HTML_RAW)) want("the elements of a document are nested", is_nested(found.bytes, found_len));
+    memcpy(heading.bytes, "# x", len);
+    for (size_t at = 0; at < it->bytes_len && len < BYTES - 4; at++)
+        if (it->bytes[at] != '\n' && it->bytes[at] != '\r') heading.bytes[len++] = it->bytes[at];
+    while (!is_utf8(heading.bytes, len)) len--;
+    heading.bytes[len++] = 'x';
+    heading.bytes_len = len;
+    lend_case(&heading);
+    want("a heading is a document", called(DOCUMENT_HTML, &heading, sizeof found, 0) == MARKDOWN_INLINE_DONE);
+    html = found;
+    size_t html_len = found_len;
+    heading.options = MARKDOWN_INLINE_COMMONMARK;
+    heading.bytes_len = len - 2;
+    memmove(heading.bytes, heading.bytes + 2, heading.bytes_len);
+    lend_case(&heading);
+    want("the text of a heading has HTML", called(HTML_OF, &heading, sizeof found, 0) == MARKDOWN_INLINE_DONE && html_len == found_len + 10);
+    want("the HTML of a heading is that of its text", !memcmp(html.bytes, "<h1>", 4) && !memcmp(html.bytes + 4, found.bytes, found_len) && !memcmp(html.bytes + 4 + found_len, "</h1>\n", 6));
+}
+
 /* Where the line ends that has this byte: before its ending, and behind it. */
 static size_t line_of(const drawn *it, size_t at, size_t *end) {
     while (at < it->bytes_len && it->bytes[at] != '\n' && it->bytes[at] != '\r') at++;
@@ -1069,6 +1118,7 @@ static void try_case(void) {
     if (is_done(STRING, &it, string_status(&it))) look_at_events(found.events, found_len);
     if (is_done(HTML, &it, html_status(&it))) want("HTML is UTF-8", is_utf8(found.bytes, found_len));
     try_whole(&it);
+    try_document(&it);
     lend_case(&it);
     if (is_done(TEXT, &it, text_status(&it))) {
         size_t len = found_len;

@@ -127,6 +127,14 @@ const bitsOfFlags = (options, ...names) => names.reduce((bits, name, at) => bits
 /** What HTML may hold, as bits. */
 export const shownOf = (options) => bitsOfFlags(options, 'rawHtml', 'anyLink');
 
+/** The same of a document, which has no other options. */
+export function shownOfDocument(options) {
+  for (const name of Object.keys(options ?? {})) {
+    if (name !== 'rawHtml' && name !== 'anyLink' && options[name] !== undefined) throw new TypeError(`no option of a document has the name ${name}`);
+  }
+  return shownOf(options);
+}
+
 /** How the texts of strings are written, as bits. */
 export const writtenOf = (options) => bitsOfFlags(options, 'lineFeeds', 'replacedNul');
 

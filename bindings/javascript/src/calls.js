@@ -1,5 +1,5 @@
 // The calls of the library over one instance.
-import { bitsOf, contentsOf, isInBytes, labelsOf, limitOf, linesOf, piecesOf, shownOf, stringsOf, targetsOf, textOf, usualLimit, writtenOf } from './arguments.js';
+import { bitsOf, contentsOf, isInBytes, labelsOf, limitOf, linesOf, piecesOf, shownOf, shownOfDocument, stringsOf, targetsOf, textOf, usualLimit, writtenOf } from './arguments.js';
 import { MarkdownInlineError, NO_MEMORY } from './errors.js';
 import { Instance } from './instance.js';
 import { linksOf } from './links.js';
@@ -74,6 +74,14 @@ export function callsOf(module, { maximum = 0xffff0000 } = {}) {
   const text = rowsOf('text', Events, EVENT, true);
   const shortTexts = rowsOfMany('short_texts', ShortEvents, SHORT_EVENT);
 
+  const documentHtml = (document, options) => {
+    const read = textOf(document), shown = shownOfDocument(options);
+    return on.within(() => {
+      const text = on.put(read), { at, many } = on.filled('document_html', [text.at, text.length, shown], 1, 2 * text.length + 64);
+      return on.decoded(at, at + many);
+    });
+  };
+
   const html = (document, options) => {
     const asked = askedOf(document, options, piecesOf(options), targetsOf(options?.definitions)), shown = shownOf(options), limit = limitOf(options);
     return on.within(() => {
@@ -133,7 +141,7 @@ export function callsOf(module, { maximum = 0xffff0000 } = {}) {
 
   return {
     text, string: rowsOf('string', Events, EVENT, false), leaves: rowsOf('leaves', Leaves, LEAF, true), tree: (document, options) => treeOf(text(document, options)),
-    texts: rowsOfMany('texts', Events, EVENT), shortTexts, html, htmls, strings, piecesOfLines, isText: holds('is_text'), isContent: holds('is_content'),
+    texts: rowsOfMany('texts', Events, EVENT), shortTexts, documentHtml, html, htmls, strings, piecesOfLines, isText: holds('is_text'), isContent: holds('is_content'),
     identifier: (label) => decodedBy('identifier', [], label, 'a label'),
     reference: (reference, options) => decodedBy('reference', [bitsOf(options)], reference, 'a reference'),
     links: (document, options) => linksOf({ shortTexts, strings }, document, options),

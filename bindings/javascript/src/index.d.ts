@@ -57,12 +57,16 @@ export interface Task {
 export type TextOptions = Rules & Pieces & Footnotes & Definitions & Task;
 export type TextsOptions = Rules & Offsets & Footnotes & Definitions;
 
-export interface HtmlsOptions extends Rules, Offsets, Footnotes {
-  definitions?: Targets;
+/** What HTML may hold. */
+export interface DocumentOptions {
   /** Writes raw HTML as it stands, and not as text. */
   rawHtml?: boolean;
   /** Lets links lead wherever they say, and not to listed schemes alone. */
   anyLink?: boolean;
+}
+
+export interface HtmlsOptions extends DocumentOptions, Rules, Offsets, Footnotes {
+  definitions?: Targets;
   /** How many bytes definitions may bring, from 1 on; Infinity is no limit. By default it is the length of the document in bytes, or 100,000 where that is more. */
   referenceLimit?: number;
 }
@@ -200,6 +204,9 @@ export declare const GFM: number;
 export declare const MATH: number;
 
 export interface Calls {
+  /** The HTML of a document, of its blocks and of the text inside them, as CommonMark 0.31.2 says. The document's own definitions count, and there is no limit on
+   * how many bytes they bring: n references to a definition of n bytes write n * n bytes. All other calls read the text inside one block. */
+  documentHtml(document: Text, options?: DocumentOptions): string;
   /** The events of a text: of a whole document, or of pieces of it. A call reads the whole document, so for many contents there is `texts`. */
   text(document: Text, options?: TextOptions): Rows<Event>;
   /** The events of a string, such as a title: of escapes, character references and data. */
@@ -243,6 +250,7 @@ export declare const leaves: Calls['leaves'];
 export declare const tree: Calls['tree'];
 export declare const texts: Calls['texts'];
 export declare const shortTexts: Calls['shortTexts'];
+export declare const documentHtml: Calls['documentHtml'];
 export declare const html: Calls['html'];
 export declare const htmls: Calls['htmls'];
 export declare const strings: Calls['strings'];

@@ -8,7 +8,7 @@ import { callsOf } from '../../out/javascript/calls.js';
 import * as inside from '../../out/javascript/one.js';
 import * as markdownInline from '../../out/javascript/index.js';
 
-const { COMMONMARK, GFM, MarkdownInlineError, create, html, htmls, identifier, isContent, isText, leaves, links, piecesOfLines, reference, shortTexts, string, strings, text, texts, tree } = markdownInline;
+const { COMMONMARK, GFM, MarkdownInlineError, create, documentHtml, html, htmls, identifier, isContent, isText, leaves, links, piecesOfLines, reference, shortTexts, string, strings, text, texts, tree } = markdownInline;
 const beside = (name) => fileURLToPath(new URL(name, import.meta.url));
 const has = (command) => spawnSync(command, ['--version']).status === 0;
 const bytesOf = (given) => new TextEncoder().encode(given);
@@ -30,10 +30,15 @@ test('examples of README.md', async () => {
   }
 });
 
-test('examples of CommonMark', { skip: !has('python3') }, () => {
-  const said = spawnSync('python3', [beside('rows.py')], { encoding: 'utf8' });
+/** The rows that rows.py prints by these words. */
+function rowsBy(...words) {
+  const said = spawnSync('python3', [beside('rows.py'), ...words], { encoding: 'utf8' });
   assert.equal(said.status, 0, said.stderr);
-  const rows = said.stdout.trimEnd().split('\n').map((it) => JSON.parse(it));
+  return said.stdout.trimEnd().split('\n').map((it) => JSON.parse(it));
+}
+
+test('examples of CommonMark', { skip: !has('python3') }, () => {
+  const rows = rowsBy();
   assert.ok(rows.length >= 400);
   for (const [words, given, wanted] of rows) {
     const definitions = new Map();
@@ -49,6 +54,15 @@ test('examples of CommonMark', { skip: !has('python3') }, () => {
   }
 });
 
+test('documents of CommonMark', { skip: !has('python3') }, () => {
+  const rows = rowsBy('pages');
+  assert.ok(rows.length >= 652);
+  for (const [word, document, wanted] of rows) {
+    const held = word === 'safe' ? {} : { rawHtml: true, anyLink: true };
+    for (const given of [document, bytesOf(document)]) assert.equal(documentHtml(given, held), wanted, document);
+  }
+});
+
 test('types', { skip: !has('tsc') }, () => {
   const said = spawnSync('tsc', ['--strict', '--noEmit', '--target', 'es2022', '--module', 'nodenext', '--moduleResolution', 'nodenext', beside('types.mts')], { encoding: 'utf8' });
   assert.equal(said.status, 0, said.stdout);
@@ -56,7 +70,7 @@ test('types', { skip: !has('tsc') }, () => {
 
 test('each error comes', () => {
   for (const call of [(options) => text('a', options), (options) => string('a', options), (options) => reference('&amp;', options)]) refuses('UNKNOWN_OPTION', () => call({ bits: 2 ** 31 }));
-  for (const call of [text, string, leaves, html, identifier, links]) refuses('NOT_UTF8', () => call(WRONG), call === links ? 0 : null);
+  for (const call of [text, string, leaves, html, documentHtml, identifier, links]) refuses('NOT_UTF8', () => call(WRONG), call === links ? 0 : null);
   refuses('NOT_UTF8', () => htmls(Uint8Array.of(0x61, 0xe2, 0x82), []), 1);
   for (const call of [text, leaves, html, links]) for (const given of ['a\n\nb', 'a\n']) refuses('BLANK_LINE', () => call(given), call === links ? 0 : null);
   for (const pieces of [[[0, 9]], [[1, 0]], [[0, 2 ** 40]]]) for (const call of [text, string, leaves, html]) refuses('NO_CONTENT', () => call('a', { pieces }));
@@ -79,6 +93,7 @@ test('what is no argument is named', () => {
     [/a piece/, () => text('a', { pieces: [null] })], [/contents is a list/, () => texts('a')], [/of a content/, () => texts('a', [{}])], [/firstOfItem/, () => texts('a', [{ pieces: [], firstOfItem: 1 }])],
     [/definitions/, () => text('a', { definitions: 'b' })], [/a label/, () => text('a', { definitions: [1] })], [/definitions/, () => html('a', { definitions: ['b'] })],
     [/a destination/, () => html('a', { definitions: { b: null } })], [/a title/, () => html('a', { definitions: { b: ['c', 1] } })], [/rawHtml/, () => html('a', { rawHtml: 'no' })],
+    [/Uint8Array/, () => documentHtml(1)], [/name gfm/, () => documentHtml('a', { gfm: true })], [/anyLink/, () => documentHtml('a', { anyLink: 1 })],
     [/referenceLimit/, () => html('a', { referenceLimit: 0 })], [/strings is a list/, () => strings('a', 'b')], [/paragraphs is a list/, () => piecesOfLines('a', 1)], [/a paragraph is a list/, () => piecesOfLines('a', [0])], [/the start of a line/, () => piecesOfLines('a', [['0']])], [/a part/, () => strings('a', [[['0', 1]]])],
   ]) assert.throws(call, (it) => (it instanceof TypeError || it instanceof RangeError) && error.test(it.message), String(error));
 });
@@ -182,9 +197,22 @@ test('the package in one file', () => {
   for (const call of [
     (on) => [...on.text(given, { definitions })], (on) => [...on.string(given)], (on) => [...on.leaves(given, { definitions })], (on) => [...on.tree(given).walk()].map((it) => [it.name, it.text]),
     (on) => Array.from(on.texts(given, [[0, 5]]), (it) => [...it]), (on) => Array.from(on.shortTexts(given, [[0, 5], [6, 20]], { definitions }), (it) => [...it]),
-    (on) => on.html(given, { definitions }), (on) => on.htmls(given, [[0, 5], [6, 20]]), (on) => on.strings(given, [[[0, 5]]]), (on) => on.piecesOfLines(given, [[0]]), (on) => on.identifier(given), (on) => on.reference('&check;'),
+    (on) => on.documentHtml(given), (on) => on.html(given, { definitions }), (on) => on.htmls(given, [[0, 5], [6, 20]]), (on) => on.strings(given, [[[0, 5]]]), (on) => on.piecesOfLines(given, [[0]]), (on) => on.identifier(given), (on) => on.reference('&check;'),
     (on) => on.isText(given), (on) => on.isContent(given), (on) => on.links(given, { definitions }), (on) => on.create({ maximum: 1 << 20 }).html(given), (on) => [on.NAMES, on.OPTIONS, on.GFM],
   ]) assert.deepEqual(call(inside), call(markdownInline), String(call));
+});
+
+test('documents have HTML', () => {
+  // Examples of CommonMark 0.31.2 (2.2, 4.6, 4.7, 5.1), and what the options change.
+  const div = '<div id="foo"\n  class="bar">\n</div>\n', given = '<b>\n\n[a](b:c)\n';
+  for (const [document, options, wanted] of [
+    ['- foo\n\n\t\tbar\n', undefined, '<ul>\n<li>\n<p>foo</p>\n<pre><code>  bar\n</code></pre>\n</li>\n</ul>\n'], ['', {}, ''],
+    ['[foo]: /url "title"\n\n[foo]\n', undefined, '<p><a href="/url" title="title">foo</a></p>\n'], ['> # Foo\n> bar\n> baz\n', {}, '<blockquote>\n<h1>Foo</h1>\n<p>bar\nbaz</p>\n</blockquote>\n'],
+    [div, { rawHtml: true, anyLink: undefined }, div], [given, {}, '&lt;b&gt;\n<p><a href="">a</a></p>\n'], [given, { rawHtml: true }, '<b>\n<p><a href="">a</a></p>\n'],
+    [given, { anyLink: true }, '&lt;b&gt;\n<p><a href="b:c">a</a></p>\n'], [given, { rawHtml: true, anyLink: true }, '<b>\n<p><a href="b:c">a</a></p>\n'],
+  ]) for (const it of [document, bytesOf(document)]) assert.equal(documentHtml(it, options), wanted);
+  // Half of a pair that stands alone is read as U+FFFD.
+  assert.equal(documentHtml('# \ud800é'), '<h1>\ufffdé</h1>\n');
 });
 
 test('pieces are made of lines', () => {
@@ -237,7 +265,7 @@ test('hostile texts take time in proportion to their length', () => {
   const gfm = { gfm: true };
   for (const it of HOSTILE) {
     const long = (length) => ('a' + it.repeat(length / it.length)).trimEnd();
-    for (const call of [html, text, links]) isLinear((length) => call(long(length), gfm), 8000, JSON.stringify(it));
+    for (const call of [html, text, links, (given) => documentHtml(given)]) isLinear((length) => call(long(length), gfm), 8000, JSON.stringify(it));
   }
 });
 
@@ -266,7 +294,7 @@ function withMaximum(pages) {
 
 test('refused memory is an error', () => {
   for (const little of [create({ maximum: 1 << 20 }), callsOf(withMaximum(16))]) {
-    const calls = { text: (given) => little.text(given).length, html: little.html, texts: (given) => little.texts(given, [[0, given.length]]).length, links: (given) => little.links(given).length };
+    const calls = { text: (given) => little.text(given).length, html: little.html, documentHtml: little.documentHtml, texts: (given) => little.texts(given, [[0, given.length]]).length, links: (given) => little.links(given).length };
     for (const [name, call] of Object.entries(calls)) {
       let refused = 0;
       for (let length = 6; length < 3000000; length = Math.ceil(length * 1.2)) {

@@ -1,7 +1,7 @@
 // Reads cases of ../../tests/draw.py from standard input, and prints what the package finds in each, as cases.py there does. Each other document is
 // handed over as a string, half of these with pieces in UTF-16, and its offsets and columns in UTF-16 are counted here too.
 import { readFileSync } from 'node:fs';
-import { COMMONMARK, CRATE, GFM, MATH, OPTIONS, MarkdownInlineError, html, htmls, leaves, shortTexts, string, text, texts } from '../../out/javascript/index.js';
+import { COMMONMARK, CRATE, GFM, MATH, OPTIONS, MarkdownInlineError, documentHtml, html, htmls, leaves, shortTexts, string, text, texts } from '../../out/javascript/index.js';
 
 const SWITCHES = { gfm: GFM, math: MATH, task: OPTIONS.firstOfItem };
 const decoder = new TextDecoder('utf-8', { fatal: true, ignoreBOM: true });
@@ -80,7 +80,9 @@ function found(how, document, spans, options, places, labels, rest) {
   if (how === 'leaves') return all(leaves(document, one), shownLeaf, places);
   if (how === 'texts') return parted([...texts(document, listed(rest[0]).map(content), { ...options, definitions: labels })].map((it) => all(it, shown, places)));
   if (how === 'shorts') return parted([...shortTexts(document, listed(rest[0]).map(content), { ...options, definitions: labels })].map((it) => all(it, shownShort, places)));
-  const written = { ...options, definitions: targets(rest[1]), rawHtml: (rest[0] & 1) !== 0, anyLink: (rest[0] & 2) !== 0 };
+  const held = { rawHtml: (rest[0] & 1) !== 0, anyLink: (rest[0] & 2) !== 0 };
+  if (how === 'document') return ' ' + hex(documentHtml(document, held));
+  const written = { ...options, ...held, definitions: targets(rest[1]) };
   if (how === 'html') return ' ' + hex(html(document, { ...written, pieces: spans }));
   return parted(htmls(document, listed(rest[2]).map(content), { ...written, referenceLimit: Number(rest[3]) || Infinity }).map(hex));
 }

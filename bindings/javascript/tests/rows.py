@@ -1,13 +1,22 @@
 #!/usr/bin/env python3
-"""Prints the rows of inline_html that are examples of CommonMark's specification, each as a line of JSON: its words, its input, and the HTML that it has."""
+"""Prints the rows of inline_html that are examples of CommonMark's specification, each as a line of JSON: its words, its input, and the HTML that it has.
+
+usage: rows.py [pages]
+
+With `pages` the rows are those of markdown_page_examples, without those of line endings."""
 import json
 import os
 import sys
 
 sys.dont_write_bytecode = True
-sys.path.insert(0, os.path.join(os.path.dirname(os.path.abspath(__file__)), '../../../tools/checks'))
+ROOT = os.path.join(os.path.dirname(os.path.abspath(__file__)), '../../..')
+sys.path[:0] = [os.path.join(ROOT, it) for it in ('tools/checks', 'crates/markdown_page_examples/tools')]
+import pages  # noqa: E402
 import rows  # noqa: E402
 
+if sys.argv[1:] == ['pages']:
+    read = (pages.read(row) for groups in pages.rows().values() for group in groups.values() for row in group)
+    sys.exit(print(*(json.dumps(it) for it in read if it[0] in ('', 'safe')), sep='\n'))
 for line in rows.lines('inline_html', 'rows-of-specification.txt'):
     words, given, status, wanted, _ = rows.read(line)
     if status != 0 or not wanted.endswith(b'\n'):

@@ -1,5 +1,5 @@
 // What has to fit the types, and what must not.
-import { COMMONMARK, GFM, MarkdownInlineError, create, html, htmls, leaves, links, piecesOfLines, shortTexts, strings, text, tree, type Name, type Node } from '../../out/javascript/index.js';
+import { COMMONMARK, GFM, MarkdownInlineError, create, documentHtml, html, htmls, leaves, links, piecesOfLines, shortTexts, strings, text, tree, type Name, type Node } from '../../out/javascript/index.js';
 import plugin, { piecesOf } from '../../out/javascript/markdown-it.js';
 
 for (const event of text('a *b*', { gfm: true, codeText: false, definitions: ['a'] })) {
@@ -21,7 +21,8 @@ const six: Node[] = tree('a').children, seven: string = [...tree('*a*', { gfm: t
 plugin({}, { signs: { mention: /@/ }, places: true });
 const eight: number | undefined = piecesOf([{ type: 'inline', tag: '', markup: '', content: 'a', map: [0, 1] }], 'a')[0]?.[0]?.[0];
 const nine: string[] = htmls('> a', piecesOfLines('> a', [[1]]).map((pieces) => ({ pieces })));
-console.log(six, seven, eight, nine);
+const ten: string = documentHtml('# a', { rawHtml: true }) + documentHtml(new Uint8Array());
+console.log(six, seven, eight, nine, ten);
 
 // @ts-expect-error no such name
 tree('a').find('Nothing');
@@ -29,6 +30,8 @@ tree('a').find('Nothing');
 plugin({}, { signs: { mention: '@' } });
 // @ts-expect-error no such option
 text('a', { nonsense: true });
+// @ts-expect-error a document has no such option
+documentHtml('a', { gfm: true });
 // @ts-expect-error no such rules
 text('a', { rules: 'gfm' });
 // @ts-expect-error definitions of HTML say where they lead

@@ -1,10 +1,14 @@
-"""The inline layer of Markdown: a paragraph in, the events of its inline tree out.
+"""Markdown: the HTML of a document, and the events of a paragraph's inline tree.
 
-    >>> from markdown_inline import Kind, Name, text
+    >>> from markdown_inline import Kind, Name, document_html, text
+    >>> document_html('# a *b*')
+    '<h1>a <em>b</em></h1>\\n'
     >>> [str(event.name) for event in text('a *b*') if event.kind == Kind.Enter][:4]
     ['Data', 'Emphasis', 'EmphasisSequence', 'EmphasisText']
     >>> [event.index for event in text('a *b*') if event.name == Name.Emphasis]
     [2, 5]
+
+`document_html` reads a whole document, its blocks included. All other calls read the text inside one block, such as a paragraph.
 
 Kinds and names are members of enumerations, and equal to no string; `str` of them is the text that the program mdinline prints. By default a text is read as
 CommonMark 0.31.2 says, as in C and in Rust; `gfm=True` asks for what GitHub adds. What the calls return is proved; this package calls the proved library.
@@ -22,8 +26,8 @@ from ._nodes import Node, Tree, tree_of
 __all__ = [
     'Address', 'BlankLine', 'COMMONMARK', 'CRATE', 'Content', 'DefinitionError', 'Error', 'Event', 'Events', 'GFM', 'Kind', 'Leaf', 'Leaves', 'Link',
     'MATH', 'Name', 'NoContent', 'NoMemory', 'NoReference', 'NoString', 'Node', 'NotUtf8', 'OPTIONS', 'Piece', 'References', 'ShortEvent',
-    'ShortEvents', 'ShortTexts', 'Texts', 'TooLong', 'Tree', 'UnknownOption', 'html', 'htmls', 'identifier', 'is_content', 'is_text', 'leaves',
-    'links', 'pieces_of_lines', 'reference', 'short_texts', 'string', 'strings', 'text', 'texts', 'tree',
+    'ShortEvents', 'ShortTexts', 'Texts', 'TooLong', 'Tree', 'UnknownOption', 'document_html', 'html', 'htmls', 'identifier', 'is_content', 'is_text',
+    'leaves', 'links', 'pieces_of_lines', 'reference', 'short_texts', 'string', 'strings', 'text', 'texts', 'tree',
 ]
 
 __version__ = '1.0.0'
@@ -283,6 +287,27 @@ def _targets(definitions: Mapping[Any, Target]) -> List[Tuple[str, Optional[str]
     return found
 
 
+def document_html(document: Text, *, raw_html: bool = False, any_link: bool = False) -> str:
+    """The HTML of a document, of its blocks and of the text inside them, as CommonMark 0.31.2 says. The document's own definitions count. `raw_html` writes raw
+    HTML as it stands and not as text; `any_link` lets links lead wherever they say and not to listed schemes alone. Line endings of the document stay; those that
+    the page itself brings are line feeds.
+
+    There is no limit on how many bytes definitions bring: n references to a definition of n bytes write n * n bytes.
+
+    >>> document_html('> [a](b:c)\\n\\n<p>')
+    '<blockquote>\\n<p><a href="">a</a></p>\\n</blockquote>\\n&lt;p&gt;\\n'
+    """
+    status, found = _library.document_html(_arguments.text_of(document, 'document'), _shown(raw_html, any_link))
+    if status:
+        raise _raised(status)
+    return str(found, 'utf-8')
+
+
+def _shown(raw_html: bool, any_link: bool) -> int:
+    """What HTML may hold, as bits."""
+    return _arguments.flag_of(raw_html, 'raw_html') | _arguments.flag_of(any_link, 'any_link') << 1
+
+
 def html(document: Text, pieces: Pieces = None, gfm: bool = False, math: bool = False, *, task: bool = False, rules: Rules = 'commonmark',
          options: Optional[int] = None, definitions: Targets = None, footnotes: Iterable[Text] = (), raw_html: bool = False, any_link: bool = False,
          reference_limit: Optional[int] = None) -> str:
@@ -299,8 +324,7 @@ def html(document: Text, pieces: Pieces = None, gfm: bool = False, math: bool = 
     given = _library.Given(
         bytes_given, _arguments.pieces_of(pieces, len(bytes_given)), _bits(options, rules, gfm, math, task), defined,
         _arguments.labels_of(footnotes, 'footnotes'), written)
-    asked = _arguments.flag_of(raw_html, 'raw_html') | _arguments.flag_of(any_link, 'any_link') << 1
-    status, found = _library.html(given, targets, len(defined), asked, _limit(reference_limit, bytes_given))
+    status, found = _library.html(given, targets, len(defined), _shown(raw_html, any_link), _limit(reference_limit, bytes_given))
     if status:
         raise _raised(status)
     return str(found, 'utf-8')
@@ -322,8 +346,7 @@ def htmls(document: Text, contents: Contents, gfm: bool = False, math: bool = Fa
     pieces, listed, count = _arguments.contents_of(contents)
     defined, targets, written = _arguments.targets_of(definitions)
     given = _library.Given(bytes_given, pieces, _bits(options, rules, gfm, math), defined, _arguments.labels_of(footnotes, 'footnotes'), written)
-    asked = _arguments.flag_of(raw_html, 'raw_html') | _arguments.flag_of(any_link, 'any_link') << 1
-    limit = _limit(reference_limit, bytes_given)
+    asked, limit = _shown(raw_html, any_link), _limit(reference_limit, bytes_given)
     status, found, ends, blamed = _library.htmls(given, targets, len(defined), listed, count, asked, limit)
     if status:
         raise _raised(status, blamed)

@@ -1,23 +1,26 @@
 """Prints what stands on standard input, which is one paragraph: its events as the program mdinline does, with the same words and the same statuses; or
-its tree, its HTML or its links."""
+its tree, its HTML or its links. Of files, or of standard input as a file, it prints the HTML with all blocks."""
 import os
 import sys
 
-from . import COMMONMARK, CRATE, GFM, MATH, Error, Events, OPTIONS, TooLong, __version__, html, links, string, text
+from . import COMMONMARK, CRATE, GFM, MATH, Error, Events, NotUtf8, OPTIONS, TooLong, __version__, document_html, html, links, string, text
 from . import _program, _tables
 
 USAGE = '''usage: python -m markdown_inline text|string [WORD]..        the events
        python -m markdown_inline --tree [text|string] [WORD]..  what stands in what, with its text
        python -m markdown_inline --html [text] [WORD]..         the HTML
        python -m markdown_inline --links [text] [WORD]..        where links lead
+       python -m markdown_inline --document [WORD].. [FILE]..   the HTML of files, with all blocks
        python -m markdown_inline --help|--version
 words: gfm math task crate cm-lengths cm-shortcut html-references commonmark note=TEXT; of events and the tree label=TEXT; of HTML and links define=LABEL
-       to=DESTINATION [title=TEXT]; of HTML raw any-link'''
+       to=DESTINATION [title=TEXT]; of HTML raw any-link; of documents raw any-link alone'''
 # The words of mdinline. By `crate` the program reads as mdinline does, by the rules of the crate where the last four say nothing else.
 SWITCHES = {
     'gfm': GFM, 'math': MATH, 'task': OPTIONS['first_of_item'], 'crate': 0, 'cm-lengths': OPTIONS['attention_first_lengths'],
     'cm-shortcut': OPTIONS['label_shortcut_before_bracket'], 'html-references': OPTIONS['html_references'], 'commonmark': OPTIONS['standard_rules'],
 }
+# Words that say what HTML may hold.
+SHOWN = {'raw': 'raw_html', 'any-link': 'any_link'}
 # Statuses: a word is not known, memory was refused, reading or writing failed.
 USAGE_STATUS, NO_MEMORY, FAILED = 2, 5, 6
 
@@ -35,27 +38,38 @@ class Asked:
 
     def __init__(self, words):
         self.how, self.reads, self.options, self.html = '', '', CRATE if 'crate' in words else COMMONMARK, {'raw_html': False, 'any_link': False}
-        self.labels, self.notes, self.targets = [], [], []
-        words = list(words)
-        if words and words[0] in ('--tree', '--html', '--links'):
+        self.labels, self.notes, self.targets, self.files = [], [], [], []
+        words, take = list(words), self.take
+        if words and words[0] in ('--tree', '--html', '--links', '--document'):
             self.how = words.pop(0)
             self.reads = 'text'
-        if words and (words[0] == 'text' or words[0] == 'string' and self.how in ('', '--tree')):
+        if self.how == '--document':
+            take = self.take_file
+        elif words and (words[0] == 'text' or words[0] == 'string' and self.how in ('', '--tree')):
             self.reads = words.pop(0)
-        if not self.reads or not all([self.take(it) for it in words]) or any(it[1] is None for it in self.targets):
+        if not self.reads or not all([take(it) for it in words]) or any(it[1] is None for it in self.targets):
             raise Fault(USAGE_STATUS, USAGE)
 
     def take(self, word):
         """Takes a word, and returns whether it is known and stands where it may."""
         name, sign, words = word.partition('=')
         if not sign:
-            switch = name.replace('raw', 'raw_html').replace('-', '_')
-            if self.how == '--html' and switch in self.html:
-                self.html[switch] = True
+            if self.how == '--html' and self.take_shown(name):
                 return True
             self.options |= SWITCHES.get(name, 0)
             return name in SWITCHES
         return self.take_text(name, os.fsencode(words))
+
+    def take_shown(self, word):
+        if word in SHOWN:
+            self.html[SHOWN[word]] = True
+        return word in SHOWN
+
+    def take_file(self, word):
+        """Takes what HTML may hold, or the name of a file. No name begins with a hyphen."""
+        if not self.take_shown(word):
+            self.files.append(word)
+        return not word.startswith('-')
 
     def take_text(self, name, words):
         words.decode()
@@ -93,13 +107,26 @@ class Asked:
         return ''.join(it + '\n' for it in found)
 
 
+def read(file=None):
+    """What stands in a file, or on standard input."""
+    try:
+        with open(0 if file is None else file, 'rb', closefd=file is not None) as it:
+            return it.read()
+    except OSError:
+        raise Fault(FAILED, 'read failed' if file is None else '%r: read failed' % file) from None
+
+
+def document_of(file, html):
+    """The HTML of a file, or of standard input."""
+    try:
+        return document_html(read(file), **html)
+    except NotUtf8 as error:
+        raise Fault(error.status, str(error) if file is None else '%r: %s' % (file, error)) from None
+
+
 def read_all():
     """What stands on standard input, without one final line ending."""
-    try:
-        with open(0, 'rb', closefd=False) as file:
-            given = file.read()
-    except OSError:
-        raise Fault(FAILED, 'read failed') from None
+    given = read()
     for ending in (b'\r\n', b'\n', b'\r'):
         if given.endswith(ending):
             return given[:-len(ending)]
@@ -119,7 +146,10 @@ def run(words):
     if words in (['--help'], ['--version']):
         return write_all((USAGE if words == ['--help'] else 'markdown_inline ' + __version__) + '\n')
     asked = Asked(words)
-    write_all(asked.output(read_all()))
+    if asked.how == '--document':
+        write_all(''.join([document_of(it, asked.html) for it in asked.files or [None]]))
+    else:
+        write_all(asked.output(read_all()))
 
 
 def main(words):

@@ -77,7 +77,7 @@ def _load():
     given, outcome = [ctypes.POINTER(Input)], [ctypes.POINTER(Outcome)]
     for name, arguments in (
         ('is_content', text + numbers), ('is_text', text + numbers), ('pieces_of_lines', text + 2 * numbers + outcome), ('string', given + lent), ('text', given + lent), ('leaves', given + lent),
-        ('identifier', text + lent), ('reference', [ctypes.c_uint32] + text + lent), ('texts', given + 3 * numbers + outcome), ('short_texts', given + 3 * numbers + outcome),
+        ('document_html', text + [ctypes.c_uint32] + lent), ('identifier', text + lent), ('reference', [ctypes.c_uint32] + text + lent), ('texts', given + 3 * numbers + outcome), ('short_texts', given + 3 * numbers + outcome),
         ('html', given + numbers + [ctypes.c_uint32, _size] + lent), ('htmls', given + 2 * numbers + [ctypes.c_uint32, _size] + 2 * numbers + outcome),
         ('strings', 2 * [ctypes.c_uint32] + text + 4 * numbers + outcome),
     ):
@@ -184,6 +184,11 @@ def decoded(name, text, *before):
     """Calls a function over bytes, with these arguments before them: its status, and the bytes that stand for them."""
     function = getattr(LIBRARY, name)
     return filled(lambda *lent: function(*before, text, len(text), *lent), 1, len(text))
+
+
+def document_html(document, options):
+    """Calls for the HTML of a document: the status, and its bytes."""
+    return filled(lambda *lent: LIBRARY.markdown_inline_document_html(document, len(document), options, *lent), 1, 2 * len(document))
 
 
 def texts(name, size, given, contents, count):

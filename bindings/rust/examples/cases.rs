@@ -2,7 +2,8 @@
 //! `crates/markdown_test_runs` does, leaves, HTML in hexadecimal, or the events or the HTML of each text; where there are none, why.
 
 use markdown_inline::{
-    Error, Event, HtmlOptions, Input, Leaf, Options, Piece, Point, Refusal, ShortEvent, TextContent,
+    document_html, Error, Event, HtmlOptions, Input, Leaf, Options, Piece, Point, Refusal,
+    ShortEvent, TextContent,
 };
 use std::io::{self, BufRead};
 
@@ -115,21 +116,21 @@ fn shorts_of(input: &Input, contents: &str) -> Result<String, Refusal> {
     Ok(shown.collect())
 }
 
-fn html_of(input: &Input, bits: &str) -> Result<String, Error> {
+// What HTML may hold, by bits.
+fn held(bits: &str) -> HtmlOptions {
     let bits: u32 = bits.parse().unwrap();
-    let options = HtmlOptions {
+    HtmlOptions {
         raw_html: bits & 1 > 0,
         any_link: bits & 2 > 0,
-    };
-    Ok(format!(" {}", hexadecimal(input.html(options)?.as_bytes())))
+    }
+}
+
+fn html_of(html: Result<String, Error>) -> Result<String, Error> {
+    Ok(format!(" {}", hexadecimal(html?.as_bytes())))
 }
 
 fn htmls_of(input: &Input, words: &[&str]) -> Result<String, Refusal> {
-    let bits: u32 = words[0].parse().unwrap();
-    let options = HtmlOptions {
-        raw_html: bits & 1 > 0,
-        any_link: bits & 2 > 0,
-    };
+    let options = held(words[0]);
     let contents: Vec<TextContent> = listed(words[2]).map(content_of).collect();
     let input = input.clone().reference_limit(words[3].parse().unwrap());
     let htmls = input.htmls(&contents, options)?;
@@ -159,7 +160,8 @@ fn answer(words: &[&str]) -> Result<String, Refusal> {
         "string" => Ok(input.string()?.iter().map(shown).collect()),
         "text" => Ok(input.text()?.iter().map(shown).collect()),
         "leaves" => Ok(input.leaves()?.iter().map(shown_leaf).collect()),
-        "html" => Ok(html_of(&input, words[6])?),
+        "html" => Ok(html_of(input.html(held(words[6])))?),
+        "document" => Ok(html_of(document_html(&document, held(words[6])))?),
         "htmls" => htmls_of(&input, &words[6..]),
         "shorts" => shorts_of(&input, words[6]),
         _ => texts_of(&input, words[6]),

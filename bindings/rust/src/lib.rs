@@ -1,6 +1,17 @@
-//! The inline layer of Markdown: a paragraph in, the events of its inline tree out.
+//! Markdown: the HTML of a document, and the events of a paragraph's inline tree.
 //!
-//! What the calls return is proved; this crate calls the proved library, and has no dependencies.
+//! What the calls return is proved; this crate calls the proved library, and has no dependencies. [`document_html`] writes the HTML of a document, its blocks
+//! included. All other calls read the text inside one block.
+//!
+//! ```
+//! # fn main() -> Result<(), markdown_inline::Error> {
+//! let html = markdown_inline::document_html("# a *b*\n\n- [c](/d)\n", Default::default())?;
+//! assert_eq!(html, "<h1>a <em>b</em></h1>\n<ul>\n<li><a href=\"/d\">c</a></li>\n</ul>\n");
+//! # Ok(())
+//! # }
+//! ```
+//!
+//! The events of a paragraph:
 //!
 //! ```
 //! # fn main() -> Result<(), markdown_inline::Error> {
@@ -81,6 +92,38 @@ pub use raw::Piece;
 pub use short::{ShortEvent, ShortIter, ShortTexts, ShortTextsIter};
 pub use strings::{strings, strings_with, Strings, StringsIter};
 pub use texts::{TextContent, Texts, TextsIter};
+
+/// The HTML of a document, of its blocks and of the text inside them, as CommonMark 0.31.2 says. The document's own definitions count. Line endings of the
+/// document stay; those that the page itself brings are line feeds.
+///
+/// There is no limit on how many bytes definitions bring: n references to a definition of n bytes write n * n bytes.
+///
+/// # Errors
+///
+/// `TooLong`, `NotUtf8` or `NoMemory`.
+///
+/// ```
+/// use markdown_inline::{document_html, HtmlOptions};
+/// let options = HtmlOptions { raw_html: true, ..HtmlOptions::default() };
+/// assert_eq!(document_html("<b>\n\n[a](b:c)\n", options).unwrap(), "<b>\n<p><a href=\"\">a</a></p>\n");
+/// ```
+pub fn document_html<D: AsRef<[u8]> + ?Sized>(
+    document: &D,
+    options: HtmlOptions,
+) -> Result<String, Error> {
+    let document = document.as_ref();
+    // SAFETY: each pointer goes with the length of its array, and nothing is kept.
+    text_by(2 * document.len() + 128, |array, len, count| unsafe {
+        raw::markdown_inline_document_html(
+            document.as_ptr(),
+            document.len(),
+            options.bits(),
+            array,
+            len,
+            count,
+        )
+    })
+}
 
 /// The events of a whole document as a text, read as CommonMark says.
 ///
@@ -168,7 +211,7 @@ fn text_by(
 ) -> Result<String, Error> {
     let mut found = Vec::new();
     fill::fill(&mut found, expected, call)?;
-    String::from_utf8(found).map_err(|_| Error::NotUtf8)
+    String::from_utf8(fill::fitted(found)).map_err(|_| Error::NotUtf8)
 }
 
 /// Whether the library that is linked has the version of the interface that this crate is written for.

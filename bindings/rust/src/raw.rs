@@ -150,6 +150,14 @@ pub(crate) type TextsCall<T> = unsafe extern "C" fn(
 
 extern "C" {
     pub(crate) fn markdown_inline_version() -> u32;
+    pub(crate) fn markdown_inline_document_html(
+        bytes: *const u8,
+        bytes_len: usize,
+        html_options: u32,
+        html: *mut u8,
+        html_len: usize,
+        count: *mut usize,
+    ) -> u32;
     pub(crate) fn markdown_inline_is_content(
         bytes: *const u8,
         bytes_len: usize,

@@ -1,9 +1,9 @@
 //! Statuses, memory that is used again, and calls on several threads.
 
 use markdown_inline::{
-    identifier, is_right_version, reference, reference_with, string, strings, strings_with, text,
-    Error, Event, Events, HtmlOptions, Htmls, Input, Name, Options, Piece, Refusal, ShortEvent,
-    ShortTexts, StringOptions, TextContent, Texts,
+    document_html, identifier, is_right_version, reference, reference_with, string, strings,
+    strings_with, text, Error, Event, Events, HtmlOptions, Htmls, Input, Name, Options, Piece,
+    Refusal, ShortEvent, ShortTexts, StringOptions, TextContent, Texts,
 };
 use std::thread;
 
@@ -458,6 +458,50 @@ fn html_is_safe_where_nothing_else_is_asked() {
         input.html(options).unwrap(),
         "<b> <a href=\"javascript:b\">a</a> <a href=\"/d\" title=\"e\">c</a>"
     );
+}
+
+/// Examples of CommonMark 0.31.2 (2.2, 4.6, 4.7, 5.1), and what the options change.
+#[test]
+fn documents_have_html() {
+    let safe = HtmlOptions::default();
+    for (document, html) in [
+        (
+            "- foo\n\n\t\tbar\n",
+            "<ul>\n<li>\n<p>foo</p>\n<pre><code>  bar\n</code></pre>\n</li>\n</ul>\n",
+        ),
+        (
+            "[foo]: /url \"title\"\n\n[foo]\n",
+            "<p><a href=\"/url\" title=\"title\">foo</a></p>\n",
+        ),
+        (
+            "> # Foo\n> bar\n> baz\n",
+            "<blockquote>\n<h1>Foo</h1>\n<p>bar\nbaz</p>\n</blockquote>\n",
+        ),
+        ("", ""),
+    ] {
+        assert_eq!(document_html(document, safe).unwrap(), html);
+        assert_eq!(document_html(document.as_bytes(), safe).unwrap(), html);
+    }
+    let div = "<div id=\"foo\"\n  class=\"bar\">\n</div>\n";
+    for (document, raw_html, any_link, html) in [
+        (div, true, false, div),
+        (
+            "<b>\n\n[a](b:c)\n",
+            false,
+            false,
+            "&lt;b&gt;\n<p><a href=\"\">a</a></p>\n",
+        ),
+        (
+            "<b>\n\n[a](b:c)\n",
+            true,
+            true,
+            "<b>\n<p><a href=\"b:c\">a</a></p>\n",
+        ),
+    ] {
+        let options = HtmlOptions { raw_html, any_link };
+        assert_eq!(document_html(document, options).unwrap(), html);
+    }
+    assert_eq!(document_html(b"a\xff", safe), Err(Error::NotUtf8));
 }
 
 #[test]

@@ -31,6 +31,7 @@ HEAD = '''# The HTML of the examples of the CommonMark Spec %s by John MacFarlan
 EXAMPLE = re.compile(r'^`{32} example\n(.*?)^\.\n(.*?)^`{32}$', re.M | re.S)
 # What version 0.31.2 changed: the number of an example of 0.30, and its HTML by that version.
 CHANGED = {625: '<p>foo <!-- not a comment -- two hyphens --></p>\n', 626: '<p>foo <!--> foo --&gt;</p>\n<p>foo <!-- foo---></p>\n'}
+ROW = re.compile('(\\w*) ?«([^»]*)»: «([^»]*)»')
 SIGNS = {'\n': '␊', '\t': '␉'}
 
 
@@ -72,6 +73,12 @@ def standard_rows():
 def rows():
     """The rows of each file, by groups."""
     return {'StandardPages': standard_rows(), 'ChosenPages': groups_of(os.path.join(HERE, 'tools/choices.txt'))}
+
+
+def read(row):
+    """The word of a row, its document and its HTML."""
+    word, document, html = ROW.fullmatch(row).groups()
+    return word, plain(document), plain(html)
 
 
 def statement(row):
