@@ -401,7 +401,8 @@ MARKDOWN_INLINE_API uint32_t markdown_inline_version(void);
 /* Writes the HTML of a document, in UTF-8: of its blocks and of the text inside them, as CommonMark 0.31.2 says. The document's own definitions count, and
  * the call takes no others. `html_options` has the bits MARKDOWN_INLINE_HTML_RAW and MARKDOWN_INLINE_HTML_ANY_LINK. Without them raw HTML is written as text,
  * and no link leads to a script. Line endings of the document stay; those that the page itself brings are line feeds.
- * There is no limit on how many bytes definitions bring: n references to a definition of n bytes write n * n bytes.
+ * There is no limit on how many bytes definitions bring: n references to a definition of n bytes write n * n bytes. Of most documents the HTML is less than
+ * twice as long as the document. Lend that much room, since a call with too little does all the work and writes nothing.
  * DONE: the HTML stands at the front of the array, and `*count` is how many bytes it has. TOO_SMALL: `*count` is how many it has, and the array is as before;
  * call again with room for them. UNKNOWN_OPTION, TOO_LONG, NOT_UTF8, NO_MEMORY: nothing is written. */
 MARKDOWN_INLINE_API uint32_t markdown_inline_document_html(const uint8_t *bytes, size_t bytes_len, uint32_t html_options, uint8_t *html, size_t html_len, size_t *count);
