@@ -14,11 +14,19 @@ sys.path[:0] = [os.path.join(ROOT, it) for it in ('tools/checks', 'crates/markdo
 import pages  # noqa: E402
 import rows  # noqa: E402
 
-if sys.argv[1:] == ['pages']:
-    read = (pages.read(row) for groups in pages.rows().values() for group in groups.values() for row in group)
-    sys.exit(print(*(json.dumps(it) for it in read if it[0] in ('', 'safe')), sep='\n'))
-for line in rows.lines('inline_html', 'rows-of-specification.txt'):
-    words, given, status, wanted, _ = rows.read(line)
-    if status != 0 or not wanted.endswith(b'\n'):
-        sys.exit('no example: ' + line)
-    print(json.dumps([[word.decode() for word in words], given.decode(), wanted.decode()[:-1]]))
+
+def of_paragraphs():
+    for line in rows.lines('inline_html', 'rows-of-specification.txt'):
+        words, given, status, wanted, _ = rows.read(line)
+        if status != 0 or not wanted.endswith(b'\n'):
+            sys.exit('no example: ' + line)
+        yield [word.decode() for word in words], given.decode(), wanted.decode()[:-1]
+
+
+def of_documents():
+    found = (pages.read(row) for groups in pages.rows().values() for group in groups.values() for row in group)
+    return (it for it in found if it[0] in ('', 'safe'))
+
+
+for example in of_documents() if sys.argv[1:] == ['pages'] else of_paragraphs():
+    print(json.dumps(example))
