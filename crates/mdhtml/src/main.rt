@@ -8,6 +8,9 @@ use markdown_page::document::to_html;
 use std::alloc::Global;
 use std::process::ExitCode;
 
+// What some editors write before a file's text; it is no part of the document.
+const BYTE_ORDER_MARK: &[u8] = b"\xEF\xBB\xBF";
+
 // Writes HTML with these options.
 #[derive(Drop)]
 struct Html {
@@ -58,7 +61,8 @@ Statuses, of the first fault; a line on standard error says why
     }
 
     fn output(&self, alloc: Global, _file: Option<&str>, bytes: &[u8]) -> Result<Vec<u8>, Fault> {
-        match to_html(alloc, bytes, self.options)? {
+        let text = bytes.strip_prefix(BYTE_ORDER_MARK).unwrap_or(bytes);
+        match to_html(alloc, text, self.options)? {
             Some(html) => Ok(html),
             None => Err(Fault::NotText),
         }
