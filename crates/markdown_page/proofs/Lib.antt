@@ -2,6 +2,15 @@
 pub mod DefinitionStringLemmas
 pub mod BlankPieces
 pub mod PieceBytes
+pub mod FilledLines
+pub mod FirstWords
+pub mod HtmlCodes
+pub mod LeafCases
+pub mod LineTexts
 pub mod ListSteps
 pub mod ListTrees
 pub mod NextItems
+pub mod PlacedHtml
+pub mod PlacedRows
+pub mod PlacedWalk
+pub mod WriterSteps

@@ -1,5 +1,11 @@
 -- The definitions of this crate.
 pub mod DefinitionStrings
 pub mod BlankPieces
+pub mod CodeLines
+pub mod GivenPage
+pub mod HtmlLines
 pub mod ListPlaces
 pub mod ListWalks
+pub mod PlacedTree
+pub mod RowTexts
+pub mod WriterStates

@@ -1,5 +1,13 @@
-//! The HTML of a document.
+//! The HTML of a Markdown document, by CommonMark 0.31.2.
 #![tactic(auto)]
 
 pub mod definitions;
+mod code;
+mod given;
+mod html;
+mod leaves;
+mod lines;
 pub mod lists;
+mod tags;
+mod texts;
+mod write;

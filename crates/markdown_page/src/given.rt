@@ -1,0 +1,13 @@
+//! What is given beside the blocks of a document.
+
+use markdown_document::document::Document;
+use markdown_html::targets::Targets;
+use markdown_html_model::options::HtmlOptions;
+
+/// What is given beside the blocks of a document: the document, what its labels lead to, and what may be written.
+#[derive(Clone, Copy)]
+pub struct Given<'a> {
+    pub document: &'a Document<'a>,
+    pub targets: &'a Targets,
+    pub options: HtmlOptions,
+}

@@ -1,0 +1,147 @@
+//! Leaves.
+
+ghost use Rattle.std.specs.Prelude.{◌≡◌, ◌++◌, OnOk, codes, decimal};
+ghost use Rattle.markdown_content.specs.Content.{content_of, IsTextContent};
+ghost use Rattle.markdown_block_definitions.specs.ResolvedRows.{IsText, IsTextLeaf};
+ghost use Rattle.markdown_block_model.specs.BlockTree.{paragraph};
+ghost use Rattle.markdown_blocks.specs.BlockRows.{leaf_of};
+ghost use Rattle.markdown_page_model.specs.PageHtml.{text_html, heading_html, on_line, leaf_html};
+ghost use Rattle.markdown_page.specs.GivenPage.{bytes_of, setting_of, page_of};
+ghost use Rattle.markdown_page.specs.PlacedTree.{leaf_written, is_in_line_behind};
+ghost use Rattle.markdown_page.specs.RowTexts.{IsTrimmedLeaf};
+
+use crate::code::{push_fenced, push_indented};
+use crate::given::Given;
+use crate::html::push_html;
+use crate::tags::{push_ending, push_line_start, push_number, push_on_line};
+use crate::texts::push_text;
+use markdown_blocks::block::Leaf;
+use markdown_content::parser::Piece;
+use std::alloc::{AllocError, Global};
+
+// Appends a tag of headings of a level.
+fn push_heading_tag(out: &mut Vec<u8>, before: &[u8], level: usize) -> Result<(), AllocError>
+    ensures { OnOk result (out.new.items ≡ out.old.items ++ (before.now ++ decimal level ++ codes ">")) }
+{
+    out.extend_from_slice(before)?;
+    push_number(out, level)?;
+    out.extend_from_slice(b">")
+}
+
+// Appends a heading (CommonMark 4.2 and 4.3).
+fn push_heading(
+    alloc: Global,
+    given: &Given,
+    out: &mut Vec<u8>,
+    level: usize,
+    text: &[Piece],
+) -> Result<(), AllocError>
+    requires { IsTextContent (bytes_of given.now) text.now }
+    ensures { let g = given.now in OnOk result (out.new.items ≡ out.old.items ++ heading_html (page_of g) level (text_html (setting_of g) (page_of g) (content_of (bytes_of g) text.now))) }
+{
+    push_heading_tag(out, b"<h", level)?;
+    push_text(alloc, given, out, text)?;
+    push_heading_tag(out, b"</h", level)?;
+    push_ending(given, out)
+}
+
+// Appends a paragraph (CommonMark 4.8).
+fn push_paragraph(
+    alloc: Global,
+    given: &Given,
+    out: &mut Vec<u8>,
+    text: &[Piece],
+) -> Result<(), AllocError>
+    requires { IsTextContent (bytes_of given.now) text.now }
+    ensures { let g = given.now in OnOk result (out.new.items ≡ out.old.items ++ on_line (page_of g) (codes "<p>" ++ text_html (setting_of g) (page_of g) (content_of (bytes_of g) text.now) ++ codes "</p>")) }
+{
+    out.extend_from_slice(b"<p>")?;
+    push_text(alloc, given, out, text)?;
+    out.extend_from_slice(b"</p>")?;
+    push_ending(given, out)
+}
+
+// Appends a leaf that begins a line: any but a blank line, and a paragraph without text.
+fn push_block(
+    alloc: Global,
+    given: &Given,
+    out: &mut Vec<u8>,
+    leaf: &Leaf,
+) -> Result<(), AllocError>
+    requires texts { IsTextLeaf (bytes_of given.now) leaf.now }
+    requires trimmed { IsTrimmedLeaf (bytes_of given.now) leaf.now }
+    ensures { let g = given.now in OnOk result (out.new.items ≡ out.old.items ++ leaf_html (setting_of g) (page_of g) (leaf_of (bytes_of g) leaf.now)) }
+{
+    match leaf {
+        Leaf::Blank => Ok(()),
+        Leaf::ThematicBreak => push_on_line(given, out, b"<hr />"),
+        Leaf::Heading(level, text) => push_heading(alloc, given, out, *level, &[*text]),
+        Leaf::Underlined(level, text) => push_heading(alloc, given, out, *level, text.as_slice()),
+        Leaf::Paragraph(text) => push_paragraph(alloc, given, out, text.as_slice()),
+        Leaf::IndentedCode(lines) => push_indented(given, out, lines.as_slice()),
+        Leaf::FencedCode(_, info, lines, _) => {
+            push_fenced(alloc, given, out, *info, lines.as_slice())
+        }
+        Leaf::Html(_, text, _) => push_html(given, out, text.as_slice()),
+    }
+}
+
+// Appends a paragraph, which is its text alone right in an item of a tight list (CommonMark 5.3), and nothing without pieces.
+fn push_paragraph_in(
+    alloc: Global,
+    given: &Given,
+    out: &mut Vec<u8>,
+    is_tight: bool,
+    in_line: bool,
+    text: &[Piece],
+) -> Result<(), AllocError>
+    requires { IsText (bytes_of given.now) text.now }
+    ensures { let g = given.now in OnOk result (out.new.items ≡ out.old.items ++ leaf_written (setting_of g) (page_of g) is_tight in_line (paragraph (content_of (bytes_of g) text.now))) }
+{
+    if text.is_empty() {
+        return Ok(());
+    }
+    if is_tight {
+        return push_text(alloc, given, out, text);
+    }
+    push_line_start(given, out, in_line)?;
+    push_paragraph(alloc, given, out, text)
+}
+
+// Appends a leaf. `is_tight` says that it stands right in an item of a tight list, and `in_line` that no line begins behind what is written.
+pub(crate) fn push_leaf(
+    alloc: Global,
+    given: &Given,
+    out: &mut Vec<u8>,
+    is_tight: bool,
+    in_line: bool,
+    leaf: &Leaf,
+) -> Result<(), AllocError>
+    requires texts { IsTextLeaf (bytes_of given.now) leaf.now }
+    requires trimmed { IsTrimmedLeaf (bytes_of given.now) leaf.now }
+    ensures { let g = given.now in OnOk result (out.new.items ≡ out.old.items ++ leaf_written (setting_of g) (page_of g) is_tight in_line (leaf_of (bytes_of g) leaf.now)) }
+{
+    match leaf {
+        Leaf::Blank => Ok(()),
+        Leaf::Paragraph(text) => {
+            push_paragraph_in(alloc, given, out, is_tight, in_line, text.as_slice())
+        }
+        _ => {
+            push_line_start(given, out, in_line)?;
+            push_block(alloc, given, out, leaf)
+        }
+    }
+}
+
+// Whether no line begins behind a leaf.
+pub(crate) fn is_in_line_behind(given: &Given, is_tight: bool, in_line: bool, leaf: &Leaf) -> bool
+    requires { IsTextLeaf (bytes_of given.now) leaf.now }
+    ensures { result ≡ is_in_line_behind is_tight in_line (leaf_of (bytes_of given.now) leaf.now) }
+{
+    match leaf {
+        Leaf::Blank => in_line,
+        Leaf::Paragraph(text) if text.is_empty() => in_line,
+        Leaf::Paragraph(_) => is_tight,
+        _ => false,
+    }
+}
