@@ -33,6 +33,10 @@ use Rattle.markdown_block_definitions.specs.ResolvedRows.{IsTextRow, definitions
 
 -- Leaves.
 
+-- what is trimmed has nothing left to trim
+pub ends-twice : (cs left : List Code) → left ≡ trimmed_end cs → trimmed_end left ≡ left
+ends-twice cs left e = ap trimmed_end e ∙ end-twice is_whitespace_code cs ∙ sym e
+
 -- a text that was trimmed before
 pub trimmed-left : (cs left cut : List Code) → cut ≡ trimmed_end cs → left ≡ trimmed_end (definitions_of cut).1 → trimmed_end left ≡ (definitions_of (trimmed_end cs)).1
 trimmed-left cs left cut e f =

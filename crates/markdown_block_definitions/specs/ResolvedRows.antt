@@ -2,6 +2,7 @@
 use Rattle.std.specs.Prelude.{◌≡◌, ℕ, List, [], ◌∷◌, IsUtf8}
 use Rattle.markdown_content.specs.Content.{content_of, IsTextContent}
 use Rattle.markdown_content.specs.declared.parser.Piece.{Piece}
+use Rattle.markdown_block_model.specs.LineRests.{trimmed_end}
 use Rattle.markdown_block_model.specs.LinkDefinitions.{Definition, text_of_leaf, definitions_in}
 use Rattle.markdown_blocks.specs.BlockRows.{leaf_of}
 use Rattle.markdown_blocks.specs.declared.block.Leaf.{Leaf}
@@ -9,9 +10,10 @@ use Rattle.markdown_blocks.specs.declared.block.Leaf.TheVariants.{Blank, Themati
 use Rattle.markdown_blocks.specs.declared.block.Row.{Row}
 use Rattle.markdown_blocks.specs.declared.block.Row.TheVariants.{LeafAt, ContainerAt}
 
--- a text content, as the inline layer takes it; without codes it has no pieces
+-- a text content, as the inline layer takes it, without whitespace at its end; without codes it has no pieces
 pub record IsTextWithPieces (bytes : List ℕ) (pieces : List Piece) : Type 0 where
   pub content : IsTextContent bytes pieces
+  pub trimmed : trimmed_end (content_of bytes pieces) ≡ content_of bytes pieces
   pub none : content_of bytes pieces ≡ [] → pieces ≡ []
 
 -- the texts of a leaf are; that of a heading of number signs may be a piece without codes

@@ -25,6 +25,7 @@ fn resolve_text(
     requires { ArePlaced document.now text.old.items }
     ensures codes { IfOk result (λ _. content_of document.now text.new.items ≡ trimmed_end (definitions_of (content_of document.now text.old.items)).1) }
     ensures found { IfOk result (λ _. AreAdded definitions.old.items definitions.new.items (definitions_of (content_of document.now text.old.items)).0) }
+    ensures trimmed { IfOk result (λ _. trimmed_end (content_of document.now text.new.items) ≡ content_of document.now text.new.items) }
     ensures none { IfOk result (λ _. content_of document.now text.new.items ≡ [] → text.new.items ≡ []) }
     ensures content { IfOk result (λ _. IsUtf8 document.now → length document.now ≤ document_limit → IsTextContent document.now text.new.items) }
 {

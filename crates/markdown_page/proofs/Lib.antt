@@ -10,6 +10,7 @@ pub mod LineTexts
 pub mod ListSteps
 pub mod ListTrees
 pub mod NextItems
+pub mod PageSettings
 pub mod PlacedHtml
 pub mod PlacedRows
 pub mod PlacedWalk

@@ -7,5 +7,4 @@ pub mod HtmlLines
 pub mod ListPlaces
 pub mod ListWalks
 pub mod PlacedTree
-pub mod RowTexts
 pub mod WriterStates

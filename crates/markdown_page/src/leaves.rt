@@ -2,13 +2,12 @@
 
 ghost use Rattle.std.specs.Prelude.{◌≡◌, ◌++◌, OnOk, codes, decimal};
 ghost use Rattle.markdown_content.specs.Content.{content_of, IsTextContent};
-ghost use Rattle.markdown_block_definitions.specs.ResolvedRows.{IsText, IsTextLeaf};
+ghost use Rattle.markdown_block_definitions.specs.ResolvedRows.{IsTextWithPieces, IsTextLeaf};
 ghost use Rattle.markdown_block_model.specs.BlockTree.{paragraph};
 ghost use Rattle.markdown_blocks.specs.BlockRows.{leaf_of};
 ghost use Rattle.markdown_page_model.specs.PageHtml.{text_html, heading_html, on_line, leaf_html};
 ghost use Rattle.markdown_page.specs.GivenPage.{bytes_of, setting_of, page_of};
 ghost use Rattle.markdown_page.specs.PlacedTree.{leaf_written, is_in_line_behind};
-ghost use Rattle.markdown_page.specs.RowTexts.{IsTrimmedLeaf};
 
 use crate::code::{push_fenced, push_indented};
 use crate::given::Given;
@@ -68,8 +67,7 @@ fn push_block(
     out: &mut Vec<u8>,
     leaf: &Leaf,
 ) -> Result<(), AllocError>
-    requires texts { IsTextLeaf (bytes_of given.now) leaf.now }
-    requires trimmed { IsTrimmedLeaf (bytes_of given.now) leaf.now }
+    requires { IsTextLeaf (bytes_of given.now) leaf.now }
     ensures { let g = given.now in OnOk result (out.new.items ≡ out.old.items ++ leaf_html (setting_of g) (page_of g) (leaf_of (bytes_of g) leaf.now)) }
 {
     match leaf {
@@ -95,7 +93,7 @@ fn push_paragraph_in(
     in_line: bool,
     text: &[Piece],
 ) -> Result<(), AllocError>
-    requires { IsText (bytes_of given.now) text.now }
+    requires { IsTextWithPieces (bytes_of given.now) text.now }
     ensures { let g = given.now in OnOk result (out.new.items ≡ out.old.items ++ leaf_written (setting_of g) (page_of g) is_tight in_line (paragraph (content_of (bytes_of g) text.now))) }
 {
     if text.is_empty() {
@@ -117,8 +115,7 @@ pub(crate) fn push_leaf(
     in_line: bool,
     leaf: &Leaf,
 ) -> Result<(), AllocError>
-    requires texts { IsTextLeaf (bytes_of given.now) leaf.now }
-    requires trimmed { IsTrimmedLeaf (bytes_of given.now) leaf.now }
+    requires { IsTextLeaf (bytes_of given.now) leaf.now }
     ensures { let g = given.now in OnOk result (out.new.items ≡ out.old.items ++ leaf_written (setting_of g) (page_of g) is_tight in_line (leaf_of (bytes_of g) leaf.now)) }
 {
     match leaf {

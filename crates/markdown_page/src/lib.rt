@@ -8,6 +8,7 @@ mod html;
 mod leaves;
 mod lines;
 pub mod lists;
+mod page;
 mod tags;
 mod texts;
 mod write;

@@ -10,8 +10,7 @@ ghost use Rattle.markdown_page_model.specs.PageHtml.{no_item, tree_html};
 ghost use Rattle.markdown_page.specs.GivenPage.{bytes_of, setting_of, page_of};
 ghost use Rattle.markdown_page.specs.ListPlaces.{places_in};
 ghost use Rattle.markdown_page.specs.PlacedTree.{PlacedTree, nothing, and_leaf, and_container, at_depth, holder_in, holder_of, is_item, is_tight, with_placed_row};
-ghost use Rattle.markdown_page.specs.RowTexts.{IsTrimmedLeaf, IsTrimmedRow};
-ghost use Rattle.markdown_page.specs.WriterStates.{IsWritten, depth, placed_of, row_depth, depth_behind};
+ghost use Rattle.markdown_page.specs.WriterStates.{IsWrittenSoFar, depth, placed_of, row_depth, depth_behind};
 
 use crate::given::Given;
 use crate::leaves::{is_in_line_behind, push_leaf};
@@ -68,7 +67,7 @@ impl Writer {
     // Closes containers until so many are open.
     fn close_to(&mut self, given: &Given, count: usize) -> Result<(), AllocError>
         requires { count ≤ depth self.old }
-        ensures written { let g = given.now in OnOk result ((t : PlacedTree) → IsWritten (setting_of g) (page_of g) t self.old → IsWritten (setting_of g) (page_of g) t self.new) }
+        ensures written { let g = given.now in OnOk result ((t : PlacedTree) → IsWrittenSoFar (setting_of g) (page_of g) t self.old → IsWrittenSoFar (setting_of g) (page_of g) t self.new) }
         ensures depth { OnOk result (depth self.new ≡ count) }
     {
         while self.opened.len() > count {
@@ -82,7 +81,7 @@ impl Writer {
 
     // Opens a container.
     fn begin(&mut self, given: &Given, container: Container, place: Place) -> Result<(), AllocError>
-        ensures written { let g = given.now in OnOk result ((t : PlacedTree) → IsWritten (setting_of g) (page_of g) t self.old → IsWritten (setting_of g) (page_of g) (at_depth (depth self.old) (λ x. and_container x (container_of container) place nothing) t) self.new) }
+        ensures written { let g = given.now in OnOk result ((t : PlacedTree) → IsWrittenSoFar (setting_of g) (page_of g) t self.old → IsWrittenSoFar (setting_of g) (page_of g) (at_depth (depth self.old) (λ x. and_container x (container_of container) place nothing) t) self.new) }
         ensures depth { OnOk result (depth self.new ≡ suc (depth self.old)) }
     {
         push_opening(given, &mut self.out, self.in_line, container, place)?;
@@ -93,9 +92,8 @@ impl Writer {
 
     // Writes a leaf.
     fn leaf(&mut self, alloc: Global, given: &Given, leaf: &Leaf) -> Result<(), AllocError>
-        requires texts { IsTextLeaf (bytes_of given.now) leaf.now }
-        requires trimmed { IsTrimmedLeaf (bytes_of given.now) leaf.now }
-        ensures written { let g = given.now in OnOk result ((t : PlacedTree) (place : Place) → IsWritten (setting_of g) (page_of g) t self.old → IsWritten (setting_of g) (page_of g) (at_depth (depth self.old) (λ x. and_leaf x (leaf_of (bytes_of g) leaf.now) place) t) self.new) }
+        requires { IsTextLeaf (bytes_of given.now) leaf.now }
+        ensures written { let g = given.now in OnOk result ((t : PlacedTree) (place : Place) → IsWrittenSoFar (setting_of g) (page_of g) t self.old → IsWrittenSoFar (setting_of g) (page_of g) (at_depth (depth self.old) (λ x. and_leaf x (leaf_of (bytes_of g) leaf.now) place) t) self.new) }
         ensures depth { OnOk result (depth self.new ≡ depth self.old) }
     {
         let is_tight = self.is_tight();
@@ -114,8 +112,7 @@ impl Writer {
     ) -> Result<(), AllocError>
         requires within { row_depth row.now ≤ depth self.old }
         requires texts { IsTextRow (bytes_of given.now) row.now }
-        requires trimmed { IsTrimmedRow (bytes_of given.now) row.now }
-        ensures written { let g = given.now in OnOk result ((t : PlacedTree) → IsWritten (setting_of g) (page_of g) t self.old → IsWritten (setting_of g) (page_of g) (with_placed_row (bytes_of g) row.now place t) self.new) }
+        ensures written { let g = given.now in OnOk result ((t : PlacedTree) → IsWrittenSoFar (setting_of g) (page_of g) t self.old → IsWrittenSoFar (setting_of g) (page_of g) (with_placed_row (bytes_of g) row.now place t) self.new) }
         ensures depth { OnOk result (depth self.new ≡ depth_behind row.now) }
     {
         match row {
@@ -142,7 +139,6 @@ pub(crate) fn write(
 ) -> Result<Vec<u8>, AllocError>
     requires nested { AreNested 0 rows.now }
     requires texts { All (IsTextRow (bytes_of given.now)) rows.now }
-    requires trimmed { All (IsTrimmedRow (bytes_of given.now)) rows.now }
     requires places { places.now ≡ places_in None (rows_from (bytes_of given.now) model.nothing rows.now) }
     ensures { let g = given.now in IfOk result (λ html. html.items ≡ tree_html (setting_of g) (page_of g) no_item None (rows_from (bytes_of g) model.nothing rows.now)) }
 {

@@ -2,6 +2,7 @@ use Rattle.std.proofs.Common.{◌∙◌, ap, arith}
 use Rattle.markdown_content.specs.Content.{content_of}
 use Rattle.markdown_block_model.specs.LineRests.{trimmed_end}
 use Rattle.markdown_block_definitions.proofs.LinesTaken.{few-lines, pieces-left}
+use Rattle.markdown_block_definitions.proofs.ResolvedRowLemmas.{ends-twice}
 use Rattle.markdown_block_definitions.proofs.resolved.resolve_text.Goals as goal
 
 pub cut_lines-requires : goal.cut_lines-requires
@@ -17,3 +18,6 @@ returns-clause-codes c =
 
 pub returns-clause-content : goal.returns-clause-content
 returns-clause-content c = λ u l. c.in_ok-trim_end.ensures.content (c.cut_lines.ensures.placed c.args.document.now c.requires) u l
+
+pub returns-clause-trimmed : goal.returns-clause-trimmed
+returns-clause-trimmed c = ends-twice (content_of c.args.document.now c.cut_lines.new.text.items) _ c.in_ok-trim_end.ensures.codes

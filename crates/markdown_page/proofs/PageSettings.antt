@@ -1,0 +1,32 @@
+-- What stands beside the rows of a document is what its HTML is defined by.
+use Rattle.std.proofs.Common.{◌≡◌, ℕ, refl, ap, ◌∙◌, List, [], map, string_bytes, None, false}
+use Rattle.markdown_content.specs.declared.parser.ParseState.{ParseState}
+use Rattle.markdown_run_text.specs.RunSetting.{text_setting_of}
+use Rattle.markdown_html.specs.View.{page_from}
+use Rattle.markdown_html_model.specs.Html.{Defined, Page}
+use Rattle.markdown_html_model.specs.Resolved.{decoding_of}
+use Rattle.markdown_html_model.specs.declared.options.HtmlOptions.{HtmlOptions}
+use Rattle.markdown_model.specs.Setting.{Setting}
+use Rattle.markdown_block_model.specs.BlockTree as model
+use Rattle.markdown_block_model.specs.BlockTree.{Tree}
+use Rattle.markdown_block_model.specs.LinkDefinitions.{definitions, document_tree, identifier}
+use Rattle.markdown_page_model.specs.PageHtml.{commonmark, defined_by, setting_of, page_of, no_item, tree_html, document_html}
+
+module _ (s : ParseState) (options : s.options.now ≡ commonmark) where
+  same-setting : map string_bytes s.definitions.items ≡ map identifier (definitions s.bytes.now) → map string_bytes s.gfm_footnote_definitions.items ≡ []
+      → text_setting_of s false ≡ setting_of s.bytes.now
+  same-setting names footnotes = rw (options, names, footnotes) refl
+
+  same-page : (targets : List Defined) (o : HtmlOptions) → targets ≡ map (defined_by (decoding_of commonmark)) (definitions s.bytes.now) → page_from s [] targets o ≡ page_of o s.bytes.now
+  same-page targets o e = rw (options, e) refl
+
+  -- the HTML of the tree of the document
+  pub same-html : (targets : List Defined) (o : HtmlOptions) (t : Tree) (html : List ℕ)
+      → map string_bytes s.definitions.items ≡ map identifier (definitions s.bytes.now) → map string_bytes s.gfm_footnote_definitions.items ≡ []
+      → targets ≡ map (defined_by (decoding_of commonmark)) (definitions s.bytes.now) → t ≡ document_tree s.bytes.now
+      → html ≡ tree_html (text_setting_of s false) (page_from s [] targets o) no_item None t → html ≡ document_html o s.bytes.now
+  unfolding document_html
+  same-html targets o t html names footnotes e tree h =
+      h ∙ ap (λ (x : Setting). tree_html x (page_from s [] targets o) no_item None t) (same-setting names footnotes)
+      ∙ ap (λ (x : Page). tree_html (setting_of s.bytes.now) x no_item None t) (same-page targets o e)
+      ∙ ap (tree_html (setting_of s.bytes.now) (page_of o s.bytes.now) no_item None) tree

@@ -1,0 +1,47 @@
+//! The HTML of a document whose blocks and definitions are read.
+
+ghost use Rattle.std.specs.Prelude.{◌≡◌, [], All, IfOk, map, string_bytes};
+ghost use Rattle.markdown_block_definitions.specs.ResolvedRows.{IsTextRow};
+ghost use Rattle.markdown_block_model.specs.BlockTree as model;
+ghost use Rattle.markdown_block_model.specs.LinkDefinitions.{definitions, document_tree, identifier};
+ghost use Rattle.markdown_blocks.specs.BlockRows.{rows_from};
+ghost use Rattle.markdown_blocks.specs.NestedRows.{AreNested};
+ghost use Rattle.markdown_html_model.specs.Resolved.{decoding_of};
+ghost use Rattle.markdown_page_model.specs.PageHtml.{commonmark, defined_by, document_html};
+ghost use Rattle.markdown_page.specs.ListPlaces.{places_in};
+
+use crate::given::Given;
+use crate::lists::Place;
+use crate::write::write;
+use markdown_blocks::block::Row;
+use markdown_document::document::Document;
+use markdown_html::targets::Targets;
+use markdown_html_model::options::HtmlOptions;
+use std::alloc::{AllocError, Global};
+
+// The HTML of a document, of its rows with their places, and of what its labels are defined to be.
+pub(crate) fn page_html(
+    alloc: Global,
+    document: &Document,
+    targets: &Targets,
+    options: HtmlOptions,
+    rows: &[Row],
+    places: &[Place],
+) -> Result<Vec<u8>, AllocError>
+    requires options { document.now.options.now ≡ commonmark }
+    requires names { map string_bytes document.now.definitions.items ≡ map identifier (definitions document.now.bytes.now) }
+    requires footnotes { map string_bytes document.now.gfm_footnote_definitions.items ≡ [] }
+    requires targets { targets.now ≡ map (defined_by (decoding_of commonmark)) (definitions document.now.bytes.now) }
+    requires nested { AreNested 0 rows.now }
+    requires texts { All (IsTextRow document.now.bytes.now) rows.now }
+    requires places { places.now ≡ places_in None (rows_from document.now.bytes.now model.nothing rows.now) }
+    requires tree { rows_from document.now.bytes.now model.nothing rows.now ≡ document_tree document.now.bytes.now }
+    ensures { IfOk result (λ html. html.items ≡ document_html options document.now.bytes.now) }
+{
+    let given = Given {
+        document,
+        targets,
+        options,
+    };
+    write(alloc, &given, rows, places)
+}
