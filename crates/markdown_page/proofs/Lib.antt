@@ -1,6 +1,5 @@
 -- The proofs of this crate.
 pub mod DefinitionStringLemmas
-pub mod BlankPieces
 pub mod PieceBytes
 pub mod FilledLines
 pub mod FirstWords

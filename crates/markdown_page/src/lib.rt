@@ -1,8 +1,9 @@
 //! The HTML of a Markdown document, by CommonMark 0.31.2.
 #![tactic(auto)]
 
-pub mod definitions;
 mod code;
+pub mod definitions;
+pub mod document;
 mod given;
 mod html;
 mod leaves;
