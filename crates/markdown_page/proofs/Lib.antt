@@ -14,3 +14,4 @@ pub mod PlacedHtml
 pub mod PlacedRows
 pub mod PlacedWalk
 pub mod WriterSteps
+pub mod ResolvedUtf8
