@@ -1,5 +1,8 @@
 -- The proofs of this crate.
+pub mod CharacterCodes
+pub mod CharacterContents
 pub mod CodesAt
+pub mod DefinitionCharacters
 pub mod DefinitionReads
 pub mod FrontTexts
 pub mod GapRests

@@ -1,5 +1,5 @@
 -- Definitions as bytes.
-use Rattle.std.specs.Prelude.{◌≡◌, ℕ, ◌≤◌, List, ◌++◌, length, map, drop, Option, Some, None, option_map}
+use Rattle.std.specs.Prelude.{◌≡◌, ℕ, ◌≤◌, List, ◌++◌, length, map, drop, Option, Some, None, option_map, IsUtf8, IfSome}
 use Rattle.std.specs.Global.{Vec}
 use Rattle.markdown_content.specs.Codes.{Code}
 use Rattle.markdown_model.specs.CodeTests.{values_of}
@@ -25,6 +25,14 @@ texts_of d = record { label = d.label.items; destination = d.destination.items; 
 
 abbrev pub texts_in : link_definitions.Definition → Texts
 texts_in d = record { label = values_of d.label; destination = text_of d.destination; title = option_map text_of d.title }
+
+pub record AreUtf8Texts (t : Texts) : Type 0 where
+  pub label : IsUtf8 t.label
+  pub destination : IsUtf8 t.destination
+  pub title : IfSome t.title IsUtf8
+
+abbrev pub HasUtf8Texts : Definition → Type 0
+HasUtf8Texts d = AreUtf8Texts (texts_of d)
 
 -- the definitions at the front of a text, and the lines of the text behind theirs
 pub record IsFrontOf (cs : List Code) (f : Front) : Type 0 where

@@ -4,7 +4,7 @@ ghost use Rattle.std.specs.Prelude.{◌≡◌, ◌≤◌, length, map, IsUtf8, I
 ghost use Rattle.markdown_content.specs.Content.{document_limit, content_of};
 ghost use Rattle.markdown_block_model.specs.DocumentBlocks.{blocks_of};
 ghost use Rattle.markdown_block_model.specs.LinkDefinitions.{has_text, definitions, document_tree};
-ghost use Rattle.markdown_block_definitions.specs.DefinitionTexts.{texts_of, texts_in};
+ghost use Rattle.markdown_block_definitions.specs.DefinitionTexts.{texts_of, texts_in, HasUtf8Texts};
 ghost use Rattle.markdown_block_definitions.specs.ResolvedRows.{IsTextRow};
 ghost use Rattle.markdown_blocks.specs.BlockRows.{tree_of};
 ghost use Rattle.markdown_blocks.specs.NestedRows.{AreNested};
@@ -71,6 +71,7 @@ pub fn read(alloc: Global, bytes: &[u8]) -> Result<Document, AllocError>
     requires { length bytes.now ≤ document_limit }
     ensures tree { IfOk result (λ d. tree_of bytes.now d.blocks ≡ document_tree bytes.now) }
     ensures definitions { IfOk result (λ d. map texts_of d.definitions.items ≡ map texts_in (definitions bytes.now)) }
+    ensures utf8 { IfOk result (λ d. IsUtf8 bytes.now → All HasUtf8Texts d.definitions.items) }
     ensures texts { IfOk result (λ d. IsUtf8 bytes.now → All (IsTextRow bytes.now) d.blocks.rows.items) }
     ensures nested { IfOk result (λ d. AreNested 0 d.blocks.rows.items) }
 {
