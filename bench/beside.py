@@ -1,4 +1,5 @@
 """What stands side by side in one run of bench/measure: the texts, the programs that read them, and the tables of time, instructions and memory."""
+import collections
 import json
 import os
 import subprocess
@@ -25,6 +26,10 @@ class Text(inputs.Input):
         self.bytes = len(self.text.encode())
 
 
+# A text just as it is, where an `Input` begins with a letter.
+Whole = collections.namedtuple('Whole', 'text definitions')
+
+
 class Corpus:
     """Real text, as bench/corpus gathers it; `missing` says in a sentence why there is none."""
     def __init__(self, seed):
@@ -37,8 +42,13 @@ class Corpus:
         self.packages = json.loads(self.read('sources.json'))['packages'] if self.folder else []
 
     def read(self, name):
-        with open(os.path.join(self.folder, name), encoding='utf-8') as file:
+        with open(os.path.join(self.folder, name), encoding='utf-8', newline='') as file:
             return file.read()
+
+    def files(self, most=None):
+        """The whole files of each package as one text, of so many characters at most."""
+        found = [(it['name'], self.read('whole-%s.md' % it['name'])[:most]) for it in self.packages]
+        return [Text('`%s`' % name, '%.1f MB' % (len(text.encode()) / 1e6), Whole(text, [])) for name, text in found]
 
     def texts(self, size, word, name):
         """The text as one paragraph and as many, up to so many bytes."""
@@ -104,7 +114,7 @@ class Side:
 
     def ours(self):
         """How many of the programs are ours, in the first columns."""
-        return sum(name.startswith(('library', 'inline_html')) for name in self.names)
+        return sum(name.startswith(('library', 'inline_html', 'mdhtml')) for name in self.names)
 
     def ratios(self):
         """The times of the other programs as multiples of ours, which is the first: a row for each text."""

@@ -15,6 +15,8 @@ WHOLE_FOLDER = os.path.join(HERE, 'crates', 'mdinline')
 MDINLINE = os.path.join(WHOLE_FOLDER, 'out', 'mdinline')
 HTML_FOLDER = os.path.join(HERE, 'crates', 'inline_html')
 INLINE_HTML = os.path.join(HTML_FOLDER, 'out', 'inline_html')
+PAGE_FOLDER = os.path.join(HERE, 'crates', 'mdhtml')
+MDHTML = os.path.join(PAGE_FOLDER, 'out', 'mdhtml')
 FOLDER = os.path.join(HERE, 'crates', 'bench_counts')
 CONTENTS = os.path.join(FOLDER, 'out', 'bench_counts')
 # The function of `bench_counts` that a run over a whole document is called in.
@@ -55,6 +57,7 @@ class Html(Program):
 LIBRARY = Program('library', [CONTENTS, 'documents'], ours=True, function=COUNTED)
 WHOLE = Program('mdinline', [MDINLINE, 'text', 'gfm', 'math'], ours=True, prefix='label=')
 WRITER = Html('inline_html', [INLINE_HTML, 'text', 'gfm', 'math'], ours=True)
+PAGES = Program('mdhtml', [MDHTML, '--raw', '--any-link'])
 OTHERS = [
     Program('cmark', ['cmark']),
     Program('cmark-gfm', ['cmark-gfm', '-e', 'autolink', '-e', 'strikethrough', '-e', 'footnotes']),
@@ -67,8 +70,9 @@ def say(text):
 
 
 def build(html=False):
-    """Proves and builds our two programs, and with `html` the one that writes HTML, where that is not done yet, all by LLVM."""
-    for words, folder in ((['--', 'text'], WHOLE_FOLDER), (['--', 'run'], FOLDER), (['--', 'text'], HTML_FOLDER))[:3 if html else 2]:
+    """Proves and builds our two programs, and with `html` the two that write HTML, where that is not done yet, all by LLVM."""
+    programs = [(['--', 'text'], WHOLE_FOLDER), (['--', 'run'], FOLDER), (['--', 'text'], HTML_FOLDER), (['--', '--lf'], PAGE_FOLDER)]
+    for words, folder in programs if html else programs[:2]:
         done = subprocess.run(['rt', 'run'] + words, cwd=folder, stdin=subprocess.DEVNULL, stdout=subprocess.PIPE, stderr=subprocess.PIPE)
         if done.returncode != 0:
             sys.exit(done.stderr.decode() + 'the programs were not built')
@@ -76,7 +80,7 @@ def build(html=False):
 
 def take(folder):
     """Takes programs of a folder in place of those that are proved and built here."""
-    for program in (LIBRARY, WRITER):
+    for program in (LIBRARY, WRITER, PAGES):
         path = os.path.join(os.path.abspath(folder), os.path.basename(program.command[0]))
         if not os.access(path, os.X_OK):
             sys.exit('there is no program %s' % path)
@@ -111,6 +115,12 @@ def parsers():
 def writers():
     """The other programs that write HTML, of those that are installed."""
     return compiled('md4c', 'md4c.c', ['-lmd4c-html']) + others()
+
+
+def page_writers():
+    """The other programs that write the HTML of whole documents, by CommonMark alone, of those that are installed."""
+    md4c = [Program(it.name, it.command + ['commonmark']) for it in compiled('md4c', 'md4c.c', ['-lmd4c-html'])]
+    return md4c + [it for it in (Program('cmark', ['cmark', '--unsafe']), Program('pulldown-cmark', ['pulldown-cmark'])) if shutil.which(it.command[0])]
 
 
 def known_ways():
