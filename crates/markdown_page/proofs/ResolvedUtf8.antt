@@ -70,21 +70,21 @@ decoded-utf8 how value marker text e = either (marker == 38) e
 -- A text on the two sides of an ASCII byte.
 
 module _ (front : List ℕ) (b : ℕ) (rest : List ℕ) (low : b < 128) (u : IsUtf8 (front ++ b ∷ rest)) where
-  inside : length front < length (front ++ b ∷ rest)
-  inside = omega (arith, length-append front (b ∷ rest))
+  ascii-inside : length front < length (front ++ b ∷ rest)
+  ascii-inside = omega (arith, length-append front (b ∷ rest))
 
-  seam : get_or (front ++ b ∷ rest) (length front) 0 < 128
-  seam = omega (arith, low, get_or-append_seam front b rest 0)
+  ascii-seam : get_or (front ++ b ∷ rest) (length front) 0 < 128
+  ascii-seam = omega (arith, low, get_or-append_seam front b rest 0)
 
   before-ascii : IsUtf8 front
   before-ascii =
       subst IsUtf8 (take-append_seam front (b ∷ rest))
-      (IsUtf8-take (front ++ b ∷ rest) (length front) u (IsCharBoundary-before_ascii (front ++ b ∷ rest) (length front) inside seam))
+      (IsUtf8-take (front ++ b ∷ rest) (length front) u (IsCharBoundary-before_ascii (front ++ b ∷ rest) (length front) ascii-inside ascii-seam))
 
   behind-ascii : IsUtf8 rest
   behind-ascii =
       subst IsUtf8 (drop-append-add front (b ∷ rest) 1)
-      (IsUtf8-drop (front ++ b ∷ rest) (length front + 1) u (IsCharBoundary-after_ascii (front ++ b ∷ rest) (length front) u inside seam))
+      (IsUtf8-drop (front ++ b ∷ rest) (length front + 1) u (IsCharBoundary-after_ascii (front ++ b ∷ rest) (length front) u ascii-inside ascii-seam))
 
 -- What is read first.
 
@@ -163,14 +163,14 @@ first-utf8 how b rest low u = pick (b == 92) (begins_with is_ascii_punctuation r
 
 -- The whole text.
 
-skipped : (how : Decoding) (n : ℕ) (rest : List ℕ) → resolved_after how n rest ≡ resolved how (drop n rest)
+resolved_after-drop : (how : Decoding) (n : ℕ) (rest : List ℕ) → resolved_after how n rest ≡ resolved how (drop n rest)
 unfolding resolved
-skipped how (suc n) (b ∷ rest) = skipped how n rest
-skipped how n rest = refl
+resolved_after-drop how (suc n) (b ∷ rest) = resolved_after-drop how n rest
+resolved_after-drop how n rest = refl
 
-first-read : (how : Decoding) (b : ℕ) (rest : List ℕ) → (let first = first_text how b rest in resolved how (b ∷ rest) ≡ first.0 ++ resolved how (drop first.1 rest))
+resolved-first : (how : Decoding) (b : ℕ) (rest : List ℕ) → (let first = first_text how b rest in resolved how (b ∷ rest) ≡ first.0 ++ resolved how (drop first.1 rest))
 unfolding resolved
-first-read how b rest = ap (λ bs. (first_text how b rest).0 ++ bs) (skipped how (first_text how b rest).1 rest)
+resolved-first how b rest = ap (λ bs. (first_text how b rest).0 ++ bs) (resolved_after-drop how (first_text how b rest).1 rest)
 
 -- a byte that is not ASCII stands as it is
 high-read : (how : Decoding) (b : ℕ) (rest : List ℕ) → nat_lt b 128 ≡ false → resolved how (b ∷ rest) ≡ b ∷ resolved how rest
@@ -178,22 +178,22 @@ high-read how b rest e =
     let no_escape : (b == 92) ≡ false = grind (arith, nat_tests) in
     let no_reference : (b == 38) ≡ false = grind (arith, nat_tests) in
     let alone : first_text how b rest ≡ (b ∷ [], 0) = rw (no_escape, no_reference) refl in
-    first-read how b rest ∙ ap (λ (f : List ℕ × ℕ). f.0 ++ resolved how (drop f.1 rest)) alone
+    resolved-first how b rest ∙ ap (λ (f : List ℕ × ℕ). f.0 ++ resolved how (drop f.1 rest)) alone
 
 -- what stands in front stays
 abbrev IsKept : Decoding → ℕ → Type 0
 IsKept how n = (front text : List ℕ) → length text ≤ n → IsUtf8 (front ++ text) → IsUtf8 (front ++ resolved how text)
 
-kept-more : (how : Decoding) (n : ℕ) → IsKept how n → (front : List ℕ) (b : ℕ) (rest : List ℕ) → length rest ≤ n → IsUtf8 (front ++ b ∷ rest)
+kept-step : (how : Decoding) (n : ℕ) → IsKept how n → (front : List ℕ) (b : ℕ) (rest : List ℕ) → length rest ≤ n → IsUtf8 (front ++ b ∷ rest)
     → (low : Bool) → nat_lt b 128 ≡ low → IsUtf8 (front ++ resolved how (b ∷ rest))
-kept-more how n shorter front b rest fits u true e =
+kept-step how n shorter front b rest fits u true e =
     let low : b < 128 = grind (arith, nat_tests) in
     let read = first_text how b rest in
     let first = first-utf8 how b rest low (behind-ascii front b rest low u) in
     let others = shorter [] (drop read.1 rest) (omega (arith, fits, length-drop read.1 rest)) first.1 in
-    subst (λ bs. IsUtf8 (front ++ bs)) (sym (first-read how b rest))
+    subst (λ bs. IsUtf8 (front ++ bs)) (sym (resolved-first how b rest))
     (IsUtf8-append front (read.0 ++ resolved how (drop read.1 rest)) (before-ascii front b rest low u) (IsUtf8-append read.0 (resolved how (drop read.1 rest)) first.0 others))
-kept-more how n shorter front b rest fits u false e =
+kept-step how n shorter front b rest fits u false e =
     subst (λ bs. IsUtf8 (front ++ bs)) (sym (high-read how b rest e))
     (subst IsUtf8 (append_assoc front (b ∷ []) (resolved how rest))
     (shorter (front ++ b ∷ []) rest fits (subst IsUtf8 (sym (append_assoc front (b ∷ []) rest)) u)))
@@ -202,7 +202,7 @@ kept-utf8 : (how : Decoding) (n : ℕ) → IsKept how n
 unfolding resolved
 kept-utf8 how n front [] fits u = u
 kept-utf8 how zero front (b ∷ rest) fits u = absurd (omega (arith, fits))
-kept-utf8 how (suc n) front (b ∷ rest) fits u = kept-more how n (kept-utf8 how n) front b rest (omega (arith, fits)) u (nat_lt b 128) refl
+kept-utf8 how (suc n) front (b ∷ rest) fits u = kept-step how n (kept-utf8 how n) front b rest (omega (arith, fits)) u (nat_lt b 128) refl
 
 pub resolved-utf8 : (how : Decoding) (text : List ℕ) → IsUtf8 text → IsUtf8 (resolved how text)
 resolved-utf8 how text u = kept-utf8 how (length text) [] text (omega arith) u
