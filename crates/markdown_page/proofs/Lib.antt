@@ -15,3 +15,4 @@ pub mod PlacedRows
 pub mod PlacedWalk
 pub mod WriterSteps
 pub mod ResolvedUtf8
+pub mod DefinitionUtf8
