@@ -2,8 +2,8 @@
 
 ghost use Rattle.markdown_content.specs.LabelTexts.{HasLabelTexts};
 
-use crate::target::Target;
 use crate::lines::Lines;
+use crate::target::Target;
 use markdown_inline::configuration::{COMMONMARK, Constructs, ParseOptions};
 use markdown_inline::definitions::Definitions;
 use markdown_inline::document::Document;

@@ -344,7 +344,11 @@ pub extern "C" fn markdown_inline_document_html(
 ) -> u32
     ensures { IsAnswer (document_html (html_options_of html_options) bytes.now) (IsDocumentInput bytes.now html_options) (IsDocumentHtmlFault bytes.now html_options) html.old html.new count.old count.new result }
 {
-    answer(document::document_html(alloc, bytes, html_options), html, count)
+    answer(
+        document::document_html(alloc, bytes, html_options),
+        html,
+        count,
+    )
 }
 
 /// The texts of strings, one after another, with escaped punctuation in place of its escape, and in place of each character reference its text

@@ -15,7 +15,7 @@ use Rattle.markdown_html_model.specs.Escaped.{escaped}
 use Rattle.markdown_html_model.specs.Html.{Page, line_ending}
 use Rattle.markdown_page_model.specs.PageTexts.{text_of, is_later_column, ending, own_ending, line_html, lines_html}
 use Rattle.markdown_page.specs.CodeLines.{text_as, kept}
-use Rattle.markdown_page.specs.HtmlLines.{lines_from}
+use Rattle.markdown_page.specs.LinesByCode.{lines_from}
 use Rattle.markdown_page.specs.declared.html.Line.{Line}
 use Rattle.markdown_page.proofs.LineTexts.{text_as-append, text-later, text-first, keeps, drops, span-pass, span-stop, plain-value}
 
@@ -138,14 +138,14 @@ module _ (p : Page) (raw : Bool) where
       → lines_from p raw line (c ∷ cs) ≡ (if line.is_leading || not (is_later_column c) then text_as raw (c.value ∷ []) else []) ++ lines_from p raw (record { has_begun = true; is_leading = line.is_leading && is_later_column c }) cs
   from-other line c cs e = rw e refl
 
-  abbrev IsRest : List Code → Type 0
-  IsRest cs = (whole (lines_of cs) ≡ lines_from p raw fresh cs)
+  abbrev IsWrittenByCode : List Code → Type 0
+  IsWrittenByCode cs = (whole (lines_of cs) ≡ lines_from p raw fresh cs)
       × ((xs : List Code) → has_no_ending xs ≡ true → whole (prefixed xs (lines_of cs)) ≡ text_as raw (text_of xs) ++ lines_from p raw (line_of xs) cs)
 
-  rest-more : (c : Code) (cs : List Code) → IsRest cs → IsRest (c ∷ cs)
+  rest-more : (c : Code) (cs : List Code) → IsWrittenByCode cs → IsWrittenByCode (c ∷ cs)
   rest-more c cs more = by_bool (is_line_ending c) at-ending behind
     where
-      at-ending : is_line_ending c ≡ true → IsRest (c ∷ cs)
+      at-ending : is_line_ending c ≡ true → IsWrittenByCode (c ∷ cs)
       at-ending e =
           let here : List ℕ = line_ending p.options.line_ends (slice_range p.bytes c.start.index c.stop.index) in (
             ap whole (lines-ending c cs e) ∙ ap (λ (x : List ℕ). x ++ whole (lines_of cs)) (ended [] c refl e) ∙ ap (λ (x : List ℕ). (x ++ here) ++ whole (lines_of cs)) (nothing-as raw)
@@ -171,13 +171,13 @@ module _ (p : Page) (raw : Bool) where
           ∙ ap (λ (b : Bool). text_as raw (text_of xs) ++ ((if b || not (is_later_column c) then text_as raw (c.value ∷ []) else []) ++ lines_from p raw (record { has_begun = true; is_leading = b && is_later_column c }) cs)) (sym l)
           ∙ ap (λ (x : List ℕ). text_as raw (text_of xs) ++ x) (sym (from-other line c cs e))
 
-      behind : is_line_ending c ≡ false → IsRest (c ∷ cs)
+      behind : is_line_ending c ≡ false → IsWrittenByCode (c ∷ cs)
       behind e = (
         ap whole (lines-other c cs e) ∙ step [] refl e fresh refl ∙ ap (λ (x : List ℕ). x ++ lines_from p raw fresh (c ∷ cs)) (nothing-as raw),
         λ xs f. ap (λ (ls : List (List Code)). whole (prefixed xs ls)) (lines-other c cs e) ∙ ap whole (prefixed-twice xs c (lines_of cs)) ∙ step xs f e (line_of xs) refl,
       )
 
-  rest-is : (cs : List Code) → IsRest cs
+  rest-is : (cs : List Code) → IsWrittenByCode cs
   rest-is [] = (refl, λ xs e. last-line xs e)
   rest-is (c ∷ cs) = rest-more c cs (rest-is cs)
 

@@ -22,7 +22,7 @@ use Rattle.markdown_block_definitions.proofs.TextPushes.{keep, leave, inside, no
 use Rattle.markdown_html_model.specs.Escaped.{escaped, escaped_byte}
 use Rattle.markdown_html_model.specs.Html.{Page, line_ending}
 use Rattle.markdown_page_model.specs.PageTexts.{text_of, is_later_column, ending, own_ending, line_html}
-use Rattle.markdown_page.specs.CodeLines.{text_as, codes_left, before_ending, from_ending, kept, begins_before, IsByte, IsPastColumns, text_behind}
+use Rattle.markdown_page.specs.CodeLines.{text_as, codes_left, before_ending, from_ending, kept, begins_before, BeginsAtByte, IsPastColumns, text_behind}
 
 -- Texts.
 
@@ -125,7 +125,7 @@ column-space bytes s t value h l r =
 -- Bytes that end no line.
 
 record IsPlain (bytes : List ℕ) (piece : Piece) (i : ℕ) (cs : List Code) : Type 0 where
-  byte : IsByte bytes (i + 1)
+  byte : BeginsAtByte bytes (i + 1)
   text : kept_text cs ≡ kept_text (codes_left bytes piece (i + 1, 0))
   ending : from_ending cs ≡ from_ending (codes_left bytes piece (i + 1, 0))
 
@@ -182,7 +182,7 @@ module _ (bytes : List ℕ) (piece : Piece) where
       }
 
   -- the code of a byte is first
-  code-at : (i : ℕ) (h : IsByte bytes i) → i < length bytes → begins_before i piece.start ≡ false → begins_before i piece.end ≡ true
+  code-at : (i : ℕ) (h : BeginsAtByte bytes i) → i < length bytes → begins_before i piece.start ≡ false → begins_before i piece.end ≡ true
       → codes_left bytes piece (i, 0) ≡ code_here bytes h.point ∷ codes_left bytes piece (place_of (stop_at bytes h.point))
   code-at i h lt started before =
       let p = h.point in
@@ -191,7 +191,7 @@ module _ (bytes : List ℕ) (piece : Piece) where
       ∙ keep (is_in_piece piece) (code_here bytes p) (codes_after bytes (place_of (stop_at bytes p)))
       (inside piece (code_here bytes p) (ap (λ (x : ℕ × ℕ). is_before x piece.start) h.place ∙ started) (ap (λ (x : ℕ × ℕ). is_before x piece.end) h.place ∙ before))
 
-  module _ (i : ℕ) (h : IsByte bytes i) (lt : i < length bytes) (e : is_line_ending_byte (get_or bytes i 0) ≡ false) (started : begins_before i piece.start ≡ false) (before : begins_before i piece.end ≡ true) where
+  module _ (i : ℕ) (h : BeginsAtByte bytes i) (lt : i < length bytes) (e : is_line_ending_byte (get_or bytes i 0) ≡ false) (started : begins_before i piece.start ≡ false) (before : begins_before i piece.end ≡ true) where
     abbrev p : Point
     p = h.point
 
@@ -222,7 +222,7 @@ module _ (bytes : List ℕ) (piece : Piece) where
         stop-by Here p is-plain (λ k. columns 4 i (next_column p p.index (p.vs + 1)) k index lt e (omega arith) (omega arith))
         (λ k. at-byte i (next_column p (p.index + 1) 0) k (ap (λ (x : ℕ). (x + 1, 0)) index)) one.point
 
-    plain-byte : IsByte bytes (i + 1)
+    plain-byte : BeginsAtByte bytes (i + 1)
     plain-byte = rest.byte
 
     plain-text : kept_text (codes_left bytes piece (i, 0)) ≡ get_or bytes i 0 ∷ kept_text (codes_left bytes piece (i + 1, 0))
@@ -237,14 +237,14 @@ module _ (bytes : List ℕ) (piece : Piece) where
 
 -- the bytes of a line before its ending
 pub record IsRun (bytes : List ℕ) (piece : Piece) (i n : ℕ) : Type 0 where
-  pub byte : IsByte bytes (i + n)
+  pub byte : BeginsAtByte bytes (i + n)
   pub text : kept_text (codes_left bytes piece (i, 0)) ≡ take n (drop i bytes) ++ kept_text (codes_left bytes piece (i + n, 0))
   pub ending : from_ending (codes_left bytes piece (i, 0)) ≡ from_ending (codes_left bytes piece (i + n, 0))
 
 one-later : (i a b : ℕ) → begins_before i (a, b) ≡ false → begins_before (i + 1) (a, b) ≡ false
 one-later i a b h = grind (arith, nat_tests)
 
-pub bytes-run : (bytes : List ℕ) (piece : Piece) (n i : ℕ) → IsByte bytes i → i + n ≤ length bytes → (i < length bytes → begins_before i piece.start ≡ false)
+pub bytes-run : (bytes : List ℕ) (piece : Piece) (n i : ℕ) → BeginsAtByte bytes i → i + n ≤ length bytes → (i < length bytes → begins_before i piece.start ≡ false)
     → ((j : ℕ) → i ≤ j → j < i + n → is_line_ending_byte (get_or bytes j 0) ≡ false) → ((j : ℕ) → i ≤ j → j < i + n → begins_before j piece.end ≡ true) → IsRun bytes piece i n
 bytes-run bytes piece zero i h le started plain before = let e : i + 0 ≡ i = omega arith in record { byte = rw e h; text = rw e refl; ending = rw e refl }
 bytes-run bytes piece (suc n) i h le started plain before =
@@ -262,7 +262,7 @@ bytes-run bytes piece (suc n) i h le started plain before =
 
 -- Where a line stops.
 
-pub nothing-from : (bytes : List ℕ) (piece : Piece) (i : ℕ) → IsByte bytes i → (i < length bytes → begins_before i piece.end ≡ false) → codes_left bytes piece (i, 0) ≡ []
+pub nothing-from : (bytes : List ℕ) (piece : Piece) (i : ℕ) → BeginsAtByte bytes i → (i < length bytes → begins_before i piece.end ≡ false) → codes_left bytes piece (i, 0) ≡ []
 nothing-from bytes piece i h e = by_bool (nat_lt i (length bytes))
     (λ (l : nat_lt i (length bytes) ≡ true).
     let lt : i < length bytes = grind (arith, nat_tests, l) in
@@ -280,7 +280,7 @@ pub record IsEnding (bytes : List ℕ) (i : ℕ) (cs : List Code) : Type 0 where
   pub start : code.start.index ≡ i
   pub stop : code.stop.index ≡ i + line_ending_len (get_or bytes i 0) (drop (i + 1) bytes)
 
-pub ending-at : (bytes : List ℕ) (piece : Piece) (i : ℕ) → IsByte bytes i → i < length bytes → is_line_ending_byte (get_or bytes i 0) ≡ true → begins_before i piece.start ≡ false → begins_before i piece.end ≡ true
+pub ending-at : (bytes : List ℕ) (piece : Piece) (i : ℕ) → BeginsAtByte bytes i → i < length bytes → is_line_ending_byte (get_or bytes i 0) ≡ true → begins_before i piece.start ≡ false → begins_before i piece.end ≡ true
     → IsEnding bytes i (codes_left bytes piece (i, 0))
 ending-at bytes piece i h lt e started before =
     let p : Point = h.point in
@@ -296,7 +296,7 @@ ending-at bytes piece i h lt e started before =
     }
 
 -- the text from a byte on begins with a whole code
-pub text-whole : (bytes : List ℕ) (piece : Piece) (i : ℕ) → IsByte bytes i → (i < length bytes → begins_before i piece.start ≡ false) → text_of (before_ending (codes_left bytes piece (i, 0))) ≡ kept_text (codes_left bytes piece (i, 0))
+pub text-whole : (bytes : List ℕ) (piece : Piece) (i : ℕ) → BeginsAtByte bytes i → (i < length bytes → begins_before i piece.start ≡ false) → text_of (before_ending (codes_left bytes piece (i, 0))) ≡ kept_text (codes_left bytes piece (i, 0))
 text-whole bytes piece i h started = by_bool (nat_lt i (length bytes) && begins_before i piece.end)
     (λ (l : (nat_lt i (length bytes) && begins_before i piece.end) ≡ true).
     let lt : i < length bytes = grind (arith, nat_tests, l) in
@@ -353,7 +353,7 @@ columns-done bytes piece raw s at before after h l g e f =
 
 -- A line.
 
-pub byte-in : (bytes : List ℕ) (i : ℕ) → IsByte bytes i → i ≤ length bytes
+pub byte-in : (bytes : List ℕ) (i : ℕ) → BeginsAtByte bytes i → i ≤ length bytes
 byte-in bytes i h = let k = (stands-point bytes h.point h.is_point).in_bytes in let e = ap (λ (x : ℕ × ℕ). x.0) h.place in omega arith
 
 later-byte : (i k a b : ℕ) → i ≤ k → begins_before i (a, b) ≡ false → begins_before k (a, b) ≡ false
@@ -370,7 +370,7 @@ pub record IsTextEnd (bytes : List ℕ) (piece : Piece) (from to stop : ℕ) : T
   pub plain : (i : ℕ) → from ≤ i → i < to → is_line_ending_byte (get_or bytes i 0) ≡ false
   pub ends : to < stop → is_line_ending_byte (get_or bytes to 0) ≡ true
 
-module _ (bytes : List ℕ) (piece : Piece) (from to stop : ℕ) (byte : IsByte bytes from) (started : from < length bytes → begins_before from piece.start ≡ false) (h : IsTextEnd bytes piece from to stop) where
+module _ (bytes : List ℕ) (piece : Piece) (from to stop : ℕ) (byte : BeginsAtByte bytes from) (started : from < length bytes → begins_before from piece.start ≡ false) (h : IsTextEnd bytes piece from to stop) where
   there : from + (to - from) ≡ to
   there = omega (arith, h.low)
 
@@ -380,8 +380,8 @@ module _ (bytes : List ℕ) (piece : Piece) (from to stop : ℕ) (byte : IsByte 
       bytes-run bytes piece (to - from) from byte (omega (arith, h.low, h.high)) started (λ j k l. h.plain j k (omega (arith, l, e)))
       (λ j i l. h.before j (let k : from < to = omega (arith, i, l, e) in let m : to ≤ stop = h.reached k in omega (arith, l, e, m)))
 
-  byte-there : IsByte bytes to
-  byte-there = subst (λ (i : ℕ). IsByte bytes i) there run.byte
+  byte-there : BeginsAtByte bytes to
+  byte-there = subst (λ (i : ℕ). BeginsAtByte bytes i) there run.byte
 
   pub line-over : stop ≤ to → codes_left bytes piece (to, 0) ≡ []
   line-over le = nothing-from bytes piece to byte-there (λ lt. h.behind to le lt)
@@ -423,11 +423,11 @@ line-written p piece raw at from to stop old columns text out end left past h t 
     ∙ ap (λ (xs : List ℕ). old ++ (text_as raw (text_of (before_ending (codes_left bytes piece at))) ++ xs)) (e ∙ ap (ending p) (sym (line-ending bytes piece from to stop past.byte past.started h) ∙ past.ending))
     ∙ ap (λ (cs : List Code). old ++ (text_as raw (text_of (before_ending cs)) ++ ending p (from_ending cs))) (sym left)
 
-pub ending-own : (p : Page) (piece : Piece) (from to stop : ℕ) → IsByte p.bytes from → (from < length p.bytes → begins_before from piece.start ≡ false) → IsTextEnd p.bytes piece from to stop → stop ≤ to
+pub ending-own : (p : Page) (piece : Piece) (from to stop : ℕ) → BeginsAtByte p.bytes from → (from < length p.bytes → begins_before from piece.start ≡ false) → IsTextEnd p.bytes piece from to stop → stop ≤ to
     → own_ending p ≡ ending p (from_ending (codes_left p.bytes piece (to, 0)))
 ending-own p piece from to stop byte started h le = ap (λ (cs : List Code). ending p (from_ending cs)) (sym (line-over p.bytes piece from to stop byte started h le))
 
-pub ending-here : (p : Page) (piece : Piece) (from to stop : ℕ) → IsByte p.bytes from → (from < length p.bytes → begins_before from piece.start ≡ false) → IsTextEnd p.bytes piece from to stop → to < stop
+pub ending-here : (p : Page) (piece : Piece) (from to stop : ℕ) → BeginsAtByte p.bytes from → (from < length p.bytes → begins_before from piece.start ≡ false) → IsTextEnd p.bytes piece from to stop → to < stop
     → line_ending p.options.line_ends (slice_range p.bytes to (to + line_ending_len (get_or p.bytes to 0) (drop (to + 1) p.bytes))) ≡ ending p (from_ending (codes_left p.bytes piece (to, 0)))
 ending-here p piece from to stop byte started h lt =
     let e : IsEnding p.bytes to (codes_left p.bytes piece (to, 0)) = line-ends p.bytes piece from to stop byte started h lt in

@@ -69,10 +69,6 @@ line-container h (suc n) c at nothing le = absurd (omega arith)
 line-container h (suc n) c at (and_leaf b k place) le = absurd (omega arith)
 line-container h (suc n) c at (and_container b d place i) le = line-container (holder_in d place) n c at i (omega arith)
 
-pub holder-last : (h : Holder) (cs : List PlacedContainer) (c : PlacedContainer) → holder_of h (cs ++ c ∷ []) ≡ holder_in c.container c.place
-holder-last h [] c = refl
-holder-last h (d ∷ cs) c = holder-last (holder_in d.container d.place) cs c
-
 -- inside a container that is not closed no line begins but behind what stands in it
 pub line-outside : (h : Holder) (n : ℕ) (t : PlacedTree) → n < length (spine t) → is_in_line_at h n t ≡ false
 line-outside h zero nothing le = absurd (omega arith)

@@ -16,7 +16,7 @@ use Rattle.markdown_page.specs.declared.lists.Place.{Place}
 use Rattle.markdown_page.specs.declared.write.OpenContainer.{OpenContainer}
 use Rattle.markdown_page.specs.declared.write.Writer.{Writer}
 use Rattle.markdown_page.specs.PlacedTree.{PlacedTree, nothing, and_leaf, and_container, placed_html, with_placed_row, placed_rows, PlacedContainer, spine, at_depth, open_html, is_in_line_at, holder_in, holder_of, is_tight, is_item, is_in_line_behind, leaf_written, opening, closing}
-use Rattle.markdown_page.specs.WriterStates.{IsWritten, IsReached, placed_of, depth, row_depth, depth_behind}
+use Rattle.markdown_page.specs.WriterStates.{IsWrittenSoFar, IsReached, placed_of, depth, row_depth, depth_behind}
 use Rattle.markdown_page.proofs.PlacedWalk.{leaf-more, container-more, close-one, line-leaf, line-container, line-outside, spine-same, spine-deeper}
 
 -- the outermost containers, as many as there are others
@@ -36,12 +36,12 @@ front-shorter (x ∷ s) (p ∷ os) o e =
 one-more : (os : List OpenContainer) (o : OpenContainer) → length (os ++ o ∷ []) ≡ suc (length os)
 one-more os o = omega (arith, length-append os (o ∷ []))
 
-module _ (s : Setting) (p : Page) (t : PlacedTree) (w v : Writer) (h : IsWritten s p t w) where
+module _ (s : Setting) (p : Page) (t : PlacedTree) (w v : Writer) (h : IsWrittenSoFar s p t w) where
   within : depth w ≤ length (spine t)
   within = front-le (spine t) w.opened.items h.containers
 
   -- the innermost container is closed
-  pub closed : (o : OpenContainer) → w.opened.items ≡ v.opened.items ++ o ∷ [] → v.out.items ≡ w.out.items ++ closing p (container_of o.container) o.place → v.in_line ≡ false → IsWritten s p t v
+  pub closed : (o : OpenContainer) → w.opened.items ≡ v.opened.items ++ o ∷ [] → v.out.items ≡ w.out.items ++ closing p (container_of o.container) o.place → v.in_line ≡ false → IsWrittenSoFar s p t v
   closed o e f g =
       let n : ℕ = depth v in
       let front : take (length (v.opened.items ++ o ∷ [])) (spine t) ≡ map placed_of (v.opened.items ++ o ∷ []) =
@@ -59,7 +59,7 @@ module _ (s : Setting) (p : Page) (t : PlacedTree) (w v : Writer) (h : IsWritten
 
   -- a container is opened
   pub begun : (o : OpenContainer) → v.opened.items ≡ w.opened.items ++ o ∷ [] → v.out.items ≡ w.out.items ++ opening p w.in_line (container_of o.container) o.place → v.in_line ≡ is_item (container_of o.container)
-      → IsWritten s p (at_depth (depth w) (λ x. and_container x (container_of o.container) o.place nothing) t) v
+      → IsWrittenSoFar s p (at_depth (depth w) (λ x. and_container x (container_of o.container) o.place nothing) t) v
   begun o e f g =
       let n : ℕ = depth w in
       let many : depth v ≡ suc n = ap length e ∙ one-more w.opened.items o in
@@ -76,7 +76,7 @@ module _ (s : Setting) (p : Page) (t : PlacedTree) (w v : Writer) (h : IsWritten
   -- a leaf is written
   pub leaf-written : (l : model.Leaf) (place : Place) (tight : Bool) → tight ≡ is_tight (holder_of no_item (map placed_of w.opened.items)) → v.opened.items ≡ w.opened.items
       → v.out.items ≡ w.out.items ++ leaf_written s p tight w.in_line l → v.in_line ≡ is_in_line_behind tight w.in_line l
-      → IsWritten s p (at_depth (depth w) (λ x. and_leaf x l place) t) v
+      → IsWrittenSoFar s p (at_depth (depth w) (λ x. and_leaf x l place) t) v
   leaf-written l place tight i e f g =
       let n : ℕ = depth w in
       let many : depth v ≡ n = ap length e in
@@ -104,14 +104,6 @@ tight-last os o l e = ap is_tight (last-holder no_item os o (length os - 1) (ome
 
 -- Rows.
 
-pub started : (s : Setting) (p : Page) (bytes : List ℕ) (rows : List Row) (places : List Place) (w : Writer) → AreNested 0 rows → w.out.items ≡ [] → w.opened.items ≡ [] → w.in_line ≡ false → IsReached s p bytes rows places w 0
-started s p bytes rows places w nested o e l = record {
-  tree = nothing;
-  written = record { containers = rw e refl; html = rw (o, e) refl; line = rw (l, e) refl };
-  rest = refl;
-  nested = rw e nested;
-}
-
 pub here : {A : Type 0} (xs : List A) (n : ℕ) (d : A) → n < length xs → drop n xs ≡ get_or xs n d ∷ drop (n + 1) xs
 here xs n d lt = drop-cons xs n d lt ∙ ap (λ (k : ℕ). get_or xs n d ∷ drop k xs) (sym (add-one n))
 
@@ -120,8 +112,8 @@ item-here xs n x lt e = here xs n x lt ∙ ap (λ y. y ∷ drop (n + 1) xs) (sym
 
 -- a leaf that stands as deep as containers are open
 pub leaf-row : (s : Setting) (p : Page) (bytes : List ℕ) (r : Row) (d : ℕ) (l : Leaf) (at : Place) (w v : Writer) (t : PlacedTree) → r ≡ LeafAt d l → depth w ≡ d
-    → IsWritten s p (at_depth (depth w) (λ x. and_leaf x (leaf_of bytes l) at) t) v → IsWritten s p (with_placed_row bytes r at t) v
-leaf-row s p bytes r d l at w v t e f h = rw e (subst (λ (k : ℕ). IsWritten s p (at_depth k (λ x. and_leaf x (leaf_of bytes l) at) t) v) f h)
+    → IsWrittenSoFar s p (at_depth (depth w) (λ x. and_leaf x (leaf_of bytes l) at) t) v → IsWrittenSoFar s p (with_placed_row bytes r at t) v
+leaf-row s p bytes r d l at w v t e f h = rw e (subst (λ (k : ℕ). IsWrittenSoFar s p (at_depth k (λ x. and_leaf x (leaf_of bytes l) at) t) v) f h)
 
 nested-first : (n : ℕ) (r : Row) (rs : List Row) → AreNested n (r ∷ rs) → (row_depth r ≤ n) × AreNested (depth_behind r) rs
 nested-first n (LeafAt d l) rs h = (h.0, h.1)
@@ -135,7 +127,7 @@ module _ (s : Setting) (p : Page) (bytes : List ℕ) (rows : List Row) (places :
   pub row-within : row_depth r ≤ depth w
   row-within = next-row.0
 
-  pub reached-more : (v : Writer) → drop n places ≡ at ∷ drop (n + 1) places → ((t : PlacedTree) → IsWritten s p t w → IsWritten s p (with_placed_row bytes r at t) v) → depth v ≡ depth_behind r
+  pub reached-more : (v : Writer) → drop n places ≡ at ∷ drop (n + 1) places → ((t : PlacedTree) → IsWrittenSoFar s p t w → IsWrittenSoFar s p (with_placed_row bytes r at t) v) → depth v ≡ depth_behind r
       → IsReached s p bytes rows places v (n + 1)
   reached-more v e f d = record {
     tree = with_placed_row bytes r at h.tree;
@@ -145,9 +137,9 @@ module _ (s : Setting) (p : Page) (bytes : List ℕ) (rows : List Row) (places :
   }
 
 pub all-written : (s : Setting) (p : Page) (bytes : List ℕ) (rows : List Row) (places : List Place) (w v : Writer) (n : ℕ) → IsReached s p bytes rows places w n → length rows ≤ n
-    → ((t : PlacedTree) → IsWritten s p t w → IsWritten s p t v) → depth v ≡ 0 → v.out.items ≡ placed_html s p no_item (placed_rows bytes nothing rows places)
+    → ((t : PlacedTree) → IsWrittenSoFar s p t w → IsWrittenSoFar s p t v) → depth v ≡ 0 → v.out.items ≡ placed_html s p no_item (placed_rows bytes nothing rows places)
 all-written s p bytes rows places w v n h le f d =
     let none : drop n rows ≡ [] = drop_all n rows le in
-    let g : IsWritten s p h.tree v = f h.tree h.written in
+    let g : IsWrittenSoFar s p h.tree v = f h.tree h.written in
     g.html ∙ ap (λ (k : ℕ). open_html s p no_item k h.tree) d
     ∙ ap (placed_html s p no_item) (ap (λ (rs : List Row). placed_rows bytes h.tree rs (drop n places)) (sym none) ∙ h.rest)

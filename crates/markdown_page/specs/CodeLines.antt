@@ -38,14 +38,14 @@ abbrev pub begins_before : ℕ → ℕ × ℕ → Bool
 begins_before i at = nat_lt i at.0 || (i == at.0 && nat_lt 0 at.1)
 
 -- a code, or the end of the document, begins at a byte
-pub record IsByte (bytes : List ℕ) (i : ℕ) : Type 0 where
+pub record BeginsAtByte (bytes : List ℕ) (i : ℕ) : Type 0 where
   pub point : Point
   pub is_point : IsPoint bytes point
   pub place : place_of point ≡ (i, 0)
 
 -- what is written of the codes of a tab that a line begins in
 pub record IsPastColumns (bytes : List ℕ) (piece : Piece) (raw : Bool) (at : ℕ × ℕ) (before after : List ℕ) (i : ℕ) : Type 0 where
-  pub byte : IsByte bytes i
+  pub byte : BeginsAtByte bytes i
   pub started : i < length bytes → begins_before i piece.start ≡ false
   pub text : after ++ text_as raw (text_of (before_ending (codes_left bytes piece (i, 0)))) ≡ before ++ text_as raw (text_of (before_ending (codes_left bytes piece at)))
   pub ending : from_ending (codes_left bytes piece (i, 0)) ≡ from_ending (codes_left bytes piece at)

@@ -3,7 +3,7 @@ pub mod DefinitionStrings
 pub mod BlankPieces
 pub mod CodeLines
 pub mod GivenPage
-pub mod HtmlLines
+pub mod LinesByCode
 pub mod ListPlaces
 pub mod ListWalks
 pub mod PlacedTree

@@ -19,7 +19,7 @@ abbrev pub depth : Writer → ℕ
 depth w = length w.opened.items
 
 -- the tree is written, but for what closes the containers that are open
-pub record IsWritten (s : Setting) (p : Page) (t : PlacedTree) (w : Writer) : Type 0 where
+pub record IsWrittenSoFar (s : Setting) (p : Page) (t : PlacedTree) (w : Writer) : Type 0 where
   pub containers : take (depth w) (spine t) ≡ map placed_of w.opened.items
   pub html : w.out.items ≡ open_html s p no_item (depth w) t
   pub line : w.in_line ≡ is_in_line_at no_item (depth w) t
@@ -36,6 +36,6 @@ depth_behind (ContainerAt d c) = suc d
 -- So many rows are written. With the others behind it, the tree is that of all.
 pub record IsReached (s : Setting) (p : Page) (bytes : List ℕ) (rows : List Row) (places : List Place) (w : Writer) (n : ℕ) : Type 0 where
   pub tree : PlacedTree
-  pub written : IsWritten s p tree w
+  pub written : IsWrittenSoFar s p tree w
   pub rest : placed_rows bytes tree (drop n rows) (drop n places) ≡ placed_rows bytes nothing rows places
   pub nested : AreNested (depth w) (drop n rows)

@@ -4,10 +4,10 @@ use markdown_document::document::Document;
 use markdown_html::targets::Targets;
 use markdown_html_model::options::HtmlOptions;
 
-/// What is given beside the blocks of a document: the document, what its labels lead to, and what may be written.
+// What is given beside the blocks of a document: the document, what its labels lead to, and what may be written.
 #[derive(Clone, Copy)]
-pub struct Given<'a> {
-    pub document: &'a Document<'a>,
-    pub targets: &'a Targets,
-    pub options: HtmlOptions,
+pub(crate) struct Given<'a> {
+    pub(crate) document: &'a Document<'a>,
+    pub(crate) targets: &'a Targets,
+    pub(crate) options: HtmlOptions,
 }

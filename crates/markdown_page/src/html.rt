@@ -11,7 +11,7 @@ ghost use Rattle.markdown_html_model.specs.declared.role.Within as within;
 ghost use Rattle.markdown_page_model.specs.PageTexts.{lines_html};
 ghost use Rattle.markdown_page.specs.CodeLines.{text_as};
 ghost use Rattle.markdown_page.specs.GivenPage.{bytes_of, page_of};
-ghost use Rattle.markdown_page.specs.HtmlLines.{lines_from};
+ghost use Rattle.markdown_page.specs.LinesByCode.{lines_from};
 
 use crate::given::Given;
 use crate::lines::{first_spot, is_leading, push_as, push_ending_at};

@@ -4,7 +4,7 @@ use Rattle.std.proofs.lemmas.Result.{on_ok_weaker}
 use Rattle.markdown_content.specs.Content.{content_of}
 use Rattle.markdown_content.specs.declared.parser.Piece.{Piece}
 use Rattle.markdown_page.specs.GivenPage.{page_of, bytes_of}
-use Rattle.markdown_page.specs.HtmlLines.{lines_from}
+use Rattle.markdown_page.specs.LinesByCode.{lines_from}
 use Rattle.markdown_page.specs.PlacedTree.{line_start}
 use Rattle.markdown_page.proofs.HtmlCodes.{lines-by-code}
 use Rattle.markdown_page.proofs.html.push_html.Goals as goal

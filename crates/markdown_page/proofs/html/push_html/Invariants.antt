@@ -1,7 +1,7 @@
 use Rattle.std.proofs.Common.{◌≡◌, ◌++◌, drop, true, false}
 use Rattle.markdown_content.specs.Content.{content_of}
 use Rattle.markdown_page.specs.GivenPage.{page_of, bytes_of}
-use Rattle.markdown_page.specs.HtmlLines.{lines_from}
+use Rattle.markdown_page.specs.LinesByCode.{lines_from}
 use Rattle.markdown_page.proofs.html.push_html.Given as goal
 
 abbrev pub invariant-loop-piece : goal.invariant-loop-piece

@@ -6,7 +6,7 @@ use Rattle.markdown_block_definitions.proofs.SpotReads.{spot-small}
 use Rattle.markdown_block_definitions.proofs.TextPushes.{nothing-behind, nothing-left}
 use Rattle.markdown_page.specs.CodeLines.{codes_left}
 use Rattle.markdown_page.specs.GivenPage.{page_of, bytes_of}
-use Rattle.markdown_page.specs.HtmlLines.{lines_from}
+use Rattle.markdown_page.specs.LinesByCode.{lines_from}
 use Rattle.markdown_page.proofs.LineTexts.{still-behind, left-more}
 use Rattle.markdown_page.proofs.html.push_piece.Goals as goal
 

@@ -4,7 +4,7 @@ use Rattle.markdown_content.specs.Content.{piece_codes}
 use Rattle.markdown_block_definitions.specs.TextCopies.{IsSpot, is_spot_before, spot_place}
 use Rattle.markdown_page.specs.CodeLines.{codes_left}
 use Rattle.markdown_page.specs.GivenPage.{page_of, bytes_of}
-use Rattle.markdown_page.specs.HtmlLines.{lines_from}
+use Rattle.markdown_page.specs.LinesByCode.{lines_from}
 use Rattle.markdown_page.proofs.html.push_piece.Given as goal
 
 abbrev pub invariant-loop-spot : goal.invariant-loop-spot
