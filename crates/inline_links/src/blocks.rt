@@ -1,23 +1,22 @@
-//! The texts of a document, and where its labels lead.
+//! The blocks of a document, and where its labels lead.
 
 ghost use Rattle.std.specs.Prelude.{◌≤◌, length};
 ghost use Rattle.markdown_content.specs.Content.{document_limit};
 
 use crate::links::OPTIONS;
 use crate::target::Target;
-use markdown_block_definitions::document::read;
+use markdown_block_definitions::document::{Document, read};
 use markdown_block_definitions::front::Definition;
-use markdown_blocks::block::{Leaf, Row};
+use markdown_blocks::block::Row;
 use markdown_html_model::resolve::{decoding_of, push_resolved};
 use markdown_inline::definitions::{Added, Definitions};
-use markdown_inline::parser::Piece;
 use std::alloc::{AllocError, Global};
 
-/// The texts of a document, and its definitions.
+/// The blocks of a document, and its definitions.
 #[derive(Drop)]
 pub struct Blocks {
-    /// The pieces of each text.
-    pub texts: Vec<Vec<Piece>>,
+    /// The blocks.
+    pub rows: Vec<Row>,
     /// The definitions that count.
     pub definitions: Definitions,
     /// Where each of them leads, by its number.
@@ -25,19 +24,6 @@ pub struct Blocks {
 }
 
 impl Blocks {
-    // Adds the text of a row, if it has one.
-    fn push_text(&mut self, alloc: Global, row: Row) -> Result<(), AllocError> {
-        let Row::LeafAt(_, leaf) = row else {
-            return Ok(());
-        };
-        match leaf {
-            Leaf::Heading(_, piece) => self.texts.push(Vec::from_slice(alloc, &[piece])?)?,
-            Leaf::Underlined(_, pieces) | Leaf::Paragraph(pieces) => self.texts.push(pieces)?,
-            _ => {}
-        }
-        Ok(())
-    }
-
     // Adds a definition, unless one with its identifier stands before it.
     fn push_definition(
         &mut self,
@@ -73,21 +59,21 @@ fn target_of(alloc: Global, definition: &Definition) -> Result<Target, AllocErro
     })
 }
 
-/// The texts and the definitions of a document (CommonMark 4).
+/// The blocks and the definitions of a document (CommonMark 4).
 pub fn of(alloc: Global, bytes: &[u8]) -> Result<Blocks, AllocError>
     requires { length bytes.now ≤ document_limit }
 {
-    let found = read(alloc, bytes)?;
-    let mut blocks = Blocks {
-        texts: Vec::new(alloc),
+    let Document {
+        blocks,
+        definitions,
+    } = read(alloc, bytes)?;
+    let mut found = Blocks {
+        rows: blocks.rows,
         definitions: Definitions::new(alloc),
         targets: Vec::new(alloc),
     };
-    for definition in &found.definitions {
-        blocks.push_definition(alloc, definition)?;
+    for definition in &definitions {
+        found.push_definition(alloc, definition)?;
     }
-    for row in found.blocks.rows {
-        blocks.push_text(alloc, row)?;
-    }
-    Ok(blocks)
+    Ok(found)
 }

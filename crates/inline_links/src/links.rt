@@ -2,6 +2,7 @@
 
 ghost use Rattle.markdown_content.specs.LabelTexts.{HasLabelTexts};
 
+use crate::blocks::Blocks;
 use crate::lines::Lines;
 use crate::target::Target;
 use markdown_inline::configuration::{COMMONMARK, Constructs, ParseOptions};
@@ -157,14 +158,13 @@ fn push_lines(
     Ok(())
 }
 
-/// Adds a line for each link of a text of the document, where these are all definitions; none where the pieces are no text.
+/// Adds a line for each link of a text of the document, which has these blocks; none where the pieces are no text.
 pub fn push_text(
     alloc: Global,
     lines: &mut Lines,
     document: &Document,
-    definitions: &Definitions,
+    blocks: &Blocks,
     text: &[Piece],
-    targets: &[Target],
 ) -> Result<(), AllocError> {
     let Some(content) = document.content(text) else {
         return Ok(());
@@ -177,8 +177,9 @@ pub fn push_text(
         bytes: document.parse_state().bytes,
         pieces: text,
         options: &OPTIONS,
-        definitions,
+        definitions: &blocks.definitions,
         footnotes: &Definitions::new(alloc),
     };
+    let targets = blocks.targets.as_slice();
     push_lines(alloc, lines, &labels, &events.as_slice(), targets)
 }

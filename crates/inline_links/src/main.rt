@@ -8,12 +8,32 @@ mod target;
 
 use crate::blocks::Blocks;
 use crate::lines::{Form, Lines};
+use markdown_blocks::block::{Leaf, Row};
 use markdown_content::content::DOCUMENT_LIMIT;
 use markdown_files::fault::Fault;
 use markdown_files::files::{self, Program};
 use markdown_inline::document::Document;
 use std::alloc::{AllocError, Global};
 use std::process::ExitCode;
+
+// Adds the lines of the text of a row, if it has one.
+fn push_row(
+    alloc: Global,
+    lines: &mut Lines,
+    document: &Document,
+    blocks: &Blocks,
+    row: &Row,
+) -> Result<(), AllocError> {
+    match row {
+        Row::LeafAt(_, Leaf::Heading(_, piece)) => {
+            links::push_text(alloc, lines, document, blocks, &[*piece])
+        }
+        Row::LeafAt(_, Leaf::Underlined(_, text) | Leaf::Paragraph(text)) => {
+            links::push_text(alloc, lines, document, blocks, text.as_slice())
+        }
+        _ => Ok(()),
+    }
+}
 
 // The lines of the texts of these blocks, whose definitions are all that is defined.
 fn lines_by_definitions(
@@ -26,16 +46,8 @@ fn lines_by_definitions(
         text: String::new(alloc),
         form,
     };
-    for text in &blocks.texts {
-        let targets = blocks.targets.as_slice();
-        links::push_text(
-            alloc,
-            &mut lines,
-            document,
-            &blocks.definitions,
-            text.as_slice(),
-            targets,
-        )?;
+    for row in &blocks.rows {
+        push_row(alloc, &mut lines, document, blocks, row)?;
     }
     let Lines { text, .. } = lines;
     Ok(text)
@@ -56,11 +68,11 @@ fn lines_of(alloc: Global, bytes: &[u8], form: Form) -> Result<String, Fault> {
 
 // Lists links, perhaps as JSON.
 #[derive(Drop)]
-struct Links {
+struct Lister {
     is_json: bool,
 }
 
-impl Program for Links {
+impl Program for Lister {
     const NAME: &'static str = "inline_links";
 
     const HELP: &'static str = "inline_links lists where the links of Markdown files lead.
@@ -83,8 +95,8 @@ Statuses, of the first fault; a line on standard error says why
 
     const VERSION: &'static str = "inline_links 1.0.0\n";
 
-    fn new() -> Links {
-        Links { is_json: false }
+    fn new() -> Lister {
+        Lister { is_json: false }
     }
 
     fn take(&mut self, word: &str) -> bool {
@@ -104,5 +116,5 @@ Statuses, of the first fault; a line on standard error says why
 }
 
 fn main(rt: HostRuntime) -> ExitCode {
-    files::main::<Links>(&rt)
+    files::main::<Lister>(&rt)
 }
