@@ -1,5 +1,5 @@
 -- Documents that are written as HTML, and what is wrong with one that is refused.
-use Rattle.std.specs.Prelude.{ℕ, List, [], ⊥}
+use Rattle.std.specs.Prelude.{ℕ, List, []}
 use Rattle.markdown_content.specs.KnownPlaces.{IsDocument}
 use Rattle.markdown_inline_c.specs.FlatHtml.{AreKnownForHtml}
 use Rattle.markdown_inline_c.specs.Statuses.{IsDocumentFault}
