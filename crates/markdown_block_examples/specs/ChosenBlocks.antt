@@ -191,6 +191,12 @@ ItemRules =
     (blocks_answer (45 ∷ 32 ∷ 45 ∷ 32 ∷ 10 ∷ []) ≡ (in_item (bullet 45) false ∷ in_item (bullet 45) false ∷ end ∷ end ∷ [])) ×
     -- «-␊␊  a␊»: item - tight [], text «a»
     (blocks_answer (45 ∷ 10 ∷ 10 ∷ 32 ∷ 32 ∷ 97 ∷ 10 ∷ []) ≡ (in_item (bullet 45) false ∷ end ∷ text (codes "a") ∷ [])) ×
+    -- «-␊  ␊  a␊»: item - tight [], text «a»
+    (blocks_answer (45 ∷ 10 ∷ 32 ∷ 32 ∷ 10 ∷ 32 ∷ 32 ∷ 97 ∷ 10 ∷ []) ≡ (in_item (bullet 45) false ∷ end ∷ text (codes "a") ∷ [])) ×
+    -- «- -␊    ␊    a␊»: item - loose [item - tight [], text «a»]
+    (blocks_answer (45 ∷ 32 ∷ 45 ∷ 10 ∷ 32 ∷ 32 ∷ 32 ∷ 32 ∷ 10 ∷ 32 ∷ 32 ∷ 32 ∷ 32 ∷ 97 ∷ 10 ∷ []) ≡ (in_item (bullet 45) true ∷ in_item (bullet 45) false ∷ end ∷ text (codes "a") ∷ end ∷ [])) ×
+    -- «- ~~~␊    ␊   a␊»: item - tight [fenced «» «  ␊ a␊»]
+    (blocks_answer (45 ∷ 32 ∷ 126 ∷ 126 ∷ 126 ∷ 10 ∷ 32 ∷ 32 ∷ 32 ∷ 32 ∷ 10 ∷ 32 ∷ 32 ∷ 32 ∷ 97 ∷ 10 ∷ []) ≡ (in_item (bullet 45) false ∷ fenced (codes "") (32 ∷ 32 ∷ 10 ∷ 32 ∷ 97 ∷ 10 ∷ []) ∷ end ∷ [])) ×
     -- «-␊  a␊»: item - tight [text «a»]
     (blocks_answer (45 ∷ 10 ∷ 32 ∷ 32 ∷ 97 ∷ 10 ∷ []) ≡ (in_item (bullet 45) false ∷ text (codes "a") ∷ end ∷ [])) ×
     -- «-     a␊»: item - tight [code «a␊»]

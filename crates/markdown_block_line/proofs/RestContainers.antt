@@ -1,12 +1,12 @@
 -- Items, and what stands inside a container, from the parts of a line.
-use Rattle.std.proofs.Common.{◌≡◌, ℕ, ◌+◌, min, ap, ◌∙◌, sym, List, drop, Bool, true, false, ◌&&◌, not, Some, None, arith, drop-drop}
+use Rattle.std.proofs.Common.{◌≡◌, ℕ, ◌+◌, ◌<◌, ◌≤◌, min, ap, ◌∙◌, sym, List, drop, Bool, true, false, Some, None, arith, drop-drop}
 use Rattle.std.specs.Prelude.{nat_le}
 use Rattle.std.proofs.lemmas.Bool.Decides.{nat_tests}
 use Rattle.markdown_content.specs.Codes.{Code}
 use Rattle.markdown_block_model.specs.LineRests.{indent, trimmed, skip, is_blank_line, only_if}
-use Rattle.markdown_block_model.specs.BlockTree.{Marker, item, Tree}
+use Rattle.markdown_block_model.specs.BlockTree.{Marker, item}
 use Rattle.markdown_block_model.specs.ContainerStarts.{marker_at, padding, may_begin, item_by, item_at}
-use Rattle.markdown_block_model.specs.DocumentBlocks.{is_nothing, rest_in_item}
+use Rattle.markdown_block_model.specs.DocumentBlocks.{rest_in_item}
 use Rattle.markdown_block_line.proofs.RestValues.{skip-drop, trimmed-drop}
 
 -- Items.
@@ -24,16 +24,15 @@ item-here p columns k i j m cs e b h l =
 
 -- Inside an item.
 
-pub inside-deep : (columns k : ℕ) (inside : Tree) (cs : List Code) → k ≡ min columns (indent cs) → k ≡ columns → rest_in_item (nat_le columns (indent cs)) columns inside cs ≡ Some (drop k cs)
-inside-deep columns k inside cs h e =
+pub inside-deep : (columns k : ℕ) (cs : List Code) → k ≡ min columns (indent cs) → columns ≤ k → rest_in_item (nat_le columns (indent cs)) columns cs ≡ Some (drop k cs)
+inside-deep columns k cs h e =
     let x : nat_le columns (indent cs) ≡ true = grind (arith, nat_tests) in
-    ap (λ v. rest_in_item v columns inside cs) x ∙ ap (λ (r : List Code). Some r) (skip-drop columns cs ∙ ap (λ n. drop n cs) (sym h))
+    ap (λ v. rest_in_item v columns cs) x ∙ ap (λ (r : List Code). Some r) (skip-drop columns cs ∙ ap (λ n. drop n cs) (sym h))
 
-pub inside-by : (columns k : ℕ) (inside : Tree) (cs : List Code) (b n : Bool) → k ≡ min columns (indent cs) → (k ≡ columns → ⊥) → is_blank_line cs ≡ b → is_nothing inside ≡ n
-    → rest_in_item (nat_le columns (indent cs)) columns inside cs ≡ only_if (b && not n) (drop k cs)
-inside-by columns k inside cs b n h e f g =
+pub inside-by : (columns k : ℕ) (cs : List Code) (b : Bool) → k ≡ min columns (indent cs) → k < columns → is_blank_line cs ≡ b
+    → rest_in_item (nat_le columns (indent cs)) columns cs ≡ only_if b (drop k cs)
+inside-by columns k cs b h e f =
     let x : nat_le columns (indent cs) ≡ false = grind (arith, nat_tests) in
     let i : indent cs ≡ k = omega arith in
     let t : trimmed cs ≡ drop k cs = trimmed-drop cs ∙ ap (λ j. drop j cs) i in
-    ap (λ v. rest_in_item v columns inside cs) x ∙ ap (λ v. only_if (v && not (is_nothing inside)) (trimmed cs)) f
-    ∙ ap (λ v. only_if (b && not v) (trimmed cs)) g ∙ ap (λ (r : List Code). only_if (b && not n) r) t
+    ap (λ v. rest_in_item v columns cs) x ∙ ap (λ v. only_if v (trimmed cs)) f ∙ ap (λ (r : List Code). only_if b r) t

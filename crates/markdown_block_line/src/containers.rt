@@ -6,7 +6,7 @@ ghost use Rattle.markdown_model.specs.CodeTests.{values_of};
 ghost use Rattle.markdown_block_model.specs.LineRests.{indent};
 ghost use Rattle.markdown_block_model.specs.BlockTree.{item, Tree};
 ghost use Rattle.markdown_block_model.specs.ContainerStarts.{marker_at, item_at, may_begin, may_interrupt, padding};
-ghost use Rattle.markdown_block_model.specs.DocumentBlocks.{is_nothing, rest_in_item, rest_inside};
+ghost use Rattle.markdown_block_model.specs.DocumentBlocks.{is_nothing, is_further_blank, rest_in_item, rest_inside};
 ghost use Rattle.markdown_block_line.specs.LineBlocks.{marker_of, container_of, Says};
 
 use crate::line::{indent_to, is_blank_line, is_gap};
@@ -137,24 +137,30 @@ pub fn rest_inside(container: Container, is_empty: bool, line: &[u8]) -> Option<
 {
     match container {
         Container::Quote => behind_quote(line),
-        Container::Item(_, columns) => rest_in_item(columns, is_empty, line),
+        Container::Item(_, columns) => {
+            if is_further_blank(is_empty, line) {
+                return None;
+            }
+            rest_in_item(columns, line)
+        }
     }
 }
 
+// Whether a line is a further blank one of an item that began with a blank line; `is_empty` says that the item holds nothing.
+fn is_further_blank(is_empty: bool, line: &[u8]) -> bool
+    ensures { (cs : List Code) (inside : Tree) → values_of cs ≡ line.now → is_nothing inside ≡ is_empty → result ≡ is_further_blank inside cs }
+{
+    is_empty && is_blank_line(line)
+}
+
 // How many codes of a line stand outside an item that the line continues.
-fn rest_in_item(columns: usize, is_empty: bool, line: &[u8]) -> Option<usize>
-    ensures found { (cs : List Code) (inside : Tree) → values_of cs ≡ line.now → is_nothing inside ≡ is_empty
-        → Says result (λ k. drop k cs) (rest_in_item (nat_le columns (indent cs)) columns inside cs) }
+fn rest_in_item(columns: usize, line: &[u8]) -> Option<usize>
+    ensures found { (cs : List Code) → values_of cs ≡ line.now
+        → Says result (λ k. drop k cs) (rest_in_item (nat_le columns (indent cs)) columns cs) }
     ensures within { IfSome result (λ k. k ≤ length line.now) }
 {
     let count = indent_to(line, columns);
-    if count == columns {
-        return Some(count);
-    }
-    if is_empty {
-        return None;
-    }
-    if !is_blank_line(line) {
+    if count < columns && !is_blank_line(line) {
         return None;
     }
     Some(count)

@@ -14,4 +14,4 @@ containers_hold has_text c [] [] before inside h = refl
 containers_hold has_text c [] (l ∷ ls) before inside h = absurd h
 containers_hold has_text c (q ∷ qs) [] before inside h = absurd h
 containers_hold has_text c (q ∷ qs) (l ∷ ls) before inside h =
-    rw (step has_text c q l before inside (h.0 inside)) (containers_hold has_text c qs ls before (read_line has_text l inside) h.1)
+    rw (step has_text c q l before inside h.0) (containers_hold has_text c qs ls before (read_line has_text l inside) h.1)

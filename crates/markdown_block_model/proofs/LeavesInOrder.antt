@@ -16,7 +16,7 @@ use Rattle.markdown_block_model.specs.LeafStarts.{is_break, ends_blank, without_
 use Rattle.markdown_block_model.specs.HtmlStarts.{html_kind, ends_html, html_of, html_at}
 use Rattle.markdown_block_model.specs.ContainerStarts.{behind_quote, in_quote, quote_at, marker_at, padding, may_begin, item_of, item_by, item_at}
 use Rattle.markdown_block_model.specs.BlockStarts.{Begun, leaf_begins, container_begins, leaf_begun, container_begun, first_of, begun, with_found, with_rest, with_begun, with_line}
-use Rattle.markdown_block_model.specs.DocumentBlocks.{with_fenced_line, with_indented_line, with_next, with_next_or_line, with_text_begun, with_text_level, heading_level, with_text_line, with_leaf_line, is_nothing, rest_in_item, rest_inside, with_lazy_line, is_lazy, with_rest_inside, read_line, read_lines, blocks_of}
+use Rattle.markdown_block_model.specs.DocumentBlocks.{with_fenced_line, with_indented_line, with_next, with_next_or_line, with_text_begun, with_text_level, heading_level, with_text_line, with_leaf_line, is_further_blank, rest_in_item, rest_inside, with_lazy_line, is_lazy, with_rest_inside, read_line, read_lines, blocks_of}
 use Rattle.markdown_block_model.specs.LinkDefinitions.{Definition, between, destination_text, line_end, title_of_definition, definition, taken_by, taken, definitions_of, has_text, text_of_leaf, resolved}
 use Rattle.markdown_block_model.specs.BlockLaws.{leaf_text, tree_text, IsPart, LeavesInOrder}
 
@@ -315,13 +315,18 @@ leaf-line-part has_text cs before (html k text ended) = next-or-line-part cs bef
 
 -- Containers.
 
-in-item-part : (b : Bool) (columns : ℕ) (inside : Tree) (cs : List Code) → HasRest cs (rest_in_item b columns inside cs)
-in-item-part true columns inside cs = skipped columns cs
-in-item-part false columns inside cs = rest-if cs (is_blank_line cs && not (is_nothing inside)) (trimmed cs) (trims cs)
+in-item-part : (b : Bool) (columns : ℕ) (cs : List Code) → HasRest cs (rest_in_item b columns cs)
+in-item-part true columns cs = skipped columns cs
+in-item-part false columns cs = rest-if cs (is_blank_line cs) (trimmed cs) (trims cs)
+
+unless-part : (b : Bool) (cs : List Code) (o : Option (List Code)) → HasRest cs o → HasRest cs (if b then None else o)
+unless-part true cs o h = tt
+unless-part false cs o h = h
 
 inside-part : (c : Container) (inside : Tree) (cs : List Code) → HasRest cs (rest_inside c inside cs)
 inside-part quote inside cs = behind-quote-part cs
-inside-part (item m columns) inside cs = in-item-part (nat_le columns (indent cs)) columns inside cs
+inside-part (item m columns) inside cs =
+    unless-part (is_further_blank inside cs) cs (rest_in_item (nat_le columns (indent cs)) columns cs) (in-item-part (nat_le columns (indent cs)) columns cs)
 
 lazy-part : (cs : List Code) (t : Tree) → IsPart (tree_text (with_lazy_line cs t)) (tree_text t ++ cs)
 lazy-part cs nothing = none cs

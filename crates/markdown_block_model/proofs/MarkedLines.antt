@@ -7,12 +7,12 @@ use Rattle.markdown_content.specs.Codes.{Code, is_blank, is_line_ending}
 use Rattle.markdown_model.specs.CodeTests.{is_value, is_whitespace_code, next_is}
 use Rattle.markdown_model.specs.Grammar.{span}
 use Rattle.markdown_block_model.specs.LineRests.{indent, trimmed, is_blank_line, past_blank, skip, is_gap, count_first, first_value, trimmed_end, only_if}
-use Rattle.markdown_block_model.specs.BlockTree.{Marker, bullet, Container, quote, item, Leaf, blank, thematic_break, fenced_code, Tree, nothing, and_leaf, and_container}
+use Rattle.markdown_block_model.specs.BlockTree.{Marker, bullet, Container, quote, item, Leaf, blank, thematic_break, heading, underlined, paragraph, indented_code, fenced_code, html, Tree, nothing, and_leaf, and_container}
 use Rattle.markdown_block_model.specs.LeafStarts.{is_break, heading_of, heading_at, may_be_info, fence_of, fence_at}
 use Rattle.markdown_block_model.specs.HtmlStarts.{kind_of, kind_behind, html_kind, html_of, html_at}
 use Rattle.markdown_block_model.specs.ContainerStarts.{behind_quote, in_quote, quote_at, bullet_at, ordered_at, or_else, padding, may_begin, item_of, item_by, item_at}
 use Rattle.markdown_block_model.specs.BlockStarts.{Begun, leaf_begins, container_begins, leaf_begun, container_begun, first_of, begun_near, begun_far, begun, with_found, with_rest, with_line}
-use Rattle.markdown_block_model.specs.DocumentBlocks.{rest_in_item, rest_inside, read_lines}
+use Rattle.markdown_block_model.specs.DocumentBlocks.{with_next, with_next_or_line, with_text_begun, with_text_level, heading_level, with_text_line, with_leaf_line, is_nothing, rest_in_item, rest_inside, with_lazy_line, is_lazy, with_rest_inside, read_line, read_lines}
 use Rattle.markdown_block_model.specs.BlockLaws.{GoOn, Each, IsMarked, IsIndented, QuotesHold, ItemsHold}
 use Rattle.markdown_block_model.proofs.ContainersHold.{containers_hold}
 use Rattle.markdown_block_model.proofs.ContainersTakeACode.{steps_suffice}
@@ -39,6 +39,77 @@ first-line q l c hq hl shorter h =
 starts-other : (c : Code) (cs : List Code) → is_whitespace_code c ≡ false → is_blank_line (c ∷ cs) ≡ false
 starts-other c cs h = ap (λ v. v && is_blank_line cs) h
 
+-- What holds something holds something behind each line.
+
+found-kept : (inner : List Code → Tree) (cs : List Code) (t : Tree) (o : Option Begun) → is_nothing t ≡ false → is_nothing (with_found inner cs t o) ≡ false
+found-kept inner cs t (Some (leaf_begins l)) h = refl
+found-kept inner cs t (Some (container_begins c rest)) h = refl
+found-kept inner cs t None h = by_test (is_blank_line cs)
+  where
+    by_test : (b : Bool) → is_nothing (if b then t else and_leaf t (paragraph (trimmed cs))) ≡ false
+    by_test true = h
+    by_test false = refl
+
+behind-kept : (cs : List Code) (t : Tree) → is_nothing t ≡ false → is_nothing (with_line cs t) ≡ false
+behind-kept cs t h = by_test (is_blank_line cs)
+  where
+    by_test : (b : Bool) → is_nothing (if b then and_leaf t blank else with_rest (suc (length cs)) cs t) ≡ false
+    by_test true = refl
+    by_test false = found-kept (λ rest. with_rest (length cs) rest nothing) cs t (begun false false cs) h
+
+next-kept : (cs : List Code) (t : Tree) (l : Leaf) (o : Option Leaf) → is_nothing (with_next_or_line cs t l o) ≡ false
+next-kept cs t l (Some next) = refl
+next-kept cs t l None = behind-kept cs (and_leaf t l) refl
+
+begun-kept : (cs : List Code) (t : Tree) (text : List Code) (o : Option Begun) → is_nothing (with_text_begun cs t text o) ≡ false
+begun-kept cs t text None = refl
+begun-kept cs t text (Some (leaf_begins l)) = refl
+begun-kept cs t text (Some (container_begins c rest)) = refl
+
+level-kept : (cs : List Code) (t : Tree) (text : List Code) (o : Option ℕ) → is_nothing (with_text_level cs t text o) ≡ false
+level-kept cs t text (Some level) = refl
+level-kept cs t text None = begun-kept cs t text (begun true true cs)
+
+text-kept : (has_text : List Code → Bool) (cs : List Code) (t : Tree) (text : List Code) → is_nothing (with_text_line has_text cs t text) ≡ false
+text-kept has_text cs t text = by_test (is_blank_line cs)
+  where
+    by_test : (b : Bool) → is_nothing (if b then and_leaf (and_leaf t (paragraph text)) blank else with_text_level cs t text (heading_level has_text cs text)) ≡ false
+    by_test true = refl
+    by_test false = level-kept cs t text (heading_level has_text cs text)
+
+leaf-kept : (has_text : List Code → Bool) (cs : List Code) (t : Tree) (l : Leaf) → is_nothing (with_leaf_line has_text cs t l) ≡ false
+leaf-kept has_text cs t (paragraph text) = text-kept has_text cs t text
+leaf-kept has_text cs t blank = next-kept cs t blank (with_next blank cs)
+leaf-kept has_text cs t thematic_break = next-kept cs t thematic_break (with_next thematic_break cs)
+leaf-kept has_text cs t (heading n text) = next-kept cs t (heading n text) (with_next (heading n text) cs)
+leaf-kept has_text cs t (underlined n text) = next-kept cs t (underlined n text) (with_next (underlined n text) cs)
+leaf-kept has_text cs t (indented_code ls) = next-kept cs t (indented_code ls) (with_next (indented_code ls) cs)
+leaf-kept has_text cs t (fenced_code f info ls ended) = next-kept cs t (fenced_code f info ls ended) (with_next (fenced_code f info ls ended) cs)
+leaf-kept has_text cs t (html k text ended) = next-kept cs t (html k text ended) (with_next (html k text ended) cs)
+
+container-kept : (inner : List Code → Tree) (cs : List Code) (t : Tree) (c : Container) (inside : Tree) (o : Option (List Code)) → is_nothing (with_rest_inside inner cs t c inside o) ≡ false
+container-kept inner cs t c inside (Some rest) = refl
+container-kept inner cs t c inside None = by_test (is_lazy cs inside)
+  where
+    by_test : (b : Bool) → is_nothing (if b then and_container t c (with_lazy_line cs inside) else with_line cs (and_container t c inside)) ≡ false
+    by_test true = refl
+    by_test false = behind-kept cs (and_container t c inside) refl
+
+line-kept : (has_text : List Code → Bool) (cs : List Code) (t : Tree) → is_nothing t ≡ false → is_nothing (read_line has_text cs t) ≡ false
+line-kept has_text cs nothing h = absurd (cc)
+line-kept has_text cs (and_leaf before l) h = leaf-kept has_text cs before l
+line-kept has_text cs (and_container before c inside) h =
+    container-kept (λ rest. read_line has_text rest inside) cs before c inside (rest_inside c inside cs)
+
+-- and nothing holds something behind a line that is not blank
+found-holds : (inner : List Code → Tree) (cs : List Code) (o : Option Begun) → is_blank_line cs ≡ false → is_nothing (with_found inner cs nothing o) ≡ false
+found-holds inner cs (Some (leaf_begins l)) h = refl
+found-holds inner cs (Some (container_begins c rest)) h = refl
+found-holds inner cs None h = ap (λ v. is_nothing (if v then nothing else and_leaf nothing (paragraph (trimmed cs)))) h
+
+line-holds : (cs : List Code) → is_blank_line cs ≡ false → is_nothing (with_line cs nothing) ≡ false
+line-holds cs h = ap is_nothing (filled-line cs h) ∙ found-holds (λ rest. with_rest (length cs) rest nothing) cs (begun false false cs) h
+
 -- Quotes.
 
 quoted : (m s : Code) (l : List Code) → m.value ≡ byte ">" → is_blank s ≡ true → behind_quote (m ∷ s ∷ l) ≡ Some l
@@ -52,11 +123,11 @@ quoted m s l h b =
 goes-on-quote : (q l : List Code) → IsMarked (byte ">") q l → behind_quote q ≡ Some l
 goes-on-quote q l h = ap behind_quote h.whole ∙ quoted h.marker h.space l h.marks h.is_space
 
-go-on-quote : (qs ls : List (List Code)) → Each (IsMarked (byte ">")) qs ls → GoOn quote qs ls
-go-on-quote [] [] h = tt
-go-on-quote [] (l ∷ ls) h = absurd h
-go-on-quote (q ∷ qs) [] h = absurd h
-go-on-quote (q ∷ qs) (l ∷ ls) h = (λ inside. goes-on-quote q l h.0, go-on-quote qs ls h.1)
+go-on-quote : (has_text : List Code → Bool) (inside : Tree) (qs ls : List (List Code)) → Each (IsMarked (byte ">")) qs ls → GoOn has_text quote inside qs ls
+go-on-quote has_text inside [] [] h = tt
+go-on-quote has_text inside [] (l ∷ ls) h = absurd h
+go-on-quote has_text inside (q ∷ qs) [] h = absurd h
+go-on-quote has_text inside (q ∷ qs) (l ∷ ls) h = (goes-on-quote q l h.0, go-on-quote has_text (read_line has_text l inside) qs ls h.1)
 
 first-quote : (o : Option (List Code)) (bs : List (Option Begun)) (l : List Code) → o ≡ Some l → first_of (container_begun (in_quote o) ∷ bs) ≡ Some (container_begins quote l)
 first-quote o bs l h = ap (λ v. first_of (container_begun (in_quote v) ∷ bs)) h
@@ -77,7 +148,7 @@ quote-begins m s l h b =
 pub quotes_hold : QuotesHold
 quotes_hold has_text q l qs ls h hs f =
     ap (read_lines has_text qs) (ap (λ x. with_line x nothing) h.whole ∙ first-line (h.marker ∷ h.space ∷ l) l quote filled f (omega arith) (quote-begins h.marker h.space l h.marks h.is_space))
-    ∙ containers_hold has_text quote qs ls nothing (with_line l nothing) (go-on-quote qs ls hs)
+    ∙ containers_hold has_text quote qs ls nothing (with_line l nothing) (go-on-quote has_text (with_line l nothing) qs ls hs)
   where
     filled : is_blank_line (h.marker ∷ h.space ∷ l) ≡ false
     filled = starts-other h.marker (h.space ∷ l) (ap (λ n. (n == 32 || n == 9) || n == 10) h.marks)
@@ -167,23 +238,26 @@ item-begins v m s c l i h b w k =
     or-left true b e = e
     or-left false b e = refl
 
-indented : (m : Marker) (inside : Tree) (a b : Code) (l : List Code) → is_blank a ≡ true → is_blank b ≡ true → rest_inside (item m 2) inside (a ∷ b ∷ l) ≡ Some l
-indented m inside a b l f s =
+indented : (m : Marker) (inside : Tree) (a b : Code) (l : List Code) → is_nothing inside ≡ false → is_blank a ≡ true → is_blank b ≡ true
+    → rest_inside (item m 2) inside (a ∷ b ∷ l) ≡ Some l
+indented m inside a b l n f s =
     let columns : indent (a ∷ b ∷ l) ≡ suc (suc (indent l)) =
     ap (λ (x : List Code × List Code). length x.0) (span-pass is_blank a (b ∷ l) f) ∙ ap (λ (x : List Code × List Code). suc (length x.0)) (span-pass is_blank b l s) in
     let enough : nat_le 2 (indent (a ∷ b ∷ l)) ≡ true = grind (arith, nat_tests) in
-    ap (λ v. rest_in_item v 2 inside (a ∷ b ∷ l)) enough
+    ap (λ v. if (v && is_blank_line (a ∷ b ∷ l)) then None else rest_in_item (nat_le 2 (indent (a ∷ b ∷ l))) 2 (a ∷ b ∷ l)) n
+    ∙ ap (λ v. rest_in_item v 2 (a ∷ b ∷ l)) enough
     ∙ ap (λ v. Some (past_blank (if v then b ∷ l else a ∷ b ∷ l))) f
     ∙ ap (λ v. Some (if v then l else b ∷ l)) s
 
-go-on-item : (m : Marker) (qs ls : List (List Code)) → Each IsIndented qs ls → GoOn (item m 2) qs ls
-go-on-item m [] [] h = tt
-go-on-item m [] (l ∷ ls) h = absurd h
-go-on-item m (q ∷ qs) [] h = absurd h
-go-on-item m (q ∷ qs) (l ∷ ls) h = (one, go-on-item m qs ls h.1)
-  where
-    one : (inside : Tree) → rest_inside (item m 2) inside q ≡ Some l
-    one inside = ap (rest_inside (item m 2) inside) h.0.whole ∙ indented m inside h.0.first h.0.second l h.0.first_blank h.0.second_blank
+go-on-item : (has_text : List Code → Bool) (m : Marker) (inside : Tree) (qs ls : List (List Code)) → is_nothing inside ≡ false → Each IsIndented qs ls
+    → GoOn has_text (item m 2) inside qs ls
+go-on-item has_text m inside [] [] n h = tt
+go-on-item has_text m inside [] (l ∷ ls) n h = absurd h
+go-on-item has_text m inside (q ∷ qs) [] n h = absurd h
+go-on-item has_text m inside (q ∷ qs) (l ∷ ls) n h = (
+  ap (rest_inside (item m 2) inside) h.0.whole ∙ indented m inside h.0.first h.0.second l n h.0.first_blank h.0.second_blank,
+  go-on-item has_text m (read_line has_text l inside) qs ls (line-kept has_text l inside n) h.1,
+)
 
 pub items_hold : ItemsHold
 items_hold has_text v c q l qs ls is_bullet h other no_break hs =
@@ -191,7 +265,7 @@ items_hold has_text v c q l qs ls is_bullet h other no_break hs =
     (ap (λ x. with_line x nothing) h.whole
     ∙ first-line whole (c ∷ l) (item (bullet v) 2) (starts-other h.marker (h.space ∷ c ∷ l) (ap (λ n. (n == 32 || n == 9) || n == 10) h.marks ∙ i.no_whitespace)) (starts-other c l other) (omega arith)
     (item-begins v h.marker h.space c l i h.marks h.is_space other (ap is_break (sym h.whole) ∙ no_break)))
-    ∙ containers_hold has_text (item (bullet v) 2) qs ls nothing (with_line (c ∷ l) nothing) (go-on-item (bullet v) qs ls hs)
+    ∙ containers_hold has_text (item (bullet v) 2) qs ls nothing (with_line (c ∷ l) nothing) (go-on-item has_text (bullet v) (with_line (c ∷ l) nothing) qs ls (line-holds (c ∷ l) (starts-other c l other)) hs)
   where
     whole : List Code
     whole = h.marker ∷ h.space ∷ c ∷ l

@@ -17,7 +17,7 @@ use Rattle.markdown_block_model.specs.LeafStarts.{is_break, ends_blank, heading_
 use Rattle.markdown_block_model.specs.HtmlStarts.{html_kind, ends_html, html_at}
 use Rattle.markdown_block_model.specs.ContainerStarts.{behind_quote, in_quote, quote_at, marker_at, padding, may_begin, item_by, item_at}
 use Rattle.markdown_block_model.specs.BlockStarts.{Begun, leaf_begins, container_begins, leaf_begun, container_begun, first_of, begun, with_found, with_rest, with_begun, with_line}
-use Rattle.markdown_block_model.specs.DocumentBlocks.{with_fenced_line, with_indented_line, with_next, with_next_or_line, with_text_begun, with_text_level, heading_level, with_text_line, with_leaf_line, is_nothing, rest_in_item, rest_inside, with_lazy_line, is_lazy, ends_in_text, with_rest_inside, read_line, read_lines, blocks_of}
+use Rattle.markdown_block_model.specs.DocumentBlocks.{with_fenced_line, with_indented_line, with_next, with_next_or_line, with_text_begun, with_text_level, heading_level, with_text_line, with_leaf_line, is_further_blank, rest_in_item, rest_inside, with_lazy_line, is_lazy, ends_in_text, with_rest_inside, read_line, read_lines, blocks_of}
 use Rattle.markdown_block_model.specs.LinkDefinitions.{Definition, between, destination_text, line_end, title_of_definition, definition, taken_by, taken, definitions_of, has_text, text_of_leaf, resolved}
 use Rattle.markdown_block_model.specs.TextStarts.{lines_begin, is_line}
 use Rattle.markdown_block_model.specs.BlockLaws.{IsText, IsTextLeaf, HaveTexts, TextsAreContents}
@@ -625,13 +625,18 @@ leaf-line-good has_text cs before (html n text ended) h g k = next-or-line-good 
 
 -- containers
 
-in-item-line : (b : Bool) (columns : ℕ) (inside : Tree) (cs : List Code) → is_line cs ≡ true → RestGood (rest_in_item b columns inside cs)
-in-item-line true columns inside cs h = skip-line columns cs h
-in-item-line false columns inside cs h = rest-if (is_blank_line cs && not (is_nothing inside)) (trimmed cs) (trimmed-line cs h)
+in-item-line : (b : Bool) (columns : ℕ) (cs : List Code) → is_line cs ≡ true → RestGood (rest_in_item b columns cs)
+in-item-line true columns cs h = skip-line columns cs h
+in-item-line false columns cs h = rest-if (is_blank_line cs) (trimmed cs) (trimmed-line cs h)
+
+unless-line : (b : Bool) (o : Option (List Code)) → RestGood o → RestGood (if b then None else o)
+unless-line true o h = tt
+unless-line false o h = h
 
 inside-line : (c : Container) (inside : Tree) (cs : List Code) → is_line cs ≡ true → RestGood (rest_inside c inside cs)
 inside-line quote inside cs h = behind-quote-line cs h
-inside-line (item m columns) inside cs h = in-item-line (nat_le columns (indent cs)) columns inside cs h
+inside-line (item m columns) inside cs h =
+    unless-line (is_further_blank inside cs) (rest_in_item (nat_le columns (indent cs)) columns cs) (in-item-line (nat_le columns (indent cs)) columns cs h)
 
 lazy-good : (cs : List Code) (t : Tree) → is_line cs ≡ true → is_blank_line cs ≡ false → GoodTree t → GoodTree (with_lazy_line cs t)
 lazy-good cs nothing h e g = tt

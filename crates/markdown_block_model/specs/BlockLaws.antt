@@ -9,22 +9,22 @@ use Rattle.markdown_block_model.specs.LineRests.{is_blank_line, trimmed_end}
 use Rattle.markdown_block_model.specs.BlockTree.{bullet, Container, quote, item, Leaf, blank, thematic_break, heading, underlined, paragraph, indented_code, fenced_code, html, Tree, nothing, and_leaf, and_container}
 use Rattle.markdown_block_model.specs.LeafStarts.{is_break}
 use Rattle.markdown_block_model.specs.BlockStarts.{with_rest}
-use Rattle.markdown_block_model.specs.DocumentBlocks.{rest_inside, read_lines}
+use Rattle.markdown_block_model.specs.DocumentBlocks.{rest_inside, read_line, read_lines}
 use Rattle.markdown_block_model.specs.LinkDefinitions.{Definition, document_tree, identifier, is_called, first_ones}
 
 -- Containers (5.1, 5.2).
 
--- each line goes on with the container, and the rest inside it is the other line
-abbrev pub GoOn : Container → List (List Code) → List (List Code) → Type 0
-GoOn c [] [] = Unit {0}
-GoOn c [] (l ∷ ls) = ⊥
-GoOn c (q ∷ qs) [] = ⊥
-GoOn c (q ∷ qs) (l ∷ ls) = ((inside : Tree) → rest_inside c inside q ≡ Some l) × GoOn c qs ls
+-- each line goes on with the container, by what the lines before it have made of its inside, and the rest inside it is the other line
+abbrev pub GoOn : (List Code → Bool) → Container → Tree → List (List Code) → List (List Code) → Type 0
+GoOn has_text c inside [] [] = Unit {0}
+GoOn has_text c inside [] (l ∷ ls) = ⊥
+GoOn has_text c inside (q ∷ qs) [] = ⊥
+GoOn has_text c inside (q ∷ qs) (l ∷ ls) = (rest_inside c inside q ≡ Some l) × GoOn has_text c (read_line has_text l inside) qs ls
 
 -- what the lines of a container are inside it, that they are in its contents
 abbrev pub ContainersHold : Type 0
 ContainersHold =
-    (has_text : List Code → Bool) (c : Container) (qs ls : List (List Code)) (before inside : Tree) → GoOn c qs ls
+    (has_text : List Code → Bool) (c : Container) (qs ls : List (List Code)) (before inside : Tree) → GoOn has_text c inside qs ls
     → read_lines has_text qs (and_container before c inside) ≡ and_container before c (read_lines has_text ls inside)
 
 -- each line is so to the other line

@@ -70,15 +70,19 @@ is_nothing nothing = true
 is_nothing (and_leaf before leaf) = false
 is_nothing (and_container before c inside) = false
 
--- an item: a line that is indented by its columns, or a blank one if the item has begun with something (5.2); by whether it is indented so
-abbrev pub rest_in_item : Bool → ℕ → Tree → List Code → Option (List Code)
-rest_in_item true columns inside cs = Some (skip columns cs)
-rest_in_item false columns inside cs = only_if (is_blank_line cs && not (is_nothing inside)) (trimmed cs)
+-- An item can begin with at most one blank line (5.2), so it does not go on with a further one while it holds nothing.
+abbrev pub is_further_blank : Tree → List Code → Bool
+is_further_blank inside cs = is_nothing inside && is_blank_line cs
+
+-- an item: a line that is indented by its columns, or else a blank one (5.2); by whether it is indented so
+abbrev pub rest_in_item : Bool → ℕ → List Code → Option (List Code)
+rest_in_item true columns cs = Some (skip columns cs)
+rest_in_item false columns cs = only_if (is_blank_line cs) (trimmed cs)
 
 -- the rest of a line inside a container, where it goes on with it
 abbrev pub rest_inside : Container → Tree → List Code → Option (List Code)
 rest_inside quote inside cs = behind_quote cs
-rest_inside (item m columns) inside cs = rest_in_item (nat_le columns (indent cs)) columns inside cs
+rest_inside (item m columns) inside cs = if is_further_blank inside cs then None else rest_in_item (nat_le columns (indent cs)) columns cs
 
 -- Laziness (5.1): a line that begins no block goes on with the paragraph that stands newest inside all containers.
 

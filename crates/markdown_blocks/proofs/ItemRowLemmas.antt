@@ -1,9 +1,9 @@
 -- A bare line continues a row of items at once.
-use Rattle.std.proofs.Common.{◌≡◌, ℕ, zero, suc, ◌+◌, ◌-◌, ◌≤◌, ◌<◌, min, refl, ap, ◌∙◌, List, [], ◌∷◌, length, take, map, get_or, Bool, true, false, not, ◌&&◌, Some, arith}
-use Rattle.std.specs.Prelude.{nat_le}
+use Rattle.std.proofs.Common.{◌≡◌, ℕ, zero, suc, ◌+◌, ◌-◌, ◌≤◌, ◌<◌, min, refl, ap, ◌∙◌, List, [], ◌∷◌, length, take, map, get_or, Bool, true, false, ◌&&◌, Some, None, arith}
+use Rattle.std.specs.Prelude.{nat_le, if◌then◌else◌}
 use Rattle.markdown_content.specs.Codes.{Code, is_blank}
 use Rattle.markdown_model.specs.CodeTests.{values_of, is_whitespace_code}
-use Rattle.markdown_block_model.specs.LineRests.{indent, trimmed, skip, only_if}
+use Rattle.markdown_block_model.specs.LineRests.{indent, trimmed, is_blank_line, skip, only_if}
 use Rattle.markdown_block_model.specs.BlockTree.{Container, quote, item, Tree}
 use Rattle.markdown_block_model.specs.DocumentBlocks.{read_line, rest_inside, rest_in_item, is_nothing}
 use Rattle.markdown_block_line.specs.LineBlocks.{container_of}
@@ -21,13 +21,12 @@ use Rattle.markdown_blocks.proofs.ReaderTrees.{whole-front, nothing-outside}
 -- it continues an item that holds something, and is left as it is
 item-kept : (c : Container) (inside : Tree) (cs : List Code) → is_list_item c ≡ true → is_nothing inside ≡ false → IsBare cs → rest_inside c inside cs ≡ Some cs
 item-kept quote inside cs i n b = absurd (cc)
-item-kept (item m columns) inside cs i n b = by_bool (nat_le columns (indent cs))
-    (λ (e : nat_le columns (indent cs) ≡ true). ap (λ v. rest_in_item v columns inside cs) e ∙ ap (λ r. Some r) (b.skip_is columns))
+item-kept (item m columns) inside cs i n b =
+    ap (λ v. if (v && is_blank_line cs) then None else rest_in_item (nat_le columns (indent cs)) columns cs) n
+    ∙ by_bool (nat_le columns (indent cs))
+    (λ (e : nat_le columns (indent cs) ≡ true). ap (λ v. rest_in_item v columns cs) e ∙ ap (λ r. Some r) (b.skip_is columns))
     (λ (e : nat_le columns (indent cs) ≡ false).
-    ap (λ v. rest_in_item v columns inside cs) e
-    ∙ ap (λ v. only_if (v && not (is_nothing inside)) (trimmed cs)) b.blank
-    ∙ ap (λ v. only_if (true && not v) (trimmed cs)) n
-    ∙ ap (λ r. Some r) b.trimmed_is)
+    ap (λ v. rest_in_item v columns cs) e ∙ ap (λ v. only_if v (trimmed cs)) b.blank ∙ ap (λ r. Some r) b.trimmed_is)
 
 pub items-row : (has_text : List Code → Bool) (m n : ℕ) (t : Tree) (ps : List Written) (cs : List Code) → take (length ps) (spine t) ≡ map container_of ps → n + m ≤ length ps
     → ((k : ℕ) → k < m → is_list_item (container_in (n + k) ps) ≡ true) → ((k : ℕ) → k < m → is_nothing (inside_at (suc (n + k)) t) ≡ false)

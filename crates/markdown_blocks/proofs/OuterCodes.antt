@@ -15,7 +15,7 @@ use Rattle.markdown_block_model.specs.LeafStarts.{is_break, ends_blank, heading_
 use Rattle.markdown_block_model.specs.HtmlStarts.{html_kind, ends_html}
 use Rattle.markdown_block_model.specs.ContainerStarts.{behind_quote, in_quote, quote_at, number_from, bullet_at, ordered_of, ordered_at, or_else, marker_at, padding, may_begin, item_by, item_at}
 use Rattle.markdown_block_model.specs.BlockStarts.{Begun, leaf_begins, container_begins, leaf_begun, container_begun, first_of, begun}
-use Rattle.markdown_block_model.specs.DocumentBlocks.{is_nothing, rest_in_item, rest_inside}
+use Rattle.markdown_block_model.specs.DocumentBlocks.{is_further_blank, rest_in_item, rest_inside}
 use Rattle.markdown_block_line.specs.LineStarts.{heading_start}
 use Rattle.markdown_blocks.specs.TextRows.{is_outer, begins_ascii}
 
@@ -179,9 +179,9 @@ item-behind in_paragraph columns cs (Some m) h = by_test (may_begin in_paragraph
     by_test false = tt
 
 -- inside a container that the line continues
-inside-item : (b : Bool) (columns : ℕ) (inside : Tree) (cs : List Code) → RestOuter cs (rest_in_item b columns inside cs)
-inside-item true columns inside cs = skip-behind columns cs
-inside-item false columns inside cs = by_test (is_blank_line cs && not (is_nothing inside))
+inside-item : (b : Bool) (columns : ℕ) (cs : List Code) → RestOuter cs (rest_in_item b columns cs)
+inside-item true columns cs = skip-behind columns cs
+inside-item false columns cs = by_test (is_blank_line cs)
   where
     by_test : (b : Bool) → RestOuter cs (only_if b (trimmed cs))
     by_test true = trimmed-behind cs
@@ -189,7 +189,11 @@ inside-item false columns inside cs = by_test (is_blank_line cs && not (is_nothi
 
 inside-behind : (c : Container) (inside : Tree) (cs : List Code) → RestOuter cs (rest_inside c inside cs)
 inside-behind quote inside cs = quote-behind cs
-inside-behind (item m columns) inside cs = inside-item (nat_le columns (indent cs)) columns inside cs
+inside-behind (item m columns) inside cs = by_test (is_further_blank inside cs)
+  where
+    by_test : (b : Bool) → RestOuter cs (if b then None else rest_in_item (nat_le columns (indent cs)) columns cs)
+    by_test true = tt
+    by_test false = inside-item (nat_le columns (indent cs)) columns cs
 
 -- Headings.
 

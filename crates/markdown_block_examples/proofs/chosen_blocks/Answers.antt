@@ -30,7 +30,7 @@ quotes_and_laziness = (refl, refl, refl, refl, refl, refl, refl, refl, refl, ref
 
 item_rules : ItemRules
 unfolding blocks_computed
-item_rules = (refl, refl, refl, refl, refl, refl, refl, refl, refl, refl, refl, refl, refl, refl, refl, refl)
+item_rules = (refl, refl, refl, refl, refl, refl, refl, refl, refl, refl, refl, refl, refl, refl, refl, refl, refl, refl, refl)
 
 loose_rules : LooseRules
 unfolding blocks_computed

@@ -38,7 +38,7 @@ safe_pages = (refl, refl, refl, refl, refl, refl)
 
 standard_choices : StandardChoices
 unfolding page_computed
-standard_choices = (refl, refl, refl, refl, refl, refl, refl, refl, refl)
+standard_choices = (refl, refl, refl, refl, refl, refl, refl, refl, refl, refl)
 
 pub returns : goal.returns
 returns c = (line_feeds, list_tags, code_texts, html_texts, page_definitions, page_rules, line_endings, safe_pages, standard_choices)

@@ -1,11 +1,11 @@
-use Rattle.std.proofs.Common.{◌∙◌, sym, true, false}
+use Rattle.std.proofs.Common.{◌∙◌, sym, true}
 use Rattle.markdown_block_line.proofs.RestContainers.{inside-deep, inside-by}
 use Rattle.markdown_block_line.proofs.containers.rest_in_item.Goals as goal
-
-pub returns-then-count-columns-clause-found : goal.returns-then-count-columns-clause-found
-returns-then-count-columns-clause-found c = λ cs inside h e. inside-deep c.args.columns c.indent_to-count.result inside cs (c.indent_to-count.ensures.count cs h) c.if-count-columns.true
+use Rattle.markdown_block_line.proofs.containers.rest_in_item.Goals.{else-count-columns-via-then-count-columns+else-not-is_blank_line, else-count-columns-via-else-count-columns}
 
 pub returns-clause-found : goal.returns-clause-found
-returns-clause-found c = λ cs inside h e.
-    inside-by c.args.columns c.indent_to-count.result inside cs true false (c.indent_to-count.ensures.count cs h) c.if-count-columns.false
-    (sym (c.is_blank_line.ensures cs h) ∙ c.if-not-is_blank_line.false) (e ∙ c.if-is_empty.false)
+returns-clause-found c = λ cs h.
+    elim c.else-count-columns.branch [
+      | else-count-columns-via-then-count-columns+else-not-is_blank_line w ↦ inside-by c.args.columns c.indent_to-count.result cs true (c.indent_to-count.ensures.count cs h) w.if-count-columns.true (sym (w.is_blank_line.ensures cs h) ∙ w.if-not-is_blank_line.false)
+      | else-count-columns-via-else-count-columns w ↦ inside-deep c.args.columns c.indent_to-count.result cs (c.indent_to-count.ensures.count cs h) w.if-count-columns.false
+    ]
