@@ -172,3 +172,10 @@ module _ (bytes : List ℕ) (found : Blocks) (is : tree_of bytes found ≡ block
 
     pub document-texts : IsUtf8 bytes → All (IsTextRow bytes) ss
     document-texts u = text-rows bytes u found.rows.items ss h
+
+-- each row stays one
+pub resolved-length : (bytes : List ℕ) (rs ss : List Row) → AreResolved bytes rs ss → length rs ≡ length ss
+resolved-length bytes [] [] h = refl
+resolved-length bytes (r ∷ rs) (s ∷ ss) h = ap suc (resolved-length bytes rs ss h.1)
+resolved-length bytes [] (s ∷ ss) h = absurd h
+resolved-length bytes (r ∷ rs) [] h = absurd h

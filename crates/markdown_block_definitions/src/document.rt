@@ -2,6 +2,7 @@
 
 ghost use Rattle.std.specs.Prelude.{◌≡◌, ◌≤◌, length, map, IsUtf8, IfOk, All};
 ghost use Rattle.markdown_content.specs.Content.{document_limit, content_of};
+ghost use Rattle.markdown_block_model.specs.BlockLines.{begins_of};
 ghost use Rattle.markdown_block_model.specs.DocumentBlocks.{blocks_of};
 ghost use Rattle.markdown_block_model.specs.LinkDefinitions.{has_text, definitions, document_tree};
 ghost use Rattle.markdown_block_definitions.specs.DefinitionTexts.{texts_of, texts_in, HasUtf8Texts};
@@ -59,6 +60,8 @@ pub fn blocks(alloc: Global, bytes: &[u8]) -> Result<Blocks, AllocError>
     ensures tree { IfOk result (λ b. tree_of bytes.now b ≡ blocks_of has_text bytes.now) }
     ensures texts { IfOk result (λ b. All (IsPlacedRow bytes.now) b.rows.items) }
     ensures nested { IfOk result (λ b. AreNested 0 b.rows.items) }
+    ensures begins { IfOk result (λ b. b.lines.items ≡ begins_of has_text bytes.now) }
+    ensures lined { IfOk result (λ b. length b.lines.items ≡ length b.rows.items) }
 {
     let found = markdown_blocks::document::blocks(alloc, &Definitions, bytes)?;
     Ok(found)
@@ -74,12 +77,17 @@ pub fn read(alloc: Global, bytes: &[u8]) -> Result<Document, AllocError>
     ensures utf8 { IfOk result (λ d. IsUtf8 bytes.now → All HasUtf8Texts d.definitions.items) }
     ensures texts { IfOk result (λ d. IsUtf8 bytes.now → All (IsTextRow bytes.now) d.blocks.rows.items) }
     ensures nested { IfOk result (λ d. AreNested 0 d.blocks.rows.items) }
+    ensures begins { IfOk result (λ d. d.blocks.lines.items ≡ begins_of has_text bytes.now) }
+    ensures lined { IfOk result (λ d. length d.blocks.lines.items ≡ length d.blocks.rows.items) }
 {
     let found = blocks(alloc, bytes)?;
     let mut definitions = Vec::new(alloc);
     let rows = resolve_rows(alloc, bytes, found.rows, &mut definitions)?;
     Ok(Document {
-        blocks: Blocks { rows },
+        blocks: Blocks {
+            rows,
+            lines: found.lines,
+        },
         definitions,
     })
 }

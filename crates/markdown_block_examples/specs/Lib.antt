@@ -2,3 +2,4 @@
 pub mod BlockNotation
 pub mod StandardBlocks
 pub mod ChosenBlocks
+pub mod BlocksOnLines

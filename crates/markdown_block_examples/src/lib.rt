@@ -4,6 +4,7 @@
 //! proves it.
 #![tactic(auto)]
 
+ghost use Rattle.markdown_block_examples.specs.BlocksOnLines.{BlocksOnLines};
 ghost use Rattle.markdown_block_examples.specs.ChosenBlocks.{ChosenBlocks};
 ghost use Rattle.markdown_block_examples.specs.StandardBlocks.{StandardBlocks};
 
@@ -15,4 +16,9 @@ pub fn standard_blocks()
 /// What the examples of CommonMark do not show of blocks, or say in two ways.
 pub fn chosen_blocks()
     ensures { ChosenBlocks }
+{}
+
+/// The blocks of some documents begin on these lines.
+pub fn blocks_on_lines()
+    ensures { BlocksOnLines }
 {}

@@ -9,7 +9,8 @@ use Rattle.markdown_block_model.specs.LineRests.{is_blank_line, trimmed_end}
 use Rattle.markdown_block_model.specs.BlockTree.{bullet, Container, quote, item, Leaf, blank, thematic_break, heading, underlined, paragraph, indented_code, fenced_code, html, Tree, nothing, and_leaf, and_container}
 use Rattle.markdown_block_model.specs.LeafStarts.{is_break}
 use Rattle.markdown_block_model.specs.BlockStarts.{with_rest}
-use Rattle.markdown_block_model.specs.DocumentBlocks.{rest_inside, read_line, read_lines}
+use Rattle.markdown_block_model.specs.DocumentBlocks.{rest_inside, read_line, read_lines, blocks_of}
+use Rattle.markdown_block_model.specs.BlockLines.{block_count, begins_of}
 use Rattle.markdown_block_model.specs.LinkDefinitions.{Definition, document_tree, identifier, is_called, first_ones}
 
 -- Containers (5.1, 5.2).
@@ -121,6 +122,10 @@ TextsAreContents = (bytes : List ℕ) → HaveTexts (document_tree bytes)
 -- The number of containers that begin with a line, which the definition counts down, is enough: with more steps nothing more begins.
 abbrev pub StepsSuffice : Type 0
 StepsSuffice = (n : ℕ) (cs : List Code) (siblings : Tree) → length cs < n → with_rest n cs siblings ≡ with_rest (suc (length cs)) cs siblings
+
+-- No line takes a block away, so each block has the line on which it begins.
+abbrev pub BlocksBeginOnLines : Type 0
+BlocksBeginOnLines = (has_text : List Code → Bool) (bytes : List ℕ) → length (begins_of has_text bytes) ≡ block_count (blocks_of has_text bytes)
 
 -- Definitions (4.7).
 

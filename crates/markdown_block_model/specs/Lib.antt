@@ -8,5 +8,6 @@ pub mod BlockStarts
 pub mod DocumentBlocks
 pub mod LinkDefinitions
 pub mod LooseLists
+pub mod BlockLines
 pub mod TextStarts
 pub mod BlockLaws

@@ -4,7 +4,7 @@
 //! the check proves it.
 #![tactic(auto)]
 
-ghost use Rattle.markdown_block_model.specs.BlockLaws.{ContainersHold, QuotesHold, ItemsHold, LeavesInOrder, TextsAreContents, StepsSuffice, OneDefinition};
+ghost use Rattle.markdown_block_model.specs.BlockLaws.{ContainersHold, QuotesHold, ItemsHold, LeavesInOrder, TextsAreContents, StepsSuffice, BlocksBeginOnLines, OneDefinition};
 
 /// A container holds what its lines are inside it (CommonMark 5.1 and 5.2).
 pub fn containers_hold()
@@ -34,6 +34,11 @@ pub fn texts_are_contents()
 /// The number of steps that the definition counts down is enough: a line begins no more containers than it has codes.
 pub fn steps_suffice()
     ensures { StepsSuffice }
+{}
+
+/// Each block of a document begins on a line: no line takes a block away.
+pub fn blocks_begin_on_lines()
+    ensures { BlocksBeginOnLines }
 {}
 
 /// Of several definitions with one identifier the first counts (CommonMark 4.7).

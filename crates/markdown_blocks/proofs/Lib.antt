@@ -12,6 +12,7 @@ pub mod OuterCodes
 pub mod PathRows
 pub mod PlacedPieces
 pub mod PlacedTexts
+pub mod ReaderCounts
 pub mod ReaderTrees
 pub mod TextEndLemmas
 pub mod TextPieces

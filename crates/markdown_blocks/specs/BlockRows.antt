@@ -1,5 +1,5 @@
 -- What rows of blocks, and the open ones, mean.
-use Rattle.std.specs.Prelude.{ℕ, zero, suc, ◌≡◌, ◌<◌, ◌≤◌, List, [], ◌∷◌, ◌++◌, length, map, take, drop, MatchOption, Option, Some, None, Bool, true, false}
+use Rattle.std.specs.Prelude.{ℕ, zero, suc, ◌≡◌, ◌<◌, ◌≤◌, ◌+◌, List, [], ◌∷◌, ◌++◌, length, map, take, drop, MatchOption, Option, Some, None, is_some, Bool, true, false, if◌then◌else◌}
 use Rattle.markdown_content.specs.Codes.{Code, codes_of}
 use Rattle.markdown_content.specs.Content.{piece_codes, content_of}
 use Rattle.markdown_block_model.specs.LineRests.{is_blank_line, trimmed, trimmed_end}
@@ -67,6 +67,10 @@ with_open bytes n (Some l) t = at_depth n (λ s. and_leaf s (leaf_of bytes l)) t
 -- the tree of all blocks that are read
 abbrev pub whole_tree : List ℕ → Reader → Tree
 whole_tree bytes r = with_open bytes (depth r) r.open (closed_tree bytes r)
+
+-- how many these are
+abbrev pub row_count : Reader → ℕ
+row_count r = length r.rows.items + (if is_some r.open then 1 else 0)
 
 -- the containers of the path are the outermost of the newest ones
 pub record IsNewestPath (bytes : List ℕ) (r : Reader) : Type 0 where

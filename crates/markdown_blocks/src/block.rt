@@ -39,4 +39,6 @@ pub enum Row {
 pub struct Blocks {
     /// The blocks.
     pub rows: Vec<Row>,
+    /// The number of the line on which each of them begins. The first line has the number 1.
+    pub lines: Vec<usize>,
 }

@@ -1,5 +1,8 @@
 //! What is read of a document, between its lines.
 
+ghost use Rattle.std.specs.Prelude.{◌≡◌};
+ghost use Rattle.markdown_blocks.specs.BlockRows.{row_count};
+
 use crate::block::{Leaf, Row};
 use crate::path::Path;
 
@@ -12,4 +15,16 @@ pub struct Reader {
     pub path: Path,
     /// The open leaf.
     pub open: Option<Leaf>,
+}
+
+impl Reader {
+    /// Returns how many blocks are read.
+    pub fn count(&self) -> usize
+        ensures { result ≡ row_count self.now }
+    {
+        match &self.open {
+            None => self.rows.len(),
+            Some(_) => self.rows.len() + 1,
+        }
+    }
 }

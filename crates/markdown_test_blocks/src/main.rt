@@ -3,7 +3,7 @@
 //! In a document `|` stands for a line feed, and `~` for a tab. In a line of answer a paragraph is `p`, a heading that an underline made `h`, and a
 //! thematic break `b`. Behind the first two stand the link reference definitions at the front, each as `[label]<destination>(title)`, and how many pieces
 //! the text has in the document without its definitions. An item is `-` in a tight list and `=` in a loose one. Before it stands `{` where it begins the
-//! list, and behind it `}` where it ends the list.
+//! list, and behind it `}` where it ends the list. Before each of these stands the last digit of the number of the line on which it begins.
 //!
 //! Where memory is refused, the answers end there, and the status is 3.
 #![tactic(auto)]
@@ -41,6 +41,19 @@ fn push_definition(out: &mut Vec<u8>, definition: &Definition) -> Result<(), All
     Ok(())
 }
 
+// Appends the last digit of a number.
+fn push_digit(out: &mut Vec<u8>, number: usize) -> Result<(), AllocError> {
+    Ok(out.push(b'0' + (number % 10) as u8)?)
+}
+
+// Appends the line of a leaf that is printed.
+fn push_line(out: &mut Vec<u8>, leaf: &Leaf, line: usize) -> Result<(), AllocError> {
+    match leaf {
+        Leaf::Paragraph(_) | Leaf::Underlined(_, _) | Leaf::ThematicBreak => push_digit(out, line),
+        _ => Ok(()),
+    }
+}
+
 // Appends what a text has at its front, and how many pieces it has without.
 fn push_front(
     alloc: Global,
@@ -53,8 +66,7 @@ fn push_front(
     for definition in &front.definitions {
         push_definition(out, definition)?;
     }
-    out.push(b'0' + (left.len() % 10) as u8)?;
-    Ok(())
+    push_digit(out, left.len())
 }
 
 fn push_leaf(
@@ -91,25 +103,44 @@ fn push_place(out: &mut Vec<u8>, place: Place) -> Result<(), AllocError> {
     Ok(())
 }
 
+// Appends a row, with its place in its list and its line, and as it is without its definitions.
+fn push_row(
+    alloc: Global,
+    out: &mut Vec<u8>,
+    document: &[u8],
+    row: &Row,
+    left: &Row,
+    place: Place,
+    line: usize,
+) -> Result<(), AllocError> {
+    match (row, left) {
+        (Row::LeafAt(_, leaf), Row::LeafAt(_, left)) => {
+            push_line(out, leaf, line)?;
+            push_leaf(alloc, out, document, leaf, left)
+        }
+        (Row::ContainerAt(_, Container::Item(_, _)), _) => {
+            push_digit(out, line)?;
+            push_place(out, place)
+        }
+        _ => Ok(()),
+    }
+}
+
 // Appends the answer to a document.
 fn push_answer(alloc: Global, out: &mut Vec<u8>, document: &[u8]) -> Result<(), AllocError> {
     if document.len() <= usize::MAX / 8 {
         let blocks = document::blocks(alloc, document)?;
         let resolved = document::read(alloc, document)?.blocks;
         let places = places(alloc, document, resolved.rows.as_slice())?;
-        for ((row, left), place) in blocks
+        let lines = resolved.lines.iter();
+        for (((row, left), place), line) in blocks
             .rows
             .iter()
             .zip(resolved.rows.iter())
             .zip(places.iter())
+            .zip(lines)
         {
-            match (row, left) {
-                (Row::LeafAt(_, leaf), Row::LeafAt(_, left)) => push_leaf(
-                    alloc, out, document, leaf, left,
-                )?,
-                (Row::ContainerAt(_, Container::Item(_, _)), _) => push_place(out, *place)?,
-                _ => {}
-            }
+            push_row(alloc, out, document, row, left, *place, *line)?;
         }
     }
     out.push(b'\n')?;

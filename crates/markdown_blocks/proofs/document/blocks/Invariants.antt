@@ -1,8 +1,9 @@
-use Rattle.std.proofs.Common.{◌≡◌, ◌-◌, length}
+use Rattle.std.proofs.Common.{◌≡◌, ◌-◌, ◌++◌, ◌≤◌, suc, length}
 use Rattle.markdown_content.specs.DocumentWalk.{IsPoint}
+use Rattle.markdown_block_model.specs.BlockLines.{begins_of, block_count}
 use Rattle.markdown_block_model.specs.DocumentBlocks.{blocks_of}
-use Rattle.markdown_blocks.specs.BlockRows.{IsBetween}
-use Rattle.markdown_blocks.specs.LinesLeft.{read_on}
+use Rattle.markdown_blocks.specs.BlockRows.{whole_tree, IsBetween}
+use Rattle.markdown_blocks.specs.LinesLeft.{begins_on, read_on}
 use Rattle.markdown_blocks.specs.TextRows.{StandsBetween, HasPlacedTexts}
 use Rattle.markdown_blocks.proofs.document.blocks.Given as goal
 
@@ -13,6 +14,9 @@ invariant-loop-point g l = record {
   characters : StandsBetween l.bytes l.point;
   texts : HasPlacedTexts l.bytes l.point l.reader;
   same : read_on g.T.HasText.has_text l.bytes l.reader l.point ≡ blocks_of g.T.HasText.has_text l.bytes;
+  begins : l.lines.items ++ begins_on g.T.HasText.has_text l.number l.bytes l.reader l.point ≡ begins_of g.T.HasText.has_text l.bytes;
+  lined : length l.lines.items ≡ block_count (whole_tree l.bytes l.reader);
+  numbered : l.number ≤ suc l.point.index;
 }
 
 abbrev pub decreases-loop-point : goal.decreases-loop-point
