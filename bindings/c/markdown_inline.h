@@ -1,8 +1,9 @@
 /* Markdown, for callers in C99 and C++.
  *
- * markdown_inline_document_html writes the HTML of a document, its blocks included. The other calls read the text inside one block: a block parser hands
- * over a document and the pieces of it that make up a paragraph, and gets the paragraph's HTML, or the events of its inline tree: what begins or ends, and
- * where. What each call promises is proved; the contracts stand in crates/markdown_inline_c.
+ * markdown_inline_document_html writes the HTML of a document, its blocks included; markdown_inline_blocks finds its blocks, with the pieces of the document
+ * that make up the text of each. The other calls read the text inside blocks: a caller hands over a document and the pieces of a paragraph, and gets the
+ * paragraph's HTML, or the events of its inline tree: what begins or ends, and where. What each call promises is proved; the contracts stand in
+ * crates/markdown_inline_c.
  *
  * The interface, version 1:
  *
@@ -274,6 +275,28 @@ enum {
     MARKDOWN_INLINE_NAME_COUNT
 };
 
+/* What a block is, by numbers from 0: a leaf (CommonMark 4), or a quote or an item, which hold blocks (CommonMark 5). */
+#define MARKDOWN_INLINE_EACH_BLOCK(X) \
+    X(BLANK_LINE, "blank_line") \
+    X(THEMATIC_BREAK, "thematic_break") \
+    X(HEADING, "heading") \
+    X(PARAGRAPH, "paragraph") \
+    X(INDENTED_CODE, "indented_code") \
+    X(FENCED_CODE, "fenced_code") \
+    X(HTML, "html") \
+    X(QUOTE, "quote") \
+    X(ITEM, "item")
+
+enum {
+#define MARKDOWN_INLINE_BLOCK(name, words) MARKDOWN_INLINE_BLOCK_##name,
+    MARKDOWN_INLINE_EACH_BLOCK(MARKDOWN_INLINE_BLOCK)
+#undef MARKDOWN_INLINE_BLOCK
+    MARKDOWN_INLINE_BLOCK_COUNT
+};
+
+/* Of an item, each by a bit: it begins its list; it ends it; the list is loose, so that its paragraphs have tags in HTML (CommonMark 5.3). */
+enum { MARKDOWN_INLINE_BEGINS_LIST = 0x1, MARKDOWN_INLINE_ENDS_LIST = 0x2, MARKDOWN_INLINE_LOOSE_LIST = 0x4 };
+
 /* Whether something begins or ends. */
 enum { MARKDOWN_INLINE_ENTER = 0, MARKDOWN_INLINE_EXIT = 1 };
 
@@ -389,10 +412,41 @@ typedef struct markdown_inline_outcome {
     size_t done, count, blamed;
 } markdown_inline_outcome;
 
+/* A block of a document. Its kind is one of MARKDOWN_INLINE_EACH_BLOCK. A quote or an item stands before what it holds.
+ *
+ * - `pieces` are the numbers of its pieces, which stand behind those of the block before. The pieces of a heading or a paragraph are a text of the document,
+ *   as markdown_inline_texts takes it: none of a paragraph that had definitions alone. Those of code and of HTML are its lines, each with its line ending; of
+ *   fenced code the first piece is the info string, which may be empty. Blank lines behind indented code are among its lines, and are left out of a page. A
+ *   piece of HTML without bytes is no line.
+ * - `depth` is how many quotes and items stand round it.
+ * - `number` is the level of a heading, 1 to 6; the number of an item of an ordered list; the kind of HTML, 1 to 7 (CommonMark 4.6); else 0.
+ * - `marker` is the byte of an item's marker, which is '-', '+' or '*', or '.' or ')' behind a number; of fenced code that of its fence, '`' or '~'; else 0.
+ * - `list` has the bits MARKDOWN_INLINE_BEGINS_LIST, MARKDOWN_INLINE_ENDS_LIST and MARKDOWN_INLINE_LOOSE_LIST, of an item; else it is 0.
+ *
+ * A line of code or HTML may begin inside a tab: then `start_vs` of its piece is how many columns of that tab come before it, and it has the other columns as
+ * so many spaces. Tabs end at each fourth column of a line of the document. */
+typedef struct markdown_inline_block {
+    markdown_inline_range pieces;
+    size_t depth, number;
+    uint8_t kind, marker, list, reserved;
+    uint32_t reserved_too;
+} markdown_inline_block;
+
+/* How many blocks a document has, and how many pieces they have. */
+typedef struct markdown_inline_blocks_count {
+    size_t blocks, pieces;
+} markdown_inline_blocks_count;
+
+/* How many definitions a document has, and how many bytes their labels, destinations and titles have. */
+typedef struct markdown_inline_definitions_count {
+    size_t definitions, labels;
+} markdown_inline_definitions_count;
+
 /* Sizes and alignment, in bytes. */
 typedef char markdown_inline_checks_sizes[sizeof(size_t) == 8 && sizeof(void *) == 8 && sizeof(markdown_inline_piece) == 32
     && sizeof(markdown_inline_range) == 16 && sizeof(markdown_inline_input) == 88 && sizeof(markdown_inline_event) == 56 && sizeof(markdown_inline_leaf) == 96
     && sizeof(markdown_inline_target) == 40 && sizeof(markdown_inline_content) == 24 && sizeof(markdown_inline_short_event) == 16 && sizeof(markdown_inline_outcome) == 24
+    && sizeof(markdown_inline_block) == 40 && sizeof(markdown_inline_blocks_count) == 16 && sizeof(markdown_inline_definitions_count) == 16
     && offsetof(markdown_inline_input, options) == 80 && offsetof(markdown_inline_event, line) == 8 ? 1 : -1];
 
 /* The version of the library. */
@@ -401,11 +455,33 @@ MARKDOWN_INLINE_API uint32_t markdown_inline_version(void);
 /* Writes the HTML of a document, in UTF-8: of its blocks and of the text inside them, as CommonMark 0.31.2 says. The document's own definitions count, and
  * the call takes no others. `html_options` has the bits MARKDOWN_INLINE_HTML_RAW and MARKDOWN_INLINE_HTML_ANY_LINK. Without them raw HTML is written as text,
  * and no link leads to a script. Line endings of the document stay; those that the page itself brings are line feeds.
- * There is no limit on how many bytes definitions bring: n references to a definition of n bytes write n * n bytes. Of most documents the HTML is less than
- * twice as long as the document. Lend that much room, since a call with too little does all the work and writes nothing.
+ * A definition brings the bytes of its destination and of its title to each link and image that refers to it: n references to a definition of n bytes bring
+ * n * n bytes. `limit` says how many bytes all definitions may bring together; 0 is no limit. cmark takes the document's length, but at least 100,000.
+ * Of most documents the HTML is less than twice as long as the document. Lend that much room, since a call with too little does all the work and writes nothing.
  * DONE: the HTML stands at the front of the array, and `*count` is how many bytes it has. TOO_SMALL: `*count` is how many it has, and the array is as before;
- * call again with room for them. UNKNOWN_OPTION, TOO_LONG, NOT_UTF8, NO_MEMORY: nothing is written. */
-MARKDOWN_INLINE_API uint32_t markdown_inline_document_html(const uint8_t *bytes, size_t bytes_len, uint32_t html_options, uint8_t *html, size_t html_len, size_t *count);
+ * call again with room for them. UNKNOWN_OPTION, TOO_LONG, NOT_UTF8, NO_MEMORY: nothing is written. REFERENCES: definitions bring more than the limit, and
+ * nothing is written. */
+MARKDOWN_INLINE_API uint32_t markdown_inline_document_html(const uint8_t *bytes, size_t bytes_len, uint32_t html_options, size_t limit, uint8_t *html, size_t html_len, size_t *count);
+
+/* Finds the blocks of a document, in its order, with the pieces of their texts, as CommonMark 0.31.2 says: for a caller who renders a document himself, or
+ * checks it. Of "# a\n\n> b" the blocks are a heading with the piece `a`, a blank line, a quote, and one deeper a paragraph with the piece `b`.
+ * The pieces are those of an input for the same document. A content that has the pieces of a heading or of a paragraph gets from markdown_inline_texts the
+ * events of its inline tree, and from markdown_inline_htmls its HTML, if the input has the definitions that markdown_inline_definitions finds.
+ * Most documents have fewer than one block and one piece in 40 bytes, and no document that is tested has more of either than twice its bytes; no bound is
+ * proved. A call without room tells how many they are, and does all the work.
+ * DONE: the blocks and the pieces stand at the fronts of their arrays, and `count` is how many they are. TOO_SMALL: `count` is how many they are, one of the
+ * arrays has too little room, and both are as before; call again with room for them. TOO_LONG, NOT_UTF8, NO_MEMORY: nothing is written. */
+MARKDOWN_INLINE_API uint32_t markdown_inline_blocks(const uint8_t *bytes, size_t bytes_len, markdown_inline_block *blocks, size_t blocks_len,
+    markdown_inline_piece *pieces, size_t pieces_len, markdown_inline_blocks_count *count);
+
+/* Finds the link reference definitions of a document, in its order, as an input with the option MARKDOWN_INLINE_COMMONMARK takes them, and the targets that
+ * markdown_inline_htmls takes (CommonMark 4.7). All definitions come, also those whose label an earlier one has. The labels stand as they are written, and in
+ * destinations and titles escapes and character references are resolved. Of "[a]: b\n[c]: <d&amp;> 'e'" the labels are "abcd&e".
+ * DONE: labels, definitions and targets stand at the fronts of their arrays. `count` is how many definitions there are, with one target each, and how many
+ * bytes stand among the labels. TOO_SMALL: `count` is that too, one of the arrays has too little room, and all are as before; call again with room for them.
+ * TOO_LONG, NOT_UTF8, NO_MEMORY: nothing is written. */
+MARKDOWN_INLINE_API uint32_t markdown_inline_definitions(const uint8_t *bytes, size_t bytes_len, uint8_t *labels, size_t labels_len,
+    markdown_inline_range *definitions, size_t definitions_len, markdown_inline_target *targets, size_t targets_len, markdown_inline_definitions_count *count);
 
 /* Whether the pieces are a content of the document: DONE, or TOO_LONG, NOT_UTF8, NO_CONTENT or NO_MEMORY. */
 MARKDOWN_INLINE_API uint32_t markdown_inline_is_content(const uint8_t *bytes, size_t bytes_len, const markdown_inline_piece *pieces, size_t pieces_len);

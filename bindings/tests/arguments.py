@@ -5,7 +5,7 @@ import unittest
 from unittest import mock
 
 import markdown_inline
-from markdown_inline import Content, NoContent, OPTIONS, Piece, UnknownOption, _library, document_html, html, identifier, is_content, is_text, leaves, reference, string, text, texts
+from markdown_inline import Content, NoContent, OPTIONS, Piece, UnknownOption, _library, blocks, document_html, html, identifier, is_content, is_text, leaves, reference, string, text, texts
 
 BITS = sum(OPTIONS[it] for it in ('attention', 'code_text'))
 
@@ -38,7 +38,7 @@ class Arguments(unittest.TestCase):
     def test_what_is_no_text(self):
         for given in (5, True, 0, None, 1.5, [97, 42], ('a',), {'a': 1}, pathlib.PurePath('*README*.md'), object(), 10 ** 10, range(2), array.array('I', [97])):
             kind = type(given).__name__
-            for call in (text, string, leaves, html, document_html, is_text, is_content, lambda it: texts(it, [])):
+            for call in (text, string, leaves, html, document_html, blocks, is_text, is_content, lambda it: texts(it, [])):
                 self.refused(TypeError, 'document is a str or bytes, and not a ' + kind, lambda: call(given))
             self.refused(TypeError, 'label is a str or bytes, and not a ' + kind, lambda: identifier(given))
             self.refused(TypeError, 'reference is a str or bytes, and not a ' + kind, lambda: reference(given))
@@ -132,7 +132,7 @@ class Arguments(unittest.TestCase):
 
     def test_switches(self):
         for name in ('gfm', 'math', 'task', 'raw_html', 'any_link'):
-            calls = [html] + ([document_html] if name in ('raw_html', 'any_link') else [text, leaves])
+            calls = [html] + [blocks] * (name != 'task') + ([document_html] if name in ('raw_html', 'any_link') else [text, leaves])
             calls += [lambda it, **asked: texts(it, [], **asked)] * (name in ('gfm', 'math'))
             for call in calls:
                 for given in ('yes', None, 1.0, []):

@@ -572,17 +572,111 @@ static void test_document_html(void) {
             size_t written = room < len ? 0 : len;
             uint32_t wanted = room < len ? MARKDOWN_INLINE_TOO_SMALL : MARKDOWN_INLINE_DONE;
             memset(found, 1, sizeof found);
-            want("a status of a document", markdown_inline_document_html(bytes, strlen(cases[at].document), cases[at].options, found, room, &count) == wanted);
+            want("a status of a document", markdown_inline_document_html(bytes, strlen(cases[at].document), cases[at].options, 0, found, room, &count) == wanted);
             want("the HTML of a document", count == len && !memcmp(found, cases[at].html, written) && !memcmp(found + written, before, sizeof found - written));
         }
     }
     memset(found, 1, sizeof found);
     for (size_t at = 0; at < sizeof refused / sizeof *refused; at++) {
         count = 77;
-        want("a document is refused", markdown_inline_document_html((const uint8_t *)refused[at].bytes, refused[at].len, refused[at].options, found, 128, &count) == refused[at].status);
+        want("a document is refused", markdown_inline_document_html((const uint8_t *)refused[at].bytes, refused[at].len, refused[at].options, 1, found, 128, &count) == refused[at].status);
         want("nothing is written of what is refused", count == 77 && !memcmp(found, before, sizeof found));
     }
-    want("no document", markdown_inline_document_html(NULL, 0, 0, NULL, 0, &count) == MARKDOWN_INLINE_DONE && count == 0);
+    want("no document", markdown_inline_document_html(NULL, 0, 0, 1, NULL, 0, &count) == MARKDOWN_INLINE_DONE && count == 0);
+}
+
+/* A limit on what definitions bring to a document: three links and images in three blocks, to each of which one brings three bytes. The room is found out behind
+ * the limit. */
+static void test_document_limit(void) {
+    static const char document[] = "# [a]\n\n- ![a]\n\n> [b][a] [c](d)\n\n[a]: /b \"c\"\n[A]: /longer\n";
+    static const char html[] = "<h1><a href=\"/b\" title=\"c\">a</a></h1>\n<ul>\n<li><img src=\"/b\" alt=\"a\" title=\"c\" /></li>\n</ul>\n"
+        "<blockquote>\n<p><a href=\"/b\" title=\"c\">b</a> <a href=\"d\">c</a></p>\n</blockquote>\n";
+    const uint8_t *bytes = (const uint8_t *)document;
+    uint8_t found[256], before[256];
+    size_t count, len = sizeof document - 1;
+    memset(before, 1, sizeof before);
+    for (size_t limit = 0; limit < 12; limit++) {
+        int is_within = limit == 0 || limit >= 9;
+        memset(found, 1, sizeof found);
+        count = 77;
+        want("a limit of a document without room", markdown_inline_document_html(bytes, len, 0, limit, NULL, 0, &count) == (is_within ? MARKDOWN_INLINE_TOO_SMALL : MARKDOWN_INLINE_REFERENCES));
+        want("what has no room is counted", count == (is_within ? sizeof html - 1 : 77));
+        want("a limit of a document", markdown_inline_document_html(bytes, len, 0, limit, found, sizeof found, &count) == (is_within ? MARKDOWN_INLINE_DONE : MARKDOWN_INLINE_REFERENCES));
+        want("a document is written within its limit", !memcmp(found, is_within ? (const uint8_t *)html : before, sizeof html - 1));
+    }
+    want("a limit behind the options", markdown_inline_document_html(bytes, len, 4, 1, found, sizeof found, &count) == MARKDOWN_INLINE_UNKNOWN_OPTION);
+    want("a limit without definitions", markdown_inline_document_html((const uint8_t *)"[a](b)", 6, 0, 1, found, sizeof found, &count) == MARKDOWN_INLINE_DONE);
+}
+
+/* A document has blocks with the pieces of their texts, which are handed out where both have room: an example with a block of each kind. */
+static void test_blocks(void) {
+    static const char text[] = "# a\n\n> b\nc\n- d\n\n  e\n7) f\n---\n\n    g\n\n~~~ h\ni\n~~~\n<!-- j\n-->\nk\n=\n[l]: m";
+    static const markdown_inline_block blocks[] = {{{0, 1}, 0, 1, MARKDOWN_INLINE_BLOCK_HEADING, 0, 0, 0, 0}, {{1, 1}, 0, 0, MARKDOWN_INLINE_BLOCK_BLANK_LINE, 0, 0, 0, 0},
+        {{1, 1}, 0, 0, MARKDOWN_INLINE_BLOCK_QUOTE, 0, 0, 0, 0}, {{1, 3}, 1, 0, MARKDOWN_INLINE_BLOCK_PARAGRAPH, 0, 0, 0, 0},
+        {{3, 3}, 0, 0, MARKDOWN_INLINE_BLOCK_ITEM, '-', MARKDOWN_INLINE_BEGINS_LIST | MARKDOWN_INLINE_ENDS_LIST | MARKDOWN_INLINE_LOOSE_LIST, 0, 0},
+        {{3, 4}, 1, 0, MARKDOWN_INLINE_BLOCK_PARAGRAPH, 0, 0, 0, 0}, {{4, 4}, 1, 0, MARKDOWN_INLINE_BLOCK_BLANK_LINE, 0, 0, 0, 0}, {{4, 5}, 1, 0, MARKDOWN_INLINE_BLOCK_PARAGRAPH, 0, 0, 0, 0},
+        {{5, 5}, 0, 7, MARKDOWN_INLINE_BLOCK_ITEM, ')', MARKDOWN_INLINE_BEGINS_LIST | MARKDOWN_INLINE_ENDS_LIST, 0, 0}, {{5, 6}, 1, 0, MARKDOWN_INLINE_BLOCK_PARAGRAPH, 0, 0, 0, 0},
+        {{6, 6}, 0, 0, MARKDOWN_INLINE_BLOCK_THEMATIC_BREAK, 0, 0, 0, 0}, {{6, 6}, 0, 0, MARKDOWN_INLINE_BLOCK_BLANK_LINE, 0, 0, 0, 0},
+        {{6, 8}, 0, 0, MARKDOWN_INLINE_BLOCK_INDENTED_CODE, 0, 0, 0, 0}, {{8, 10}, 0, 0, MARKDOWN_INLINE_BLOCK_FENCED_CODE, '~', 0, 0, 0},
+        {{10, 12}, 0, 2, MARKDOWN_INLINE_BLOCK_HTML, 0, 0, 0, 0}, {{12, 13}, 0, 1, MARKDOWN_INLINE_BLOCK_HEADING, 0, 0, 0, 0}, {{13, 13}, 0, 0, MARKDOWN_INLINE_BLOCK_PARAGRAPH, 0, 0, 0, 0}};
+    static const markdown_inline_piece pieces[] = {{2, 0, 3, 0}, {7, 0, 9, 0}, {9, 0, 10, 0}, {13, 0, 14, 0}, {18, 0, 19, 0}, {23, 0, 24, 0}, {34, 0, 36, 0}, {36, 0, 37, 0}, {41, 0, 42, 0},
+        {43, 0, 45, 0}, {49, 0, 56, 0}, {56, 0, 60, 0}, {60, 0, 61, 0}};
+    enum { MANY = sizeof blocks / sizeof *blocks, MANY_PIECES = sizeof pieces / sizeof *pieces };
+    markdown_inline_block found[MANY + 1], before[MANY + 1];
+    markdown_inline_piece found_pieces[MANY_PIECES + 1], pieces_before[MANY_PIECES + 1];
+    markdown_inline_blocks_count count;
+    memset(before, 1, sizeof before);
+    memset(pieces_before, 1, sizeof pieces_before);
+    for (size_t room = 0; room <= MANY + 1; room++)
+        for (size_t room_of_pieces = 0; room_of_pieces <= MANY_PIECES + 1; room_of_pieces++) {
+            size_t is_done = room >= MANY && room_of_pieces >= MANY_PIECES, written = is_done * MANY, written_pieces = is_done * MANY_PIECES;
+            memset(found, 1, sizeof found);
+            memset(found_pieces, 1, sizeof found_pieces);
+            want("a status of blocks", markdown_inline_blocks((const uint8_t *)text, sizeof text - 1, found, room, found_pieces, room_of_pieces, &count)
+                    == (is_done ? (uint32_t)MARKDOWN_INLINE_DONE : (uint32_t)MARKDOWN_INLINE_TOO_SMALL));
+            want("how many blocks and pieces", count.blocks == MANY && count.pieces == MANY_PIECES);
+            want("blocks", !memcmp(found, blocks, written * sizeof *found) && !memcmp(found + written, before, sizeof found - written * sizeof *found));
+            want("pieces", !memcmp(found_pieces, pieces, written_pieces * sizeof *pieces) && !memcmp(found_pieces + written_pieces, pieces_before, sizeof found_pieces - written_pieces * sizeof *pieces));
+        }
+    count.blocks = count.pieces = 77;
+    want("no UTF-8 has no blocks", markdown_inline_blocks((const uint8_t *)"a\xff", 2, found, MANY, found_pieces, MANY_PIECES, &count) == MARKDOWN_INLINE_NOT_UTF8);
+    want("too long for blocks", markdown_inline_blocks((const uint8_t *)"a", (SIZE_MAX >> 3) + 1, found, MANY, found_pieces, MANY_PIECES, &count) == MARKDOWN_INLINE_TOO_LONG);
+    want("no count of what is refused", count.blocks == 77 && count.pieces == 77);
+    want("no blocks", markdown_inline_blocks(NULL, 0, NULL, 0, NULL, 0, &count) == MARKDOWN_INLINE_DONE && count.blocks == 0 && count.pieces == 0);
+}
+
+/* A document has definitions, which are handed out where all of them have room. */
+static void test_definitions(void) {
+    static const char text[] = "[a\\]]: b&amp; 'c\\*'\n\n> [d]: <>\n\n[a\\]]: e\nf";
+    static const char labels[] = "a\\]b&c*" "d" "a\\]e";
+    static const markdown_inline_range definitions[] = {{0, 3}, {7, 8}, {8, 11}};
+    static const markdown_inline_target targets[] = {{{3, 5}, {5, 7}, 1, 0}, {{8, 8}, {8, 8}, 0, 0}, {{11, 12}, {12, 12}, 0, 0}};
+    enum { LEN = sizeof labels - 1, MANY = 3 };
+    uint8_t found[LEN + 1], before[LEN + 1];
+    markdown_inline_range ranges[MANY + 1], ranges_before[MANY + 1];
+    markdown_inline_target given[MANY + 1], given_before[MANY + 1];
+    markdown_inline_definitions_count count;
+    memset(before, 1, sizeof before);
+    memset(ranges_before, 1, sizeof ranges_before);
+    memset(given_before, 1, sizeof given_before);
+    for (size_t turn = 0; turn < 27; turn++) {
+        size_t room = LEN - 1 + turn % 3, room_of_ranges = MANY - 1 + turn / 3 % 3, room_of_targets = MANY - 1 + turn / 9;
+        size_t is_done = room >= LEN && room_of_ranges >= MANY && room_of_targets >= MANY, written = is_done * LEN, many = is_done * MANY;
+        memset(found, 1, sizeof found);
+        memset(ranges, 1, sizeof ranges);
+        memset(given, 1, sizeof given);
+        want("a status of definitions", markdown_inline_definitions((const uint8_t *)text, sizeof text - 1, found, room, ranges, room_of_ranges, given, room_of_targets, &count)
+                == (is_done ? (uint32_t)MARKDOWN_INLINE_DONE : (uint32_t)MARKDOWN_INLINE_TOO_SMALL));
+        want("how many definitions", count.definitions == MANY && count.labels == LEN);
+        want("labels", !memcmp(found, labels, written) && !memcmp(found + written, before, sizeof found - written));
+        want("definitions", !memcmp(ranges, definitions, many * sizeof *ranges) && !memcmp(ranges + many, ranges_before, sizeof ranges - many * sizeof *ranges));
+        want("targets", !memcmp(given, targets, many * sizeof *given) && !memcmp(given + many, given_before, sizeof given - many * sizeof *given));
+    }
+    count.definitions = count.labels = 77;
+    want("no UTF-8 has no definitions", markdown_inline_definitions((const uint8_t *)"a\xff", 2, found, LEN, ranges, MANY, given, MANY, &count) == MARKDOWN_INLINE_NOT_UTF8);
+    want("too long for definitions", markdown_inline_definitions((const uint8_t *)"a", (SIZE_MAX >> 3) + 1, found, LEN, ranges, MANY, given, MANY, &count) == MARKDOWN_INLINE_TOO_LONG);
+    want("no count of definitions of what is refused", count.definitions == 77 && count.labels == 77);
+    want("no definitions", markdown_inline_definitions(NULL, 0, NULL, 0, NULL, 0, NULL, 0, &count) == MARKDOWN_INLINE_DONE && count.definitions == 0 && count.labels == 0);
 }
 
 /* Strings have the texts of their parts, and as many as have room are written. */
@@ -972,7 +1066,16 @@ static int call_once(const char *call) {
     if (!strcmp(call, "short_texts")) return (int)markdown_inline_short_texts(&input, contents, 2, short_events, 256, ends, 2, &outcome);
     if (!strcmp(call, "html")) return (int)markdown_inline_html(&input, &target, 1, 0, 0, bytes, 512, &count);
     if (!strcmp(call, "html_of")) return (int)markdown_inline_html_of((const uint8_t *)"a *b* [c](/d)", 13, input.options, 0, bytes, 512, &count);
-    if (!strcmp(call, "document_html")) return (int)markdown_inline_document_html((const uint8_t *)"# a\n\n> - *b* [c]\n\n[c]: /d\n", 27, 0, bytes, 512, &count);
+    if (!strcmp(call, "document_html")) return (int)markdown_inline_document_html((const uint8_t *)"# a\n\n> - *b* [c]\n\n[c]: /d\n", 27, 0, 2, bytes, 512, &count);
+    if (!strcmp(call, "blocks")) {
+        markdown_inline_block blocks[8];
+        markdown_inline_blocks_count blocks_count;
+        return (int)markdown_inline_blocks((const uint8_t *)"# a\n\n> - *b* [c]\n\n[c]: /d\n", 27, blocks, 8, pieces, 2, &blocks_count);
+    }
+    if (!strcmp(call, "definitions")) {
+        markdown_inline_definitions_count definitions_count;
+        return (int)markdown_inline_definitions((const uint8_t *)"[c]: /d 'e'\n", 12, bytes, 512, &label, 1, &target, 1, &definitions_count);
+    }
     if (!strcmp(call, "strings")) {
         static const markdown_inline_range parts[] = {{0, 3}, {4, 9}}, strings[] = {{0, 2}, {1, 2}};
         return (int)markdown_inline_strings(MARKDOWN_INLINE_COMMONMARK, 0, (const uint8_t *)"a\\* &amp;", 9, parts, 2, strings, 2, bytes, 512, ends, 2, &outcome);
@@ -1007,6 +1110,9 @@ int main(int argc, char **argv) {
     test_html();
     test_html_of();
     test_document_html();
+    test_document_limit();
+    test_blocks();
+    test_definitions();
     test_htmls();
     test_limit();
     test_blame();

@@ -8,7 +8,7 @@ from array import array
 import markdown_inline
 from markdown_inline import (
     COMMONMARK, CRATE, GFM, MATH, OPTIONS, BlankLine, Content, DefinitionError, Error, Kind, Name, NoContent, NoReference, NoString, NotUtf8, Piece, References, ShortTexts, TooLong,
-    UnknownOption, _library, html, htmls, identifier, is_content, is_text, leaves, pieces_of_lines, reference, short_texts, string, strings, text, texts)
+    UnknownOption, _errors, _library, html, htmls, identifier, is_content, is_text, leaves, pieces_of_lines, reference, short_texts, string, strings, text, texts)
 
 CONSTRUCTS = sum(OPTIONS[it] for it in (
     'attention', 'autolink', 'character_escape', 'character_reference', 'code_text', 'hard_break_escape', 'hard_break_trailing', 'html_text', 'label_start_image',
@@ -41,7 +41,7 @@ class Calls(unittest.TestCase):
         given = _library.Given(b'a', array('Q'), 0, [], [])
         given.input.bytes_len = (2 ** 64 >> 3) + 1
         self.assertEqual(_library.events('markdown_inline_text', given), (TooLong.status, b''))
-        self.assertIsInstance(markdown_inline._raised(TooLong.status), TooLong)
+        self.assertIsInstance(_errors.raised(TooLong.status), TooLong)
 
     def test_tests(self):
         self.assertTrue(is_text('a\nb') and is_content('a\n\nb'))
@@ -283,7 +283,7 @@ class Calls(unittest.TestCase):
 
 
 # Each module of tests, with how many tests it has at least: where fewer are found, something is not run.
-MODULES = {'calls': 23, 'documents': 3, 'links': 8, 'arguments': 14, 'events': 13, 'install': 1, 'lent': 14, 'page': 12, 'play': 13, 'plugin': 17, 'program': 17, 'typed': 3}
+MODULES = {'calls': 23, 'documents': 4, 'document_blocks': 14, 'links': 8, 'arguments': 14, 'events': 13, 'install': 1, 'lent': 14, 'page': 12, 'play': 13, 'plugin': 17, 'program': 17, 'typed': 3}
 
 
 def main():

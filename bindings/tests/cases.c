@@ -130,13 +130,14 @@ static uint32_t answer_html(markdown_inline_input *input, char **words) {
     return status;
 }
 
-static uint32_t answer_document(const markdown_inline_input *input, uint32_t options) {
-    size_t count = 0;
+static uint32_t answer_document(const markdown_inline_input *input, char **words) {
+    size_t count = 0, limit = strtoul(words[1], NULL, 10);
     uint8_t *html = NULL;
-    uint32_t status = markdown_inline_document_html(input->bytes, input->bytes_len, options, NULL, 0, &count);
+    uint32_t options = (uint32_t)strtoul(words[0], NULL, 10);
+    uint32_t status = markdown_inline_document_html(input->bytes, input->bytes_len, options, limit, NULL, 0, &count);
     if (status == MARKDOWN_INLINE_TOO_SMALL) {
         html = (uint8_t *)room(count, 1);
-        status = markdown_inline_document_html(input->bytes, input->bytes_len, options, html, count, &count);
+        status = markdown_inline_document_html(input->bytes, input->bytes_len, options, limit, html, count, &count);
     }
     if (status == MARKDOWN_INLINE_DONE) {
         printf(" ");
@@ -186,6 +187,67 @@ static uint32_t answer_htmls(markdown_inline_input *input, char **words) {
     print_blamed(outcome.blamed);
     free(ends);
     free(html);
+    return status;
+}
+
+/* The texts of headings and paragraphs as contents. A paragraph is the first of an item where before it in the item stand only blank lines and definitions. */
+static size_t contents_of(const markdown_inline_block *blocks, size_t many, markdown_inline_content *contents) {
+    size_t found = 0, first_in = MARKDOWN_INLINE_NONE;
+    for (const markdown_inline_block *it = blocks; it < blocks + many; it++) {
+        int is_first = it->depth == first_in, is_paragraph = it->kind == MARKDOWN_INLINE_BLOCK_PARAGRAPH, is_empty = it->pieces.start == it->pieces.end;
+        if (is_paragraph || it->kind == MARKDOWN_INLINE_BLOCK_HEADING) contents[found++] = (markdown_inline_content){it->pieces, is_first && is_paragraph, 0};
+        if (it->kind == MARKDOWN_INLINE_BLOCK_ITEM) first_in = it->depth + 1;
+        else if (!is_first || !(it->kind == MARKDOWN_INLINE_BLOCK_BLANK_LINE || (is_paragraph && is_empty))) first_in = MARKDOWN_INLINE_NONE;
+    }
+    return found;
+}
+
+/* Prints a block: its numbers, its pieces, and the HTML of its text if it has one. */
+static void print_block(const markdown_inline_block *it, const markdown_inline_piece *pieces, const uint8_t *html, const size_t *ends, size_t *number) {
+    printf(" |%u:%zu:%zu:%u:%u", it->kind, it->depth, it->number, it->marker, it->list);
+    for (size_t at = it->pieces.start; at < it->pieces.end; at++) printf(" %zu.%zu-%zu.%zu", pieces[at].start, pieces[at].start_vs, pieces[at].end, pieces[at].end_vs);
+    if (it->kind != MARKDOWN_INLINE_BLOCK_PARAGRAPH && it->kind != MARKDOWN_INLINE_BLOCK_HEADING) return;
+    size_t start = *number > 0 ? ends[*number - 1] : 0, end = ends[(*number)++];
+    printf(" =");
+    print_bytes(html + start, end - start);
+}
+
+static void print_definition(const uint8_t *texts, markdown_inline_range label, const markdown_inline_target *target) {
+    printf(" ;");
+    print_bytes(texts + label.start, label.end - label.start);
+    printf("=");
+    print_bytes(texts + target->destination.start, target->destination.end - target->destination.start);
+    if (!target->has_title) return;
+    printf(":");
+    print_bytes(texts + target->title.start, target->title.end - target->title.start);
+}
+
+/* The blocks of a document, with the HTML of their texts, and its definitions. The input gets these, and the footnotes stand behind. */
+static uint32_t answer_blocks(const markdown_inline_input *given, char **words) {
+    static markdown_inline_block blocks[MOST];
+    static markdown_inline_piece their_pieces[MOST];
+    static markdown_inline_range ranges[MOST], noted[MOST];
+    static markdown_inline_target targets[MOST];
+    static markdown_inline_content contents[MOST];
+    static size_t ends[MOST];
+    static uint8_t texts[2 * MOST], html[64 * MOST];
+    markdown_inline_blocks_count count = {0, 0};
+    markdown_inline_definitions_count defined = {0, 0};
+    markdown_inline_outcome outcome = {0, 0, MARKDOWN_INLINE_NONE};
+    markdown_inline_input input = *given;
+    size_t number = 0;
+    uint32_t status = markdown_inline_blocks(input.bytes, input.bytes_len, blocks, MOST, their_pieces, MOST, &count);
+    if (status == MARKDOWN_INLINE_DONE) status = markdown_inline_definitions(input.bytes, input.bytes_len, texts, MOST, ranges, MOST, targets, MOST, &defined);
+    if (status != MARKDOWN_INLINE_DONE) return status;
+    memcpy(texts + defined.labels, input.labels, input.labels_len);
+    for (size_t at = 0; at < input.footnotes_len; at++) noted[at] = (markdown_inline_range){input.footnotes[at].start + defined.labels, input.footnotes[at].end + defined.labels};
+    input.labels = texts, input.labels_len += defined.labels, input.definitions = ranges, input.definitions_len = defined.definitions;
+    input.footnotes = noted, input.pieces = their_pieces, input.pieces_len = count.pieces;
+    size_t many = contents_of(blocks, count.blocks, contents);
+    status = markdown_inline_htmls(&input, targets, defined.definitions, contents, many, (uint32_t)strtoul(words[0], NULL, 10), strtoul(words[1], NULL, 10), html, sizeof html, ends, many, &outcome);
+    for (size_t at = 0; status == MARKDOWN_INLINE_DONE && at < count.blocks; at++) print_block(&blocks[at], their_pieces, html, ends, &number);
+    for (size_t at = 0; status == MARKDOWN_INLINE_DONE && at < defined.definitions; at++) print_definition(texts, ranges[at], &targets[at]);
+    print_blamed(outcome.blamed);
     return status;
 }
 
@@ -254,7 +316,8 @@ static void answer(char **words) {
     } else {
         uint32_t status = !strcmp(words[0], "leaves") ? answer_leaves(&input)
             : !strcmp(words[0], "html") ? answer_html(&input, words + 6)
-            : !strcmp(words[0], "document") ? answer_document(&input, (uint32_t)strtoul(words[6], NULL, 10))
+            : !strcmp(words[0], "document") ? answer_document(&input, words + 6)
+            : !strcmp(words[0], "blocks") ? answer_blocks(&input, words + 6)
             : !strcmp(words[0], "htmls") ? answer_htmls(&input, words + 6)
             : !strcmp(words[0], "shorts") ? answer_shorts(&input, words + 6) : answer_texts(&input, words + 6);
         if (status != MARKDOWN_INLINE_DONE) printf(": %s", markdown_inline_status_text(status));

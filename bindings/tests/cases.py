@@ -1,6 +1,6 @@
 #!/usr/bin/env python3
 """Reads cases of draw.py from standard input, and prints what the Python package finds in each: events as the program of crates/markdown_test_runs
-does, leaves, HTML in hexadecimal, or the events, the short events or the HTML of each text; where there are none, why.
+does, leaves, HTML in hexadecimal, the blocks of a document, or the events, the short events or the HTML of each text; where there are none, why.
 
 Where words can say the options of a case, they do, and not its bits. Each other document is handed over as a `str`, and its characters are counted
 here too. The status is 1 where few cases come, or few of a kind, so that what tests nothing does not pass."""
@@ -8,11 +8,11 @@ import collections
 import sys
 from itertools import accumulate
 
-from markdown_inline import COMMONMARK, CRATE, GFM, MATH, OPTIONS, Content, Error, Kind, Piece, document_html, html, htmls, leaves, short_texts, string, text, texts
+from markdown_inline import COMMONMARK, CRATE, GFM, MATH, OPTIONS, Content, Error, Kind, Piece, blocks, document_html, html, htmls, leaves, short_texts, string, text, texts
 
 SWITCHES, SETS = {'gfm': GFM, 'math': MATH, 'task': OPTIONS['first_of_item']}, {'commonmark': COMMONMARK, 'crate': CRATE}
 # How many cases come at least in all, of each kind, and by words. A file has kinds of one of these rows.
-LEAST, KINDS = 600, ({'text': 400, 'string': 40}, {'leaves': 300, 'html': 300, 'texts': 60, 'shorts': 60, 'htmls': 60, 'document': 60})
+LEAST, KINDS = 600, ({'text': 400, 'string': 40}, {'leaves': 300, 'html': 300, 'texts': 60, 'shorts': 60, 'htmls': 60, 'document': 60, 'blocks': 60})
 seen = collections.Counter()
 
 
@@ -83,6 +83,23 @@ def asked(bits, how):
     return {'options': bits}
 
 
+def held(bits):
+    """What HTML may hold."""
+    return {'raw_html': bool(int(bits) & 1), 'any_link': bool(int(bits) & 2)}
+
+
+def shown_block(block):
+    flags = block.begins_list | block.ends_list << 1 | block.is_loose << 2
+    pieces = ''.join(' %d.%d-%d.%d' % (it.start, it.start_vs, it.end, it.end_vs) for it in block.pieces)
+    words = '' if block.content is None else ' =' + block.html.encode().hex()
+    return ' |%d:%d:%d:%d:%d' % (block.kind, block.depth, block.number, ord(block.marker or '\0'), flags) + pieces + words
+
+
+def all_blocks(found):
+    defined = (' ;%s=%s' % (it.label.encode().hex(), it.destination.encode().hex()) + ('' if it.title is None else ':' + it.title.encode().hex()) for it in found.definitions)
+    return ''.join(map(shown_block, found)) + ''.join(defined)
+
+
 def found(how, document, spans, given, places, labels, rest):
     if how == 'string':
         return all_shown(string(document, spans, options=given['options']), places)
@@ -91,15 +108,15 @@ def found(how, document, spans, given, places, labels, rest):
     if how == 'leaves':
         return ''.join(shown_leaf(it, places) for it in leaves(document, spans, definitions=labels, **given))
     if how == 'html':
-        defined, bits = dict(zip(labels, map(target, listed(rest[1])))), int(rest[0])
-        return ' ' + html(document, spans, definitions=defined, raw_html=bool(bits & 1), any_link=bool(bits & 2), **given).encode().hex()
+        defined = dict(zip(labels, map(target, listed(rest[1]))))
+        return ' ' + html(document, spans, definitions=defined, **held(rest[0]), **given).encode().hex()
     if how == 'document':
-        return ' ' + document_html(document, raw_html=bool(int(rest[0]) & 1), any_link=bool(int(rest[0]) & 2)).encode().hex()
+        return ' ' + document_html(document, **held(rest[0]), reference_limit=int(rest[1])).encode().hex()
+    if how == 'blocks':
+        return all_blocks(blocks(document, **held(rest[0]), reference_limit=int(rest[1]), **given))
     if how == 'htmls':
-        defined, bits = dict(zip(labels, map(target, listed(rest[1])))), int(rest[0])
-        contents = [content(it, spans) for it in listed(rest[2])]
-        written = htmls(
-            document, contents, definitions=defined, raw_html=bool(bits & 1), any_link=bool(bits & 2), reference_limit=int(rest[3]), **given)
+        defined, contents = dict(zip(labels, map(target, listed(rest[1])))), [content(it, spans) for it in listed(rest[2])]
+        written = htmls(document, contents, definitions=defined, **held(rest[0]), reference_limit=int(rest[3]), **given)
         return ''.join(' |' + it.encode().hex() for it in written)
     contents = [content(it, spans) for it in listed(rest[0])]
     if how == 'shorts':

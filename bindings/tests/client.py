@@ -2,7 +2,7 @@
 from typing import Dict, List, Optional, Tuple
 
 from markdown_inline import (
-    COMMONMARK, GFM, OPTIONS, Address, Content, Error, Event, Events, Kind, Leaf, Leaves, Name, Node, Piece, ShortEvent, ShortTexts, Texts, Tree, __version__, document_html, html, htmls,
+    COMMONMARK, GFM, OPTIONS, Address, Block, BlockKind, Blocks, Content, Definition, Error, Event, Events, Kind, Leaf, Leaves, Name, Node, Piece, ShortEvent, ShortTexts, Texts, Tree, __version__, blocks, document_html, html, htmls,
     identifier, is_text, leaves, links, pieces_of_lines, reference, short_texts, string, strings, text, texts, tree)
 
 
@@ -24,6 +24,14 @@ def many(document: bytes) -> int:
     short: ShortEvent = shorts[0][0]
     definition: Optional[int] = short.definition
     return found[0][0].index + sum(number for content in found.flat() for event in content for number in event) + (definition or 0)
+
+
+def headings(document: str) -> List[Tuple[int, Optional[int], str]]:
+    found: Blocks = blocks(document, gfm=True, columns='utf-16', reference_limit=0)
+    defined: List[Definition] = found.definitions
+    places: List[int] = [event.line for block in found for event in block.events] + [it.line for it in found.links]
+    some: List[Block] = [it for it in found[:9] if it.kind == BlockKind.Heading and len(defined) + len(places) + len(it.pieces) > 0]
+    return [(it.number, it.line, it.html + (it.info or '') + (it.marker or '')) for it in some]
 
 
 def words(document: str, defined: Dict[str, str]) -> List[str]:

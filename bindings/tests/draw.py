@@ -7,7 +7,8 @@ ROWS gets them as the program of crates/markdown_test_runs reads them, and CASES
 the pieces, the labels of definitions and of footnotes, the document; texts in hexadecimal, `-` for none, commas between pieces and labels. MORE gets
 calls that the program does not make, which the callers compare among each other: a text's leaves; its HTML, with two words more, the bits of what it
 may hold, and the destination of each definition behind a `=`, with a title behind a colon where it has one; the texts of several contents, also in short
-events, with one word more, each content's first and last piece, and whether it begins a list item; and the HTML of a document, with the bits of what it may hold."""
+events, with one word more, each content's first and last piece, and whether it begins a list item; and the HTML of a document, and its blocks, with two words
+more, the bits of what the HTML may hold, and how many bytes definitions may bring."""
 import os
 import random
 import re
@@ -30,7 +31,7 @@ PREFIXES = ['', '> ', '>', '   ', '- ', '\t', ' \t', '>\t', '1. ']
 LABELS = ['a', 'b c', 'd', 'é', 'word', 'x']
 NOTES = ['n', 'a', '*b*']
 TARGETS = ['', '/u', 'http://v.w', 'javascript:x', ' y:z', '"&<>', 'é?a=b&c', 'mailto:d@e']
-BLOCKS = ['', '', '# ', '    ', '- ', '3) ', '> ', '~~~ é\n', '<div>\n', '[a]: /u "f"\n', '***\n']
+BLOCKS = ['', '', '# ', '    ', '- ', '3) ', '> ', '~~~ é\n', '<div>\n', '[a]: /u "f"\n', '[A]: v\n\n[a] ![b][a]\n', '***\n', '-\t\t', '>\t\t']
 TITLES = [None, '', 'f', 'g "h" <i>', "&amp;'"]
 ESCAPES = {'\\': '\\\\', '\n': '\\n', '\r': '\\r', '\t': '\\t', '\0': '\\0'}
 
@@ -111,10 +112,12 @@ def several_in_html(draw, cases):
     return ' '.join(['htmls'] + words[1:6]) + in_html(draw, cases[0][3]) + ' %s %d' % (words[6], draw.choice([0, 0, 1, 4, 16, 64]))
 
 
-def in_blocks(draw, cases):
-    """A call for the HTML of a document of these cases, each behind something that may begin a block."""
+def in_blocks(draw, cases, how='document'):
+    """A call for the HTML, or for the blocks, of a document of these cases, each behind something that may begin a block. Blocks have the options and the
+    footnotes of the first."""
     document = b''.join(draw.choice(BLOCKS).encode() + given + draw.choice([b'\n', b'\r\n\r\n']) for *_, given in cases)
-    return line('document', 0, [], [], [], document) + ' %d' % draw.randrange(4)
+    bits, notes = (cases[0][1] & ~FIRST_OF_ITEM, cases[0][4]) if how == 'blocks' else (0, [])
+    return line(how, bits, [], [], notes, document) + ' %d %d' % (draw.randrange(4), draw.choice([0, 0, 1, 4, 16, 64]))
 
 
 def more(draw, drawn):
@@ -129,6 +132,7 @@ def more(draw, drawn):
         yield several_in_html(draw, texts[at:at + draw.randrange(1, 5)])
     for at in range(0, len(drawn) - 4, 4):
         yield in_blocks(draw, drawn[at:at + draw.randrange(1, 5)])
+        yield in_blocks(draw, drawn[at:at + draw.randrange(1, 5)], 'blocks')
 
 
 def write(path, lines):

@@ -121,6 +121,14 @@ class Program(unittest.TestCase):
         self.assertEqual(run(*words, given=b'[a] ' * 101 + b'b'), (11, '', 'markdown_inline: references bring more than the limit\n'))
         self.assertEqual(run(*words, given=b'[a] ' * 99 + b'b')[0], 0)
 
+        document = b'[a]\n\n' * 101 + b'[a]: ' + b'x' * 1000
+        self.assertEqual(run('--document', given=document), (11, '', 'markdown_inline: references bring more than the limit\n'))
+        self.assertEqual(run('--document', given=document[5:])[0], 0)
+        with tempfile.NamedTemporaryFile() as file:
+            file.write(document)
+            file.flush()
+            self.assertEqual(run('--document', file.name), (11, '', 'markdown_inline: %r: references bring more than the limit\n' % file.name))
+
     def test_input_that_cannot_be_read(self):
         # A folder is refused by the interpreter itself, before the program begins.
         self.assertEqual(run('text', by='<&-'), (6, '', 'markdown_inline: read failed\n'))

@@ -22,7 +22,7 @@ enum { BYTES = 120, PIECES = 8, RANGES = 4, CONTENTS = 4, CODES = 4 * BYTES, ENO
 /* Drawn numbers. */
 
 static uint64_t seed, state;
-static size_t calls, faults, counts[16], functions[16];
+static size_t calls, faults, counts[16], functions[17];
 static const char *call_name = "none";
 
 static uint64_t draw(void) {
@@ -103,7 +103,7 @@ static int is_filled_but(const stretch *from, const void *array, size_t len) {
     return !memcmp(from->lent, filled, at) && !memcmp(from->lent + at + len, filled, from->size - at - len);
 }
 
-static stretch of_bytes, of_pieces, of_labels, of_definitions, of_footnotes, of_contents, of_targets, of_input, of_found, of_ends, of_count, of_outcome;
+static stretch of_bytes, of_pieces, of_labels, of_definitions, of_footnotes, of_contents, of_targets, of_input, of_found, of_more, of_ends, of_count, of_outcome;
 
 /* A case: what is drawn, before it is lent. */
 typedef struct drawn {
@@ -450,8 +450,8 @@ static uint32_t html_status(const drawn *it) {
 
 /* The calls. Each is made without room, with just enough, and with another room. */
 
-typedef enum which { IS_CONTENT, IS_TEXT, STRING, TEXT, LEAVES, HTML, HTML_OF, DOCUMENT_HTML, IDENTIFIER, REFERENCE, TEXTS, SHORT_TEXTS, HTMLS, STRINGS, PIECES_OF_LINES } which;
-static const char *const NAMES[] = {"is_content", "is_text", "string", "text", "leaves", "html", "html_of", "document_html", "identifier", "reference", "texts", "short_texts", "htmls", "strings", "pieces_of_lines"};
+typedef enum which { IS_CONTENT, IS_TEXT, STRING, TEXT, LEAVES, HTML, HTML_OF, DOCUMENT_HTML, IDENTIFIER, REFERENCE, TEXTS, SHORT_TEXTS, HTMLS, STRINGS, PIECES_OF_LINES, BLOCKS, DEFINITIONS } which;
+static const char *const NAMES[] = {"is_content", "is_text", "string", "text", "leaves", "html", "html_of", "document_html", "identifier", "reference", "texts", "short_texts", "htmls", "strings", "pieces_of_lines", "blocks", "definitions"};
 
 /* What a call finds. */
 typedef union answer {
@@ -514,7 +514,7 @@ static uint32_t made(which call, const drawn *it, void *array, size_t len) {
     case LEAVES: return markdown_inline_leaves(input, (markdown_inline_leaf *)array, len, count);
     case HTML: return markdown_inline_html(input, targets, it->targets_len, it->html_options, it->limit, (uint8_t *)array, len, count);
     case HTML_OF: return markdown_inline_html_of(input->bytes, input->bytes_len, input->options, it->html_options, (uint8_t *)array, len, count);
-    case DOCUMENT_HTML: return markdown_inline_document_html(input->bytes, input->bytes_len, it->html_options, (uint8_t *)array, len, count);
+    case DOCUMENT_HTML: return markdown_inline_document_html(input->bytes, input->bytes_len, it->html_options, it->limit, (uint8_t *)array, len, count);
     case IDENTIFIER: return markdown_inline_identifier(input->labels, input->labels_len, (uint8_t *)array, len, count);
     case REFERENCE: return markdown_inline_reference(input->options, input->labels, input->labels_len, (uint8_t *)array, len, count);
     case TEXTS: return markdown_inline_texts(input, contents, it->contents_len, (markdown_inline_event *)array, len, ends, ends_len, outcome);
@@ -1022,6 +1022,59 @@ static int is_nested(const uint8_t *html, size_t len) {
     return depth == 0;
 }
 
+/* Draws two definitions, and answers in `brought` how many bytes each brings at once. The second of one name does not count. */
+static void draw_titled(drawn *it, size_t *brought) {
+    static const char *const LEADS[] = {"/", "/uu", "/uuuuuuu"}, *const TITLES[] = {"", " ''", " 't'", " \"tt\""}, *const STARTS[] = {"[a]: ", "[b]: "};
+    for (int name = 0; name < 2; name++) {
+        const char *leads = LEADS[below(3)], *title = TITLES[below(4)];
+        it->bytes_len = append(it->bytes, append(it->bytes, append(it->bytes, append(it->bytes, it->bytes_len, STARTS[name]), leads), title), "\n");
+        brought[name] = strlen(leads) + (*title ? strlen(title) - 3 : 0);
+    }
+    it->bytes_len = append(it->bytes, it->bytes_len, one_in(2) ? "[a]: /more\n\n" : "\n");
+}
+
+/* Draws definitions before blocks that refer to them, or behind. Answers how many bytes the definitions bring. */
+static size_t draw_references(drawn *it) {
+    static const struct {
+        const char *text;
+        int name;
+    } forms[] = {{"[a]\n\n", 0}, {"> ![b][]\n\n", 1}, {"- [c][a]\n", 0}, {"# *[b]*\n", 1}, {"![a [b]](c)\n\n", 1}, {"[a](c)\n\n", 2}, {"`[a]`\n\n", 2}, {"\\[b]\n\n", 2}, {"[c]\n\n", 2}};
+    const int are_first = one_in(2);
+    size_t brought[3] = {0}, times[3] = {0};
+    it->bytes_len = 0;
+    if (are_first) draw_titled(it, brought);
+    for (size_t many = 1 + below(5); many > 0; many--) {
+        size_t form = below(sizeof forms / sizeof *forms);
+        it->bytes_len = append(it->bytes, it->bytes_len, forms[form].text);
+        times[forms[form].name]++;
+    }
+    it->bytes_len = append(it->bytes, it->bytes_len, "\n");
+    if (!are_first) draw_titled(it, brought);
+    return times[0] * brought[0] + times[1] * brought[1];
+}
+
+/* A limit holds of what definitions bring to a document; 0 is none. */
+static void try_document_limit(const drawn *it) {
+    static answer html;
+    drawn limited = *it;
+    size_t brought = draw_references(&limited);
+    call_name = NAMES[DOCUMENT_HTML];
+    limited.html_options &= 3;
+    limited.limit = 0;
+    lend_case(&limited);
+    want("no limit of a document", called(DOCUMENT_HTML, &limited, sizeof found, 0) == MARKDOWN_INLINE_DONE);
+    size_t len = found_len;
+    html = found;
+    for (int turn = 0; turn < 4; turn++) {
+        limited.limit = turn == 0 ? brought : turn == 1 ? brought + 1 + below(9) : 1 + below(brought > 0 ? brought : 1);
+        lend_case(&limited);
+        if (limited.limit == 0 || limited.limit >= brought)
+            want("as much as the limit of a document", called(DOCUMENT_HTML, &limited, sizeof found, 0) == MARKDOWN_INLINE_DONE && found_len == len && !memcmp(html.bytes, found.bytes, len));
+        else
+            want("more than the limit of a document", called(DOCUMENT_HTML, &limited, sizeof found, 0) == MARKDOWN_INLINE_REFERENCES);
+    }
+}
+
 /* The bytes of a case as a document; and a line of them as a heading, whose text has the HTML of that line alone (CommonMark 4.2). */
 static void try_document(const drawn *it) {
     static answer html;
@@ -1108,6 +1161,147 @@ static void try_lines(const drawn *all) {
     if (is_done && is_utf8(it.bytes, it.bytes_len)) want("the pieces are a text", pieces_status(&it) == MARKDOWN_INLINE_DONE);
 }
 
+/* What a call for a whole document ends with, and whether it has written its counts: else they are as before. */
+static void look_at_status(which call, uint32_t status, const size_t *written_counts, size_t before) {
+    int is_counted = status == MARKDOWN_INLINE_DONE || status == MARKDOWN_INLINE_TOO_SMALL;
+    calls++;
+    functions[call]++;
+    counts[status < 16 ? status : 15]++;
+    want("no count is written where there is none", is_counted || (written_counts[0] == before && written_counts[1] == before));
+    want("nothing is written beside the counts", is_filled_but(&of_count, written_counts, 2 * sizeof *written_counts));
+}
+
+static markdown_inline_block found_blocks[sizeof filled / sizeof(markdown_inline_block)];
+static markdown_inline_piece found_pieces[sizeof filled / sizeof(markdown_inline_piece)];
+
+/* Calls for the blocks of what is lent, with room for so many and for so many pieces. */
+static uint32_t called_blocks(size_t room, size_t room_of_pieces, markdown_inline_blocks_count *all) {
+    size_t before = (size_t)draw();
+    markdown_inline_block *blocks = (markdown_inline_block *)lend_room(&of_found, room, sizeof *blocks);
+    markdown_inline_piece *pieces = (markdown_inline_piece *)lend_room(&of_more, room_of_pieces, sizeof *pieces);
+    markdown_inline_blocks_count *own = (markdown_inline_blocks_count *)lend_room(&of_count, 1, sizeof *own);
+    own->blocks = own->pieces = before;
+    uint32_t status = markdown_inline_blocks(input->bytes, input->bytes_len, blocks, room, pieces, room_of_pieces, own);
+    size_t is_done = status == MARKDOWN_INLINE_DONE;
+    look_at_status(BLOCKS, status, &own->blocks, before);
+    *all = *own;
+    if (is_done && (own->blocks > room || own->pieces > room_of_pieces)) fault("no more than there is room for");
+    else {
+        want("nothing is written but blocks and pieces", is_filled_but(&of_found, blocks, is_done * own->blocks * sizeof *blocks) && is_filled_but(&of_more, pieces, is_done * own->pieces * sizeof *pieces));
+        if (is_done && own->blocks > 0) memcpy(found_blocks, blocks, own->blocks * sizeof *blocks);
+        if (is_done && own->pieces > 0) memcpy(found_pieces, pieces, own->pieces * sizeof *pieces);
+    }
+    return status;
+}
+
+/* Blocks stand one deeper behind what holds them, their pieces follow one another, and texts are texts. */
+static void look_at_blocks(markdown_inline_blocks_count all) {
+    size_t deepest = 0, pieces = 0;
+    for (size_t at = 0; at < all.blocks; at++) {
+        const markdown_inline_block *it = &found_blocks[at];
+        int is_heading = it->kind == MARKDOWN_INLINE_BLOCK_HEADING, is_item = it->kind == MARKDOWN_INLINE_BLOCK_ITEM, is_code = it->kind == MARKDOWN_INLINE_BLOCK_FENCED_CODE;
+        int is_text = is_heading || it->kind == MARKDOWN_INLINE_BLOCK_PARAGRAPH, is_ordered = is_item && (it->marker == '.' || it->marker == ')');
+        size_t last = is_heading ? 6 : it->kind == MARKDOWN_INLINE_BLOCK_HTML ? 7 : is_ordered ? 999999999 : 0;
+        want("a kind of block", it->kind < MARKDOWN_INLINE_BLOCK_COUNT && it->reserved == 0 && it->reserved_too == 0);
+        want("a block is at most one deeper", it->depth <= deepest);
+        want("pieces of blocks follow one another", it->pieces.start == pieces && it->pieces.end >= pieces && it->pieces.end <= all.pieces);
+        want("the number of a block", it->number <= last && (it->number > 0 || last != 6) && (it->number > 0 || last != 7));
+        want("the marker of a block", is_item ? strchr("-+*.)", it->marker) != NULL : is_code ? it->marker == '`' || it->marker == '~' : it->marker == 0);
+        want("an item stands in a list", is_item ? it->list < 8 : it->list == 0);
+        want("code has an info string", !is_code || it->pieces.end > it->pieces.start);
+        if (faults > 0) return;
+        want("a text of a document", !is_text || markdown_inline_is_text(input->bytes, input->bytes_len, found_pieces + pieces, it->pieces.end - pieces) == MARKDOWN_INLINE_DONE);
+        deepest = it->depth + (it->kind >= MARKDOWN_INLINE_BLOCK_QUOTE);
+        pieces = it->pieces.end;
+    }
+    want("each piece is of a block", pieces == all.pieces);
+}
+
+/* The blocks of a case, with any room. */
+static void try_blocks(const drawn *it) {
+    markdown_inline_blocks_count all, again;
+    call_name = NAMES[BLOCKS];
+    lend_case(it);
+    uint32_t wanted = document_status(it), status = called_blocks(0, 0, &all);
+    if (wanted != MARKDOWN_INLINE_DONE) {
+        want("the status of the model", status == wanted && called_blocks(below(64), below(64), &again) == wanted);
+        return;
+    }
+    want("the status without room", status == (all.blocks > 0 ? (uint32_t)MARKDOWN_INLINE_TOO_SMALL : (uint32_t)MARKDOWN_INLINE_DONE));
+    want("no more blocks than twice the bytes", all.blocks <= 2 * it->bytes_len && all.pieces <= 2 * it->bytes_len);
+    for (int turn = 0; turn < 4 && faults == 0; turn++) {
+        size_t room = turn == 1 ? below(all.blocks + 1) : all.blocks + below(3), room_of_pieces = turn == 2 ? below(all.pieces + 1) : all.pieces + below(3);
+        int has_room = room >= all.blocks && room_of_pieces >= all.pieces;
+        want("the status by the room", called_blocks(room, room_of_pieces, &again) == (has_room ? (uint32_t)MARKDOWN_INLINE_DONE : (uint32_t)MARKDOWN_INLINE_TOO_SMALL));
+        want("as many blocks again", again.blocks == all.blocks && again.pieces == all.pieces);
+    }
+    if (faults == 0) look_at_blocks(all);
+}
+
+static uint8_t found_labels[sizeof filled];
+static markdown_inline_range found_definitions[BYTES];
+static markdown_inline_target found_targets[BYTES];
+static size_t many_definitions;
+
+/* Calls for the definitions of what is lent, with room for so many bytes of labels, definitions and targets. */
+static uint32_t called_definitions(size_t room, size_t room_of_definitions, size_t room_of_targets, markdown_inline_definitions_count *all) {
+    size_t before = (size_t)draw();
+    uint8_t *labels = (uint8_t *)lend_room(&of_found, room, 1);
+    markdown_inline_range *definitions = (markdown_inline_range *)lend_room(&of_ends, room_of_definitions, sizeof *definitions);
+    markdown_inline_target *given = (markdown_inline_target *)lend_room(&of_more, room_of_targets, sizeof *given);
+    markdown_inline_definitions_count *own = (markdown_inline_definitions_count *)lend_room(&of_count, 1, sizeof *own);
+    own->definitions = own->labels = before;
+    uint32_t status = markdown_inline_definitions(input->bytes, input->bytes_len, labels, room, definitions, room_of_definitions, given, room_of_targets, own);
+    size_t is_done = status == MARKDOWN_INLINE_DONE, many = is_done * own->definitions;
+    look_at_status(DEFINITIONS, status, &own->definitions, before);
+    *all = *own;
+    if (is_done && (own->labels > room || many > room_of_definitions || many > room_of_targets || many > BYTES)) fault("no more than there is room for");
+    else {
+        want("nothing is written but definitions", is_filled_but(&of_found, labels, is_done * own->labels) && is_filled_but(&of_ends, definitions, many * sizeof *definitions)
+                && is_filled_but(&of_more, given, many * sizeof *given));
+        if (is_done && own->labels > 0) memcpy(found_labels, labels, own->labels);
+        if (many > 0) memcpy(found_definitions, definitions, many * sizeof *definitions);
+        if (many > 0) memcpy(found_targets, given, many * sizeof *given);
+    }
+    return status;
+}
+
+/* The definitions of a document are those of an input: it is written as HTML with them, and each label leads to where its definition leads. */
+static void look_at_definitions(markdown_inline_definitions_count all) {
+    markdown_inline_input whole = {NULL, 0, NULL, 0, found_labels, all.labels, found_definitions, all.definitions, NULL, 0, MARKDOWN_INLINE_COMMONMARK, 0};
+    markdown_inline_outcome own = {0, 0, 0};
+    want("definitions are those of an input", markdown_inline_htmls(&whole, found_targets, all.definitions, NULL, 0, 0, 0, NULL, 0, NULL, 0, &own) == MARKDOWN_INLINE_DONE);
+    many_definitions += all.definitions > 0;
+}
+
+/* The definitions of a case, some of which are put at its front, with any room. */
+static void try_definitions(const drawn *all_drawn) {
+    static const char *const WRITTEN[] = {"[a]: /b\n", "[\xc3\x89 d]: <e\\*&amp;>\n  'f&copy;'\n", "[a]:\t/g \"h\ni\"\n", "> [j\\]]: k\n\n", "[a]: &#0;\n", "[]: l\n", "[m]: n 'o"};
+    markdown_inline_definitions_count all, again;
+    drawn it = *all_drawn;
+    call_name = NAMES[DEFINITIONS];
+    if (it.bytes_len <= BYTES) {
+        it.bytes_len = 0;
+        for (size_t more = below(5); more > 0; more--) it.bytes_len = append(it.bytes, it.bytes_len, WRITTEN[below(sizeof WRITTEN / sizeof *WRITTEN)]);
+        if (one_in(8)) it.bytes_len = append(it.bytes, it.bytes_len, BROKEN[below(sizeof BROKEN / sizeof *BROKEN)]);
+    }
+    lend_case(&it);
+    uint32_t wanted = document_status(&it), status = called_definitions(0, 0, 0, &all);
+    if (wanted != MARKDOWN_INLINE_DONE) {
+        want("the status of the model", status == wanted && called_definitions(below(64), below(8), below(8), &again) == wanted);
+        return;
+    }
+    want("the status without room", status == (all.definitions > 0 ? (uint32_t)MARKDOWN_INLINE_TOO_SMALL : (uint32_t)MARKDOWN_INLINE_DONE));
+    for (int turn = 0; turn < 5 && faults == 0; turn++) {
+        size_t room = turn == 1 ? below(all.labels + 1) : all.labels + below(3), many = turn == 2 ? below(all.definitions + 1) : all.definitions + below(3);
+        size_t given = turn == 3 ? below(all.definitions + 1) : all.definitions + below(3);
+        int has_room = room >= all.labels && many >= all.definitions && given >= all.definitions;
+        want("the status by the room", called_definitions(room, many, given, &again) == (has_room ? (uint32_t)MARKDOWN_INLINE_DONE : (uint32_t)MARKDOWN_INLINE_TOO_SMALL));
+        want("as many definitions again", again.definitions == all.definitions && again.labels == all.labels);
+    }
+    if (faults == 0) look_at_definitions(all);
+}
+
 static void try_case(void) {
     static answer text;
     static drawn it;
@@ -1119,6 +1313,7 @@ static void try_case(void) {
     if (is_done(HTML, &it, html_status(&it))) want("HTML is UTF-8", is_utf8(found.bytes, found_len));
     try_whole(&it);
     try_document(&it);
+    try_document_limit(&it);
     lend_case(&it);
     if (is_done(TEXT, &it, text_status(&it))) {
         size_t len = found_len;
@@ -1139,6 +1334,8 @@ static void try_case(void) {
     try_bytes(&it);
     try_strings(&it);
     try_lines(&it);
+    try_blocks(&it);
+    try_definitions(&it);
 }
 
 /* Tells of a touch of a page that may not be touched. */
@@ -1157,6 +1354,7 @@ int main(int argc, char **argv) {
     for (size_t at = 0; at < sizeof reads / sizeof *reads; at++) *reads[at] = new_stretch(1, 1);
     memset(filled, FILL, sizeof filled);
     of_found = new_stretch(sizeof found / page, 0);
+    of_more = new_stretch(sizeof found / page, 0);
     of_ends = new_stretch(1, 0);
     of_count = new_stretch(1, 0);
     of_outcome = new_stretch(1, 0);
@@ -1173,7 +1371,8 @@ int main(int argc, char **argv) {
         int is_drawn = markdown_inline_status_text(status) && status != MARKDOWN_INLINE_NO_MEMORY;
         want("each status comes often, and no other", is_drawn ? counts[status] >= FLOOR : counts[status] == 0);
     }
-    for (size_t call = 0; most >= ENOUGH && faults == 0 && call <= PIECES_OF_LINES; call++) want("each function is called often", functions[call] >= ENOUGH / 100);
+    for (size_t call = 0; most >= ENOUGH && faults == 0 && call <= DEFINITIONS; call++) want("each function is called often", functions[call] >= ENOUGH / 100);
+    want("documents have definitions", most < ENOUGH || faults > 0 || many_definitions >= FLOOR);
     want("references meet definitions and footnotes", most < 2 * ENOUGH || faults > 0 || (met_definitions >= FLOOR && met_footnotes >= FLOOR / 2));
     want("references stand for characters, and some for two", most < 2 * ENOUGH || faults > 0 || (met_characters >= FLOOR && met_pairs >= FLOOR / 2));
     if (faults == 0) printf("bindings: %zu drawn calls of C, %zu done, %zu without room, %zu refused\n", calls, counts[0], counts[6], calls - counts[0] - counts[6]);

@@ -19,6 +19,8 @@ pub enum Fault {
     Read(io::Error),
     /// The output cannot be written.
     Write(io::Error),
+    /// Definitions bring more to the file than the limit.
+    References,
 }
 
 impl Fault {
@@ -29,12 +31,13 @@ impl Fault {
             Fault::NotText => 3,
             Fault::OutOfMemory => 5,
             Fault::Read(_) | Fault::Write(_) => 6,
+            Fault::References => 7,
         }
     }
 
     /// Whether it is the fault of one file, so that the others can be read.
     pub fn is_of_file(&self) -> bool {
-        matches!(self, Fault::NotText | Fault::Read(_))
+        matches!(self, Fault::NotText | Fault::Read(_) | Fault::References)
     }
 }
 
@@ -47,6 +50,7 @@ impl Display for Fault {
             Fault::OutOfMemory => f.write_str("out of memory"),
             Fault::Read(error) => write!(f, "read failed: {error}"),
             Fault::Write(error) => write!(f, "write failed: {error}"),
+            Fault::References => f.write_str("definitions bring more bytes than they may"),
         }
     }
 }

@@ -1,5 +1,8 @@
+mod DocumentLimits
 mod Errors
 mod Filled
+mod FlatBlockLemmas
+mod FlatDefinitionLemmas
 mod HandedOut
 mod InTurn
 mod Joined

@@ -13,6 +13,10 @@ pub record IsRefused (holds : Fault → Type 0) (status : ℕ) : Type 0 where
 abbrev pub IsTested : Type 0 → (Fault → Type 0) → ℕ → Type 0
 IsTested holds refuses status = ((status ≡ 0) × holds) ⊎ IsRefused refuses status
 
+-- an array with what was found at its front; what follows there is as before
+abbrev pub over : {X : Type 0} → (old found : List X) → List X
+over old found = found ++ drop (length found) old
+
 -- what was found stands at the front of the array, and what follows there is as before
 pub record IsDone {X : Type 0} (found old new : List X) (count status : ℕ) : Type 0 where
   pub status_is : status ≡ 0

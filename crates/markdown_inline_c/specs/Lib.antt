@@ -1,6 +1,8 @@
 -- What crosses to C.
 -- What has to be believed: what public contracts cite.
 pub mod FlatInput
+pub mod FlatBlocks
+pub mod FlatDefinitions
 pub mod FlatDocuments
 pub mod FlatEvents
 pub mod ShortEvents

@@ -38,6 +38,11 @@ IsDocumentFault bytes Fault.TooLong = document_limit < length bytes
 IsDocumentFault bytes Fault.NotUtf8 = (length bytes ≤ document_limit) × (IsUtf8 bytes → ⊥)
 IsDocumentFault bytes _ = ⊥
 
+-- of a document that is to be read; memory may be refused at any time
+abbrev pub IsReadFault : List ℕ → Fault → Type 0
+IsReadFault bytes Fault.Memory = Unit {0}
+IsReadFault bytes fault = IsDocumentFault bytes fault
+
 -- of pieces that are to be a content; memory may be refused at any time
 abbrev pub IsContentFault : List ℕ → List Piece → Fault → Type 0
 IsContentFault bytes pieces Fault.Memory = Unit {0}

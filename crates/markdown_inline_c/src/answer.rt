@@ -1,6 +1,6 @@
 //! Hands out what was found, in an array that the caller lends.
 
-ghost use Rattle.std.specs.Prelude.{◌≡◌, IfErr, IfOk};
+ghost use Rattle.std.specs.Prelude.{◌≡◌, ◌≤◌, ◌++◌, drop, length, IfErr, IfOk};
 ghost use Rattle.markdown_inline_c.specs.Answers.{IsHandedOut};
 ghost use Rattle.markdown_inline_c.specs.Statuses.{fault_status};
 
@@ -28,4 +28,12 @@ pub fn answer<X, F: Found<X> + Drop>(
         }
         Err(fault) => fault.status(),
     }
+}
+
+/// Writes what was found to the front of an array that has room for it.
+pub(crate) fn write_front<X: Copy>(found: &[X], array: &mut [X])
+    requires { length found.now ≤ length array.old }
+    ensures { array.new ≡ found.now ++ drop (length found.now) array.old }
+{
+    array[..found.len()].copy_from_slice(found);
 }

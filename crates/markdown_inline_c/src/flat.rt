@@ -154,6 +154,48 @@ pub struct FlatContent {
     pub reserved: u32,
 }
 
+/// A block of a document.
+#[repr(C)]
+#[derive(Clone, Copy, Debug, PartialEq, Eq)]
+pub struct FlatBlock {
+    /// The numbers of its pieces among those of all blocks.
+    pub pieces: Range,
+    /// How many containers stand round it.
+    pub depth: usize,
+    /// The level of a heading, the number of an item of an ordered list, or the kind of HTML, from 1; else 0.
+    pub number: usize,
+    /// The number of its kind, in the order of `BlockKind`.
+    pub kind: u8,
+    /// The byte of the marker of an item, or of a fence; else 0.
+    pub marker: u8,
+    /// Of an item, whether it begins its list, ends it, and whether the list is loose, each by a bit from the lowest.
+    pub list: u8,
+    /// Nothing: it is 0.
+    pub reserved: u8,
+    /// Nothing: it is 0.
+    pub reserved_too: u32,
+}
+
+/// How many blocks a document has, and how many pieces these have.
+#[repr(C)]
+#[derive(Clone, Copy, Debug, PartialEq, Eq)]
+pub struct BlocksCount {
+    /// How many blocks there are.
+    pub blocks: usize,
+    /// How many pieces they have.
+    pub pieces: usize,
+}
+
+/// How many definitions a document has, and how many bytes their labels, destinations and titles have.
+#[repr(C)]
+#[derive(Clone, Copy, Debug, PartialEq, Eq)]
+pub struct DefinitionsCount {
+    /// How many definitions there are.
+    pub definitions: usize,
+    /// How many bytes their labels, destinations and titles have.
+    pub labels: usize,
+}
+
 pub(crate) fn piece_of(piece: FlatPiece) -> Piece
     ensures { result ≡ piece_of piece }
 {

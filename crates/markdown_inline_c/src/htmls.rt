@@ -82,7 +82,8 @@ fn spend(
     }
 }
 
-fn limit_of(limit: usize) -> Option<usize>
+// The limit by its number, where 0 is none.
+pub(crate) fn limit_of(limit: usize) -> Option<usize>
     ensures { result ≡ limit_of limit }
 {
     if limit == 0 { None } else { Some(limit) }

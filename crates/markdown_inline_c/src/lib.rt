@@ -15,6 +15,8 @@ ghost use Rattle.markdown_inline_c.specs.FlatInput.{pieces_of, string_setting, t
 ghost use Rattle.markdown_page_model.specs.PageHtml.{document_html};
 ghost use Rattle.markdown_inline_c.specs.FlatDocuments.{IsDocumentInput, IsDocumentHtmlFault};
 ghost use Rattle.markdown_inline_c.specs.FlatEvents.{flat_event};
+ghost use Rattle.markdown_inline_c.specs.FlatBlocks.{IsBlocksAnswer};
+ghost use Rattle.markdown_inline_c.specs.FlatDefinitions.{IsDefinitionsAnswer};
 ghost use Rattle.markdown_inline_c.specs.ShortEvents.{short_events};
 ghost use Rattle.markdown_inline_c.specs.FlatLeaves.{leaves_of};
 ghost use Rattle.markdown_inline_c.specs.FlatHtml.{html_of, html_options_of, IsHtmlInput};
@@ -28,8 +30,10 @@ ghost use Rattle.markdown_util.specs.Identifier.{identifier_of};
 ghost use Rattle.markdown_content.specs.Content.{IsContent, IsTextContent};
 
 pub mod answer;
+pub mod blocks;
 pub mod check;
 pub mod contents;
+pub mod definitions;
 pub mod document;
 pub mod fault;
 pub mod flat;
@@ -48,7 +52,12 @@ pub mod strings;
 pub mod texts;
 
 use answer::answer;
-use flat::{FlatContent, FlatEvent, FlatLeaf, FlatPiece, FlatTarget, Input, Range, ShortEvent};
+use blocks::{answer_blocks, found_blocks};
+use definitions::{answer_definitions, found_definitions};
+use flat::{
+    BlocksCount, DefinitionsCount, FlatBlock, FlatContent, FlatEvent, FlatLeaf, FlatPiece,
+    FlatTarget, Input, Range, ShortEvent,
+};
 use form::{Large, Short};
 use htmls::htmls;
 use line_pieces::write_line_pieces;
@@ -332,20 +341,23 @@ pub extern "C" fn markdown_inline_html_of(
 /// The HTML of a document: of its blocks and of what is inside them, by CommonMark 0.31.2. No text becomes markup and no link leads to a script, unless
 /// the options say otherwise; they are those of `markdown_inline_html`.
 ///
+/// Where definitions bring more than `limit` bytes to all texts of the document together, the status is 11; 0 is no limit.
+///
 /// With status 0 the HTML, in UTF-8, stands at the front of `html`, and `count` is how many bytes it has. With status 6 `count` is that too, and
-/// they are more than there is room for. The status is 2, 9, 3 or 5 too. Nothing else is written.
+/// they are more than there is room for. The status is 2, 9, 3, 11 or 5 too. Nothing else is written.
 #[unsafe(no_mangle)]
 pub extern "C" fn markdown_inline_document_html(
     alloc: Global,
     bytes: &[u8],
     html_options: u32,
+    limit: usize,
     html: &mut [u8],
     count: &mut usize,
 ) -> u32
-    ensures { IsAnswer (document_html (html_options_of html_options) bytes.now) (IsDocumentInput bytes.now html_options) (IsDocumentHtmlFault bytes.now html_options) html.old html.new count.old count.new result }
+    ensures { IsAnswer (document_html (html_options_of html_options) bytes.now) (IsDocumentInput bytes.now html_options limit) (IsDocumentHtmlFault bytes.now html_options limit) html.old html.new count.old count.new result }
 {
     answer(
-        document::document_html(alloc, bytes, html_options),
+        document::document_html(alloc, bytes, html_options, limit),
         html,
         count,
     )
@@ -419,4 +431,50 @@ pub extern "C" fn markdown_inline_htmls(
         alloc, input, targets, contents, options, limit, html, ends, outcome,
     );
     outcome.ended(end, contents.len())
+}
+
+/// The blocks of a document, in its order, and the pieces of their texts (CommonMark 0.31, sections 4 and 5). A block that holds others stands before
+/// them, and they stand one deeper. Definitions are no text: a paragraph of definitions alone has no pieces.
+///
+/// The pieces of a heading or a paragraph are a text of the document, those of code and HTML are its lines; of fenced code the info string stands first.
+///
+/// With status 0 blocks and pieces stand at the fronts of the arrays, and `count` is how many they are. With status 6 `count` is that too, and one of
+/// the arrays has too little room. The status is 9, 3 or 5 too. Nothing else is written.
+#[unsafe(no_mangle)]
+pub extern "C" fn markdown_inline_blocks(
+    alloc: Global,
+    bytes: &[u8],
+    blocks: &mut [FlatBlock],
+    pieces: &mut [FlatPiece],
+    count: &mut BlocksCount,
+) -> u32
+    ensures { IsBlocksAnswer bytes.now blocks.old blocks.new pieces.old pieces.new count.old count.new result }
+{
+    answer_blocks(found_blocks(alloc, bytes), blocks, pieces, count)
+}
+
+/// The link reference definitions of a document, in its order, as an input takes them, with a target for each (CommonMark 0.31, section 4.7). Labels
+/// stand as they are written; in destinations and titles escapes and character references are resolved.
+///
+/// With status 0 they stand at the fronts of the arrays, and `count` is how many definitions there are, with as many targets, and how many bytes their labels,
+/// destinations and titles have. With status 6 `count` is that too, and one of the arrays has too little room. The status is 9, 3 or 5 too. Nothing else
+/// is written.
+#[unsafe(no_mangle)]
+pub extern "C" fn markdown_inline_definitions(
+    alloc: Global,
+    bytes: &[u8],
+    labels: &mut [u8],
+    definitions: &mut [Range],
+    targets: &mut [FlatTarget],
+    count: &mut DefinitionsCount,
+) -> u32
+    ensures { IsDefinitionsAnswer bytes.now labels.old labels.new definitions.old definitions.new targets.old targets.new count.old count.new result }
+{
+    answer_definitions(
+        found_definitions(alloc, bytes),
+        labels,
+        definitions,
+        targets,
+        count,
+    )
 }

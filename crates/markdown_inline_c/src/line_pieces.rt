@@ -13,7 +13,7 @@ use markdown_content::parser::Piece;
 use markdown_lines::lines::{LineFault, check_lines, pieces_of_lines};
 use std::alloc::Global;
 
-fn flat_piece(piece: Piece) -> FlatPiece
+pub(crate) fn flat_piece(piece: Piece) -> FlatPiece
     ensures { result ≡ flat_piece piece }
 {
     FlatPiece {

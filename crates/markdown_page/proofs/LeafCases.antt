@@ -9,6 +9,7 @@ use Rattle.markdown_blocks.specs.BlockRows.{leaf_of}
 use Rattle.markdown_blocks.specs.declared.block.Leaf.{Leaf}
 use Rattle.markdown_blocks.specs.declared.block.Leaf.TheVariants.{Blank, ThematicBreak, Heading, Underlined, Paragraph, IndentedCode, FencedCode, Html}
 use Rattle.markdown_page_model.specs.PageHtml.{leaf_html, language_class}
+use Rattle.markdown_page.specs.DocumentBrought.{block_brought, leaf_brought}
 use Rattle.markdown_page.specs.PlacedTree.{line_start, leaf_written}
 
 -- no blank line, and no paragraph
@@ -37,6 +38,16 @@ other-leaf s p tight in_line bytes (Paragraph text) e = absurd (cc)
 other-leaf s p tight in_line bytes (IndentedCode ls) e = refl
 other-leaf s p tight in_line bytes (FencedCode f info ls ended) e = refl
 other-leaf s p tight in_line bytes (Html k text ended) e = refl
+
+pub other-brought : (s : Setting) (p : Page) (bytes : List ℕ) (l : Leaf) → begins_line l ≡ true → leaf_brought s p (leaf_of bytes l) ≡ block_brought s p (leaf_of bytes l)
+other-brought s p bytes Blank e = absurd (cc)
+other-brought s p bytes ThematicBreak e = refl
+other-brought s p bytes (Heading n text) e = refl
+other-brought s p bytes (Underlined n text) e = refl
+other-brought s p bytes (Paragraph text) e = absurd (cc)
+other-brought s p bytes (IndentedCode ls) e = refl
+other-brought s p bytes (FencedCode f info ls ended) e = refl
+other-brought s p bytes (Html k text ended) e = refl
 
 pub class-some : (language : List ℕ) → (length language == 0) ≡ false → codes " class=\"language-" ++ escaped language ++ codes "\"" ≡ language_class language
 class-some [] e = absurd (cc)

@@ -1,4 +1,5 @@
 -- The proofs of this crate.
+pub mod BroughtRows
 pub mod DefinitionStringLemmas
 pub mod PieceBytes
 pub mod FilledLines
@@ -9,6 +10,7 @@ pub mod LineTexts
 pub mod ListSteps
 pub mod ListTrees
 pub mod NextItems
+pub mod NothingBrought
 pub mod PageSettings
 pub mod PlacedHtml
 pub mod PlacedRows

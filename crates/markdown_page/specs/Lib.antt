@@ -1,4 +1,8 @@
 -- The definitions of this crate.
+-- What has to be believed: what the public contracts cite.
+pub mod DocumentBrought
+-- What serves proofs: what functions and proofs promise each other.
+pub mod BroughtSoFar
 pub mod DefinitionStrings
 pub mod BlankPieces
 pub mod CodeLines

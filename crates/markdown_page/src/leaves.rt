@@ -1,17 +1,20 @@
 //! Leaves.
 
-ghost use Rattle.std.specs.Prelude.{◌≡◌, ◌++◌, OnOk, codes, decimal};
+ghost use Rattle.std.specs.Prelude.{◌≡◌, ◌++◌, IfErr, OnOk, codes, decimal};
 ghost use Rattle.markdown_content.specs.Content.{content_of, IsTextContent};
 ghost use Rattle.markdown_block_definitions.specs.ResolvedRows.{IsTextWithPieces, IsTextLeaf};
 ghost use Rattle.markdown_block_model.specs.BlockTree.{paragraph};
 ghost use Rattle.markdown_blocks.specs.BlockRows.{leaf_of};
 ghost use Rattle.markdown_page_model.specs.PageHtml.{text_html, heading_html, on_line, leaf_html};
+ghost use Rattle.markdown_page.specs.DocumentBrought.{block_brought, leaf_brought, text_brought};
+ghost use Rattle.markdown_page.specs.BroughtSoFar.{IsSpent, IsStop};
 ghost use Rattle.markdown_page.specs.GivenPage.{bytes_of, setting_of, page_of};
 ghost use Rattle.markdown_page.specs.PlacedTree.{leaf_written, is_in_line_behind};
 
 use crate::code::{push_fenced, push_indented};
 use crate::given::Given;
 use crate::html::push_html;
+use crate::limit::Stop;
 use crate::tags::{push_ending, push_line_start, push_number, push_on_line};
 use crate::texts::push_text;
 use markdown_blocks::block::Leaf;
@@ -32,16 +35,19 @@ fn push_heading(
     alloc: Global,
     given: &Given,
     out: &mut Vec<u8>,
+    left: &mut Option<usize>,
     level: usize,
     text: &[Piece],
-) -> Result<(), AllocError>
+) -> Result<(), Stop>
     requires { IsTextContent (bytes_of given.now) text.now }
-    ensures { let g = given.now in OnOk result (out.new.items ≡ out.old.items ++ heading_html (page_of g) level (text_html (setting_of g) (page_of g) (content_of (bytes_of g) text.now))) }
+    ensures html { let g = given.now in OnOk result (out.new.items ≡ out.old.items ++ heading_html (page_of g) level (text_html (setting_of g) (page_of g) (content_of (bytes_of g) text.now))) }
+    ensures spent { let g = given.now in OnOk result (IsSpent left.old (text_brought (setting_of g) (page_of g) (content_of (bytes_of g) text.now)) left.new) }
+    ensures stop { let g = given.now in IfErr result (IsStop left.old (text_brought (setting_of g) (page_of g) (content_of (bytes_of g) text.now))) }
 {
     push_heading_tag(out, b"<h", level)?;
-    push_text(alloc, given, out, text)?;
+    push_text(alloc, given, out, left, text)?;
     push_heading_tag(out, b"</h", level)?;
-    push_ending(given, out)
+    Ok(push_ending(given, out)?)
 }
 
 // Appends a paragraph (CommonMark 4.8).
@@ -49,15 +55,18 @@ fn push_paragraph(
     alloc: Global,
     given: &Given,
     out: &mut Vec<u8>,
+    left: &mut Option<usize>,
     text: &[Piece],
-) -> Result<(), AllocError>
+) -> Result<(), Stop>
     requires { IsTextContent (bytes_of given.now) text.now }
-    ensures { let g = given.now in OnOk result (out.new.items ≡ out.old.items ++ on_line (page_of g) (codes "<p>" ++ text_html (setting_of g) (page_of g) (content_of (bytes_of g) text.now) ++ codes "</p>")) }
+    ensures html { let g = given.now in OnOk result (out.new.items ≡ out.old.items ++ on_line (page_of g) (codes "<p>" ++ text_html (setting_of g) (page_of g) (content_of (bytes_of g) text.now) ++ codes "</p>")) }
+    ensures spent { let g = given.now in OnOk result (IsSpent left.old (text_brought (setting_of g) (page_of g) (content_of (bytes_of g) text.now)) left.new) }
+    ensures stop { let g = given.now in IfErr result (IsStop left.old (text_brought (setting_of g) (page_of g) (content_of (bytes_of g) text.now))) }
 {
     out.extend_from_slice(b"<p>")?;
-    push_text(alloc, given, out, text)?;
+    push_text(alloc, given, out, left, text)?;
     out.extend_from_slice(b"</p>")?;
-    push_ending(given, out)
+    Ok(push_ending(given, out)?)
 }
 
 // Appends a leaf that begins a line: any but a blank line, and a paragraph without text.
@@ -65,22 +74,32 @@ fn push_block(
     alloc: Global,
     given: &Given,
     out: &mut Vec<u8>,
+    left: &mut Option<usize>,
     leaf: &Leaf,
-) -> Result<(), AllocError>
+) -> Result<(), Stop>
     requires { IsTextLeaf (bytes_of given.now) leaf.now }
-    ensures { let g = given.now in OnOk result (out.new.items ≡ out.old.items ++ leaf_html (setting_of g) (page_of g) (leaf_of (bytes_of g) leaf.now)) }
+    ensures html { let g = given.now in OnOk result (out.new.items ≡ out.old.items ++ leaf_html (setting_of g) (page_of g) (leaf_of (bytes_of g) leaf.now)) }
+    ensures spent { let g = given.now in OnOk result (IsSpent left.old (block_brought (setting_of g) (page_of g) (leaf_of (bytes_of g) leaf.now)) left.new) }
+    ensures stop { let g = given.now in IfErr result (IsStop left.old (block_brought (setting_of g) (page_of g) (leaf_of (bytes_of g) leaf.now))) }
 {
     match leaf {
         Leaf::Blank => Ok(()),
-        Leaf::ThematicBreak => push_on_line(given, out, b"<hr />"),
-        Leaf::Heading(level, text) => push_heading(alloc, given, out, *level, &[*text]),
-        Leaf::Underlined(level, text) => push_heading(alloc, given, out, *level, text.as_slice()),
-        Leaf::Paragraph(text) => push_paragraph(alloc, given, out, text.as_slice()),
-        Leaf::IndentedCode(lines) => push_indented(given, out, lines.as_slice()),
+        Leaf::ThematicBreak => Ok(push_on_line(given, out, b"<hr />")?),
+        Leaf::Heading(level, text) => push_heading(alloc, given, out, left, *level, &[*text]),
+        Leaf::Underlined(level, text) => push_heading(
+            alloc,
+            given,
+            out,
+            left,
+            *level,
+            text.as_slice(),
+        ),
+        Leaf::Paragraph(text) => push_paragraph(alloc, given, out, left, text.as_slice()),
+        Leaf::IndentedCode(lines) => Ok(push_indented(given, out, lines.as_slice())?),
         Leaf::FencedCode(_, info, lines, _) => {
-            push_fenced(alloc, given, out, *info, lines.as_slice())
+            Ok(push_fenced(alloc, given, out, *info, lines.as_slice())?)
         }
-        Leaf::Html(_, text, _) => push_html(given, out, text.as_slice()),
+        Leaf::Html(_, text, _) => Ok(push_html(given, out, text.as_slice())?),
     }
 }
 
@@ -89,21 +108,24 @@ fn push_paragraph_in(
     alloc: Global,
     given: &Given,
     out: &mut Vec<u8>,
+    left: &mut Option<usize>,
     is_tight: bool,
     in_line: bool,
     text: &[Piece],
-) -> Result<(), AllocError>
+) -> Result<(), Stop>
     requires { IsTextWithPieces (bytes_of given.now) text.now }
-    ensures { let g = given.now in OnOk result (out.new.items ≡ out.old.items ++ leaf_written (setting_of g) (page_of g) is_tight in_line (paragraph (content_of (bytes_of g) text.now))) }
+    ensures html { let g = given.now in OnOk result (out.new.items ≡ out.old.items ++ leaf_written (setting_of g) (page_of g) is_tight in_line (paragraph (content_of (bytes_of g) text.now))) }
+    ensures spent { let g = given.now in OnOk result (IsSpent left.old (leaf_brought (setting_of g) (page_of g) (paragraph (content_of (bytes_of g) text.now))) left.new) }
+    ensures stop { let g = given.now in IfErr result (IsStop left.old (leaf_brought (setting_of g) (page_of g) (paragraph (content_of (bytes_of g) text.now)))) }
 {
     if text.is_empty() {
         return Ok(());
     }
     if is_tight {
-        return push_text(alloc, given, out, text);
+        return push_text(alloc, given, out, left, text);
     }
     push_line_start(given, out, in_line)?;
-    push_paragraph(alloc, given, out, text)
+    push_paragraph(alloc, given, out, left, text)
 }
 
 // Appends a leaf. `is_tight` says that it stands right in an item of a tight list, and `in_line` that no line begins behind what is written.
@@ -111,21 +133,24 @@ pub(crate) fn push_leaf(
     alloc: Global,
     given: &Given,
     out: &mut Vec<u8>,
+    left: &mut Option<usize>,
     is_tight: bool,
     in_line: bool,
     leaf: &Leaf,
-) -> Result<(), AllocError>
+) -> Result<(), Stop>
     requires { IsTextLeaf (bytes_of given.now) leaf.now }
-    ensures { let g = given.now in OnOk result (out.new.items ≡ out.old.items ++ leaf_written (setting_of g) (page_of g) is_tight in_line (leaf_of (bytes_of g) leaf.now)) }
+    ensures html { let g = given.now in OnOk result (out.new.items ≡ out.old.items ++ leaf_written (setting_of g) (page_of g) is_tight in_line (leaf_of (bytes_of g) leaf.now)) }
+    ensures spent { let g = given.now in OnOk result (IsSpent left.old (leaf_brought (setting_of g) (page_of g) (leaf_of (bytes_of g) leaf.now)) left.new) }
+    ensures stop { let g = given.now in IfErr result (IsStop left.old (leaf_brought (setting_of g) (page_of g) (leaf_of (bytes_of g) leaf.now))) }
 {
     match leaf {
         Leaf::Blank => Ok(()),
         Leaf::Paragraph(text) => {
-            push_paragraph_in(alloc, given, out, is_tight, in_line, text.as_slice())
+            push_paragraph_in(alloc, given, out, left, is_tight, in_line, text.as_slice())
         }
         _ => {
             push_line_start(given, out, in_line)?;
-            push_block(alloc, given, out, leaf)
+            push_block(alloc, given, out, left, leaf)
         }
     }
 }

@@ -7,6 +7,7 @@ pub mod document;
 mod given;
 mod html;
 mod leaves;
+mod limit;
 mod lines;
 pub mod lists;
 mod page;

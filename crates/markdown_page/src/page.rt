@@ -1,6 +1,6 @@
 //! The HTML of a document whose blocks and definitions are read.
 
-ghost use Rattle.std.specs.Prelude.{◌≡◌, [], All, IfOk, map, string_bytes};
+ghost use Rattle.std.specs.Prelude.{◌≡◌, [], All, IfErr, IfOk, map, string_bytes};
 ghost use Rattle.markdown_block_definitions.specs.ResolvedRows.{IsTextRow};
 ghost use Rattle.markdown_block_model.specs.BlockTree as model;
 ghost use Rattle.markdown_block_model.specs.LinkDefinitions.{definitions, document_tree, identifier};
@@ -8,18 +8,22 @@ ghost use Rattle.markdown_blocks.specs.BlockRows.{rows_from};
 ghost use Rattle.markdown_blocks.specs.NestedRows.{AreNested};
 ghost use Rattle.markdown_html_model.specs.Resolved.{decoding_of};
 ghost use Rattle.markdown_page_model.specs.PageHtml.{commonmark, defined_by, document_html};
+ghost use Rattle.markdown_page.specs.DocumentBrought.{IsBeyond, document_brought};
+ghost use Rattle.markdown_page.specs.BroughtSoFar.{IsStop};
 ghost use Rattle.markdown_page.specs.ListPlaces.{places_in};
 
 use crate::given::Given;
+use crate::limit::Stop;
 use crate::lists::Place;
 use crate::write::write;
 use markdown_blocks::block::Row;
 use markdown_document::document::Document;
 use markdown_html::targets::Targets;
 use markdown_html_model::options::HtmlOptions;
-use std::alloc::{AllocError, Global};
+use std::alloc::Global;
 
-// The HTML of a document, of its rows with their places, and of what its labels are defined to be.
+// The HTML of a document, of its rows with their places, and of what its labels are defined to be, if definitions bring no more to it than the limit, where
+// there is one.
 pub(crate) fn page_html(
     alloc: Global,
     document: &Document,
@@ -27,7 +31,8 @@ pub(crate) fn page_html(
     options: HtmlOptions,
     rows: &[Row],
     places: &[Place],
-) -> Result<Vec<u8>, AllocError>
+    limit: Option<usize>,
+) -> Result<Vec<u8>, Stop>
     requires options { document.now.options.now ≡ commonmark }
     requires names { map string_bytes document.now.definitions.items ≡ map identifier (definitions document.now.bytes.now) }
     requires footnotes { map string_bytes document.now.gfm_footnote_definitions.items ≡ [] }
@@ -36,12 +41,14 @@ pub(crate) fn page_html(
     requires texts { All (IsTextRow document.now.bytes.now) rows.now }
     requires places { places.now ≡ places_in None (rows_from document.now.bytes.now model.nothing rows.now) }
     requires tree { rows_from document.now.bytes.now model.nothing rows.now ≡ document_tree document.now.bytes.now }
-    ensures { IfOk result (λ html. html.items ≡ document_html options document.now.bytes.now) }
+    ensures html { IfOk result (λ html. html.items ≡ document_html options document.now.bytes.now) }
+    ensures within { IfOk result (λ _. IsBeyond limit (document_brought options document.now.bytes.now) → ⊥) }
+    ensures stop { IfErr result (IsStop limit (document_brought options document.now.bytes.now)) }
 {
     let given = Given {
         document,
         targets,
         options,
     };
-    write(alloc, &given, rows, places)
+    write(alloc, &given, rows, places, limit)
 }

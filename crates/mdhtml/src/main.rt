@@ -4,17 +4,22 @@
 use markdown_files::fault::Fault;
 use markdown_files::files::{self, Program};
 use markdown_html_model::options::{HtmlOptions, LineEnds};
-use markdown_page::document::to_html;
+use markdown_page::document::{Page, to_html_within};
 use std::alloc::Global;
 use std::process::ExitCode;
 
 // What some editors write before a file's text; it is no part of the document.
 const BYTE_ORDER_MARK: &[u8] = b"\xEF\xBB\xBF";
 
+// How many bytes definitions may bring to a file that has no more.
+const LEAST_LIMIT: usize = 100_000;
+
 // Writes HTML with these options.
 #[derive(Drop)]
 struct Html {
     options: HtmlOptions,
+    // Whether there is a limit on what definitions bring.
+    is_limited: bool,
 }
 
 impl Program for Html {
@@ -32,6 +37,7 @@ Words
     --raw         HTML is written as it stands; else it is text
     --any-link    links lead wherever they say; else to listed schemes alone
     --lf, --crlf  each line ending is written so; else those of the file stay
+    --no-limit    definitions may bring any number of bytes; else 100,000, or as many as the file has where it has more
 
 Statuses, of the first fault; a line on standard error says why
     0  the HTML was written
@@ -39,6 +45,7 @@ Statuses, of the first fault; a line on standard error says why
     3  a file is not UTF-8
     5  memory was refused
     6  reading or writing failed
+    7  definitions bring more than they may
 ";
 
     const VERSION: &'static str = "mdhtml 1.0.0\n";
@@ -46,6 +53,7 @@ Statuses, of the first fault; a line on standard error says why
     fn new() -> Html {
         Html {
             options: HtmlOptions::safe(),
+            is_limited: true,
         }
     }
 
@@ -55,6 +63,7 @@ Statuses, of the first fault; a line on standard error says why
             "--any-link" => self.options.any_link = true,
             "--lf" => self.options.line_ends = LineEnds::Lf,
             "--crlf" => self.options.line_ends = LineEnds::CrLf,
+            "--no-limit" => self.is_limited = false,
             _ => return false,
         }
         true
@@ -62,9 +71,15 @@ Statuses, of the first fault; a line on standard error says why
 
     fn output(&self, alloc: Global, _file: Option<&str>, bytes: &[u8]) -> Result<Vec<u8>, Fault> {
         let text = bytes.strip_prefix(BYTE_ORDER_MARK).unwrap_or(bytes);
-        match to_html(alloc, text, self.options)? {
-            Some(html) => Ok(html),
-            None => Err(Fault::NotText),
+        let limit = if self.is_limited {
+            Some(text.len().max(LEAST_LIMIT))
+        } else {
+            None
+        };
+        match to_html_within(alloc, text, self.options, limit)? {
+            Page::Html(html) => Ok(html),
+            Page::NoDocument => Err(Fault::NotText),
+            Page::BeyondLimit => Err(Fault::References),
         }
     }
 }

@@ -1,7 +1,9 @@
-use Rattle.std.proofs.Common.{Result, Ok, Err, IfOk}
+use Rattle.std.proofs.Common.{ℕ, subst, Result, Ok, Err, IfErr, IfOk}
 use Rattle.markdown_block_model.specs.BlockTree as model
 use Rattle.markdown_blocks.specs.BlockRows.{rows_from}
-use Rattle.markdown_page.proofs.PageSettings.{same-html}
+use Rattle.markdown_page.specs.DocumentBrought.{IsBeyond}
+use Rattle.markdown_page.specs.BroughtSoFar.{IsStop}
+use Rattle.markdown_page.proofs.PageSettings.{same-brought, same-html}
 use Rattle.markdown_page.proofs.page.page_html.Goals as goal
 
 -- what follows for each value
@@ -9,7 +11,17 @@ if-ok-more : {T E : Type 0} (r : Result T E) (P Q : T → Type 0) → ((x : T) �
 if-ok-more (Ok x) P Q f h = f x h
 if-ok-more (Err e) P Q f h = tt
 
-pub returns : goal.returns
-returns c = if-ok-more c.write.result _ _
+pub returns-clause-html : goal.returns-clause-html
+returns-clause-html c = if-ok-more c.write.result _ _
     (λ html h. same-html c.args.document.now c.requires.options c.args.targets.now c.args.options (rows_from c.args.document.now.bytes.now model.nothing c.args.rows.now) html.items c.requires.names c.requires.footnotes c.requires.targets c.requires.tree h)
-    c.write.ensures
+    c.write.ensures.html
+
+pub returns-clause-within : goal.returns-clause-within
+returns-clause-within c =
+    let same = same-brought c.args.document.now c.requires.options c.args.targets.now c.args.options (rows_from c.args.document.now.bytes.now model.nothing c.args.rows.now) c.requires.names c.requires.footnotes c.requires.targets c.requires.tree in
+    subst (λ (n : ℕ). IfOk c.write.result (λ _. IsBeyond c.args.limit n → ⊥)) same c.write.ensures.within
+
+pub returns-clause-stop : goal.returns-clause-stop
+returns-clause-stop c =
+    let same = same-brought c.args.document.now c.requires.options c.args.targets.now c.args.options (rows_from c.args.document.now.bytes.now model.nothing c.args.rows.now) c.requires.names c.requires.footnotes c.requires.targets c.requires.tree in
+    subst (λ (n : ℕ). IfErr c.write.result (IsStop c.args.limit n)) same c.write.ensures.stop

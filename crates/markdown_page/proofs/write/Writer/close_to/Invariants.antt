@@ -1,4 +1,4 @@
-use Rattle.std.proofs.Common.{◌≤◌}
+use Rattle.std.proofs.Common.{◌≡◌, ◌≤◌}
 use Rattle.markdown_page.specs.GivenPage.{setting_of, page_of}
 use Rattle.markdown_page.specs.PlacedTree.{PlacedTree}
 use Rattle.markdown_page.specs.WriterStates.{IsWrittenSoFar, depth}
@@ -8,6 +8,7 @@ abbrev pub invariant-loop-self : goal.invariant-loop-self
 invariant-loop-self l = record {
   within : l.count ≤ depth l.self;
   written : (t : PlacedTree) → IsWrittenSoFar (setting_of l.given) (page_of l.given) t l.initial.self → IsWrittenSoFar (setting_of l.given) (page_of l.given) t l.self;
+  left : l.self.left ≡ l.initial.self.left;
 }
 
 abbrev pub decreases-loop-self : goal.decreases-loop-self

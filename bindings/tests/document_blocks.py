@@ -1,0 +1,274 @@
+"""The blocks of documents, and what stands in their texts. A renderer made of them writes the HTML that `document_html` writes."""
+import copy
+import os
+import pickle
+import random
+import re
+import sys
+import time
+import unittest
+from unittest import mock
+
+from markdown_inline import (
+    BlockKind, Content, Definition, Kind, Name, NotUtf8, Piece, References, TooLong, UnknownOption, _library, _tables, blocks, document_html, htmls, links, short_texts, texts)
+
+sys.dont_write_bytecode = True
+sys.path.insert(0, os.path.join(os.path.dirname(os.path.abspath(__file__)), '../../crates/markdown_page_examples/tools'))
+import pages  # noqa: E402
+
+DOCUMENT = '''# é *a*
+
+> 3) [b][B] ![c](/d)
+>    `e`
+>
+> 4) ~~~ f&amp;g
+>    \th
+>    ~~~
+
+***
+- i
+- [x] <jj:k>
+<!-- l
+
+m
+=
+[b]: </n> "o"
+'''
+# Of each block its kind, depth and number, its marker, whether it begins and ends its list, whether that is loose, its line, and its lines.
+ROWS = [
+    ('Heading', 0, 1, None, False, False, False, 1, ['é *a*']), ('BlankLine', 0, 0, None, False, False, False, None, []),
+    ('Quote', 0, 0, None, False, False, False, None, []), ('Item', 1, 3, ')', True, False, True, None, []),
+    ('Paragraph', 2, 0, None, False, False, False, 3, ['[b][B] ![c](/d)\n', '`e`']), ('BlankLine', 2, 0, None, False, False, False, None, []),
+    ('Item', 1, 4, ')', False, True, True, None, []), ('FencedCode', 2, 0, '~', False, False, False, 6, ['\th\n']),
+    ('BlankLine', 0, 0, None, False, False, False, None, []), ('ThematicBreak', 0, 0, None, False, False, False, None, []),
+    ('Item', 0, 0, '-', True, False, False, None, []), ('Paragraph', 1, 0, None, False, False, False, 11, ['i']),
+    ('Item', 0, 0, '-', False, True, False, None, []), ('Paragraph', 1, 0, None, False, False, False, 12, ['[x] <jj:k>']),
+    ('Html', 0, 2, None, False, False, False, 13, ['<!-- l\n', '\n', 'm\n', '=\n', '[b]: </n> "o"\n']),
+]
+# What drawn documents are made of.
+PARTS = ['a', 'é', ' ', '  ', '   ', '    ', '\t', '\n', '\n', '\n', '\n\n', '\r\n', '\r', '- ', '+ ', '* ', '1. ', '23) ', '-', '> ', '>', '# ', '##', '=', '---', '***', '```', '~~~ b&amp; c', '```\n',
+         '<div>', '</div>', '<!--', '-->', '<pre>', '<i>', '[r]: /s "t"\n', '[r]: ', '[r]', '*b*', '[c](d)', '`e`', '\\', '"', '&', '\0', '- [ ] ']
+SIGNS = {'&': '&amp;', '<': '&lt;', '>': '&gt;', '"': '&quot;', '\0': '\ufffd'}
+
+
+def escaped(text):
+    return ''.join(SIGNS.get(it, it) for it in text)
+
+
+class Writer:
+    """Writes the HTML of blocks (CommonMark 4 and 5)."""
+
+    def __init__(self, raw_html):
+        # The open containers, and whether no line begins behind what is written.
+        self.raw_html, self.parts, self.opened, self.in_line = raw_html, [], [], False
+
+    def write(self, found):
+        for block in found:
+            self.close(block.depth)
+            if block.kind == BlockKind.BlankLine or block.kind == BlockKind.Paragraph and not block.pieces:
+                continue
+            is_tight = block.kind == BlockKind.Paragraph and self.opened and self.opened[-1].kind == BlockKind.Item and not self.opened[-1].is_loose
+            self.parts.append(block.html if is_tight else '\n' * self.in_line + self.opening(block))
+            self.in_line = is_tight or block.kind == BlockKind.Item
+            if block.kind in (BlockKind.Quote, BlockKind.Item):
+                self.opened.append(block)
+        self.close(0)
+        return ''.join(self.parts)
+
+    def close(self, depth):
+        while len(self.opened) > depth:
+            block, self.in_line = self.opened.pop(), False
+            self.parts.append('</blockquote>\n' if block.kind == BlockKind.Quote else '</li>\n' + ('</%s>\n' % self.list_of(block)) * block.ends_list)
+
+    def list_of(self, block):
+        return 'ol' if block.marker in ('.', ')') else 'ul'
+
+    def opening(self, block):
+        if block.kind == BlockKind.Quote:
+            return '<blockquote>\n'
+        if block.kind != BlockKind.Item:
+            return self.leaf(block)
+        start = ' start="%d"' % block.number if block.marker in ('.', ')') and block.number != 1 else ''
+        return '<%s%s>\n' % (self.list_of(block), start) * block.begins_list + '<li>'
+
+    def leaf(self, block):
+        if block.kind == BlockKind.ThematicBreak:
+            return '<hr />\n'
+        if block.kind == BlockKind.Heading:
+            return '<h%d>%s</h%d>\n' % (block.number, block.html, block.number)
+        if block.kind == BlockKind.Paragraph:
+            return '<p>%s</p>\n' % block.html
+        lines = block.lines
+        if block.kind == BlockKind.Html:
+            return ''.join(it if self.raw_html else escaped(it) for it in ended(lines))
+        while block.kind == BlockKind.IndentedCode and not lines[-1].strip(' \t\r\n'):
+            lines.pop()
+        language = next(filter(None, re.split('[ \t\n\f\r]', block.info or '')), '')
+        return '<pre><code%s>%s</code></pre>\n' % (' class="language-%s"' % escaped(language) if language else '', escaped(''.join(ended(lines))))
+
+
+def ended(lines):
+    """Lines with their line endings, and one where the document ends without."""
+    return (it if it.endswith(('\n', '\r')) else it + '\n' for it in lines)
+
+
+class Rendered(unittest.TestCase):
+    def test_pages(self):
+        rows = [pages.read(row) for groups in pages.rows().values() for group in groups.values() for row in group]
+        self.assertGreaterEqual(len(rows), 652)
+        for _, document, _ in rows:
+            for asked in ({}, {'raw_html': True, 'any_link': True}):
+                for given in (document, document.encode()):
+                    found = blocks(given, reference_limit=0, **asked)
+                    self.assertEqual(Writer(bool(asked)).write(found), document_html(given, reference_limit=0, **asked), document)
+
+    def test_drawn(self):
+        draw = random.Random(1)
+        for _ in range(250):
+            document = ''.join(draw.choice(PARTS) for _ in range(draw.choice([3, 10, 30])))
+            for asked in ({}, {'raw_html': True, 'any_link': True}):
+                self.assertEqual(Writer(bool(asked)).write(blocks(document, **asked)), document_html(document, **asked), document)
+
+
+class Blocks(unittest.TestCase):
+    def test_rows(self):
+        for given in (DOCUMENT, DOCUMENT.encode()):
+            found = [(str(it.kind), it.depth, it.number, it.marker, it.begins_list, it.ends_list, it.is_loose, it.line, it.lines) for it in blocks(given)]
+            self.assertEqual(found, ROWS)
+        self.assertEqual([it.info for it in blocks(DOCUMENT) if it.kind == BlockKind.FencedCode], ['f&g'])
+        self.assertEqual(blocks('# é *a*')[0].pieces, [Piece(2, 8)])
+
+    def test_kinds(self):
+        self.assertEqual([''.join(map(str.capitalize, it.split('_'))) for it in _tables.BLOCKS], [str(it) for it in BlockKind])
+
+    def test_texts(self):
+        """Each text is what the calls for many contents find in its pieces."""
+        document, asked = DOCUMENT.replace('<!--', '!'), {'gfm': True, 'math': True, 'footnotes': ['p']}
+        for given in (document, document.encode()):
+            found = blocks(given, **asked)
+            having = [it for it in found if it.content is not None]
+            self.assertEqual([it.content for it in having], list(range(len(having))))
+            contents, defined = [Content(it.pieces, it.lines[:1] == ['[x] <jj:k>\n']) for it in having], {'b': ('/n', 'o')}
+            self.assertEqual(([it.first_of_item for it in contents].count(True), contents[-1].pieces), (1, []))
+            self.assertEqual([it.events for it in having], texts(given, contents, definitions=defined, **asked))
+            self.assertEqual([it.short_events for it in having], short_texts(given, contents, definitions=defined, **asked))
+            self.assertEqual([it.html for it in having], htmls(given, contents, definitions=defined, **asked))
+            self.assertEqual(found.links, links(given, contents, definitions=defined, **asked))
+            self.assertEqual([it for block in found for it in block.links], found.links)
+            self.assertEqual((found.texts, found.short_texts, found.htmls), ([it.events for it in having], [it.short_events for it in having], [it.html for it in having]))
+            for it in found:
+                if it.content is None:
+                    self.assertEqual((it.events, it.short_events, it.html, it.links), ([], [], '', []))
+
+    def test_places(self):
+        found = blocks(DOCUMENT)
+        self.assertEqual([(it.line, it.column, it.index, it.character) for block in found for it in block.events if it.kind == Kind.Enter and it.name == Name.Emphasis], [(1, 6, 5, 4)])
+        self.assertEqual([(it.kind, it.line, it.column, it.destination, it.title) for it in found.links], [
+            ('image', 3, 13, '/d', None), ('autolink', 12, 7, 'jj:k', None)])
+        for columns, column in (('bytes', 6), ('characters', 5), ('utf-16', 5)):
+            self.assertEqual(blocks('> é [a](b)', columns=columns).links[0].column, column)
+
+    def test_definitions(self):
+        found = blocks('[A]: /b "c"\n[a]: <d&amp;\\*>\n\n> [é\n> f]:\n> g\n\n[a] [é f]')
+        self.assertEqual(found.definitions, [Definition('A', '/b', 'c'), Definition('a', 'd&*', None), Definition('é\nf', 'g', None)])
+        self.assertEqual([(it.destination, it.title, it.definition) for it in found.links], [('/b', 'c', 0), ('g', None, 2)])
+        self.assertEqual([it.pieces for it in found if it.kind == BlockKind.Paragraph][0], [])
+        self.assertEqual([it.html for it in found if it.html], ['<a href="/b" title="c">a</a> <a href="g">é f</a>'])
+        self.assertEqual((blocks('').definitions, list(blocks('')), blocks('').texts, blocks('').htmls, blocks('').links), ([], [], [], [], []))
+
+    def test_checks_of_tasks(self):
+        """A check may stand in the first paragraph right in an item, behind blank lines and definitions alone."""
+        for document, count in (
+            ('- [x] a\n', 1), ('- [x] a\n- b\n- [ ] c', 2), ('1. [x] a\n\n   [x] b', 1), ('-\n  [x] a', 1), ('- [r]: /s\n\n  [x] a', 1), ('- [r]: /s\n  [x] a', 1), ('[x] a', 0), ('> [x] a', 0),
+            ('- > [x] a', 0), ('- # [x] a', 0), ('- # a\n\n  [x] b', 0), ('- ***\n  [x] a', 0), ('- a\n\n[x] b', 0), ('-\n\n[x] a', 0), ('- - [x] a', 1), ('- [x] a\n  - [x] b\n\n  [x] c', 2),
+            ('- [x] a\n=', 1), ('- [x] a\n  =', 0), ('-\n- [x] a', 1), ('- -\n\n  [x] a', 0),
+        ):
+            for found, wanted in ((blocks(document, gfm=True), count), (blocks(document), 0)):
+                checks = [it for block in found for it in block.events if it.kind == Kind.Enter and it.name == Name.GfmTaskListItemCheck]
+                self.assertEqual((len(checks), ''.join(found.htmls).count('checkbox')), (wanted, wanted), document)
+
+    def test_lines_with_tabs(self):
+        """Of a tab that a container cuts the columns that are left are spaces, and each other tab is a tab (CommonMark 2.2)."""
+        for document, wanted in (
+            ('-\t\ta\n', ['  a\n']), ('>\t\ta\n> \tb', ['  a\n']), ('\t\ta\tb\n \n', ['\ta\tb\n', '\n']), ('> ~~~\n>\t\té\r\n>', ['  \té\r\n', '']), ('1.\t~~~\n \t\té\n', ['\té\n']),
+            ('    a\n\n      b\n', ['a\n', '\n', '  b\n']), ('~~~', []),
+        ):
+            found, = [it for it in blocks(document) if it.kind in (BlockKind.IndentedCode, BlockKind.FencedCode)]
+            self.assertEqual(found.lines, wanted, document)
+        self.assertEqual(blocks('> <pre>a\n>')[1].lines, ['<pre>a\n'])
+
+    def test_one_call_for_all_texts(self):
+        found = blocks('a *b*\n\n[c]\n\n' * 50 + '[c]: d')
+        library, calls = _library.LIBRARY, []
+
+        class Counted:
+            def __getattr__(self, name):
+                calls.append(name)
+                return getattr(library, name)
+
+        with mock.patch.object(_library, 'LIBRARY', Counted()):
+            for block in found:
+                for _ in block.events:
+                    self.assertIsNotNone(block.line)
+            self.assertEqual(calls, ['markdown_inline_definitions', 'markdown_inline_texts'])
+            self.assertEqual(sum(len(block.html) + len(block.links) for block in found), sum(map(len, found.htmls)) + 50)
+            self.assertEqual(calls[2:], ['markdown_inline_htmls', 'markdown_inline_short_texts', 'markdown_inline_strings'])
+
+    def test_a_sequence(self):
+        found = blocks(DOCUMENT)
+        self.assertEqual((len(found), found[0], found[-1], list(found), list(reversed(found))), (len(ROWS), *[list(found)[at] for at in (0, -1)], found[:], found[::-1]))
+        self.assertEqual((found[4] in found, found.index(found[4]), len({*found, *found})), (True, 4, len(ROWS)))
+        self.assertNotEqual(found[0], found[1])
+        self.assertNotEqual(found[0], blocks(DOCUMENT)[0])
+        self.assertEqual(repr(found[:2]), '[Block(Heading, depth=0, number=1, line=1), Block(BlankLine, depth=0, number=0, line=None)]')
+        for at in (len(ROWS), -len(ROWS) - 1):
+            self.assertRaises(IndexError, lambda: found[at])
+        self.assertRaises(AttributeError, lambda: setattr(found[0], 'other', 1))
+        for other in (pickle.loads(pickle.dumps(found)), copy.deepcopy(found), copy.copy(found)):
+            self.assertEqual((repr(other), other.texts, other.links), (repr(found), list(found.texts), found.links))
+        self.assertEqual(pickle.loads(pickle.dumps(found[0])).html, found[0].html)
+
+    def test_what_is_refused(self):
+        for given in (b'a\xff', 'a\ud800'):
+            self.assertRaises(NotUtf8, blocks, given)
+        found = blocks('[a]\n\n' * 101 + '[a]: ' + 'x' * 1000)
+        with self.assertRaises(References) as caught:
+            self.assertIsNone(found[0].html)
+        self.assertEqual(caught.exception.at, 100)
+        self.assertEqual(len(found.texts), 102)
+        self.assertEqual(len(blocks('[a]\n\n[a]: bc', reference_limit=2).htmls), 2)
+        self.assertRaises(References, lambda: blocks('[a]\n\n[a]: bc', reference_limit=1).htmls)
+        self.assertRaises(UnknownOption, lambda: blocks('a', options=1 << 31).texts)
+        for error, asked in ((TypeError, {'columns': 1}), (ValueError, {'columns': 'words'}), (TypeError, {'footnotes': 'a'}), (TypeError, {'raw_html': 'no'}), (TypeError, {'reference_limit': True}),
+                             (TypeError, {'options': 1, 'gfm': True}), (ValueError, {'rules': 'gfm'})):
+            with mock.patch.object(_library, 'LIBRARY', None):
+                self.assertRaises(error, blocks, 'a', **asked)
+        # No object is so long. The library looks at the length before the bytes, so it may be lent fewer.
+        for call, arrays in ((_library.LIBRARY.markdown_inline_blocks, 2), (_library.LIBRARY.markdown_inline_definitions, 3)):
+            self.assertEqual(call(b'a', (2 ** 64 >> 3) + 1, *[None, 0] * arrays, (_library._size * 2)()), TooLong.status)
+
+    def test_arrays_that_are_too_small(self):
+        document = 'a\n\n# b\n- c\n' * 3 + '[d]: e "f"\n' * 3
+        wanted = [[(it.kind, it.depth, it.pieces) for it in found] + list(found.definitions) for found in [blocks(document)]]
+        for kept in range(0, 1600, 37):
+            lent = iter(range(100))
+
+            def lend(size):
+                return (_library.ctypes.c_char * (kept if next(lent) in (0, 1, 4, 5, 6) else size))()
+
+            with mock.patch.object(_library, '_lend', lend), mock.patch.object(_library, '_give_back', lambda _: None):
+                found = blocks(document)
+                self.assertEqual([[(it.kind, it.depth, it.pieces) for it in found]], [wanted[0][:len(found)]])
+            with mock.patch.object(_library, '_lend', lambda size, first=[kept] * 3: (_library.ctypes.c_char * (first.pop() if first else size))()), \
+                    mock.patch.object(_library, '_give_back', lambda _: None):
+                self.assertEqual(found.definitions, wanted[0][len(found):])
+
+    def test_a_long_document(self):
+        """What a block costs does not grow with the document: not its number, its line, its links or a tab that is cut."""
+        def seconds(count):
+            begun, found = time.process_time(), blocks('é [a](b)\n\n-\t\tc\n\n' * count)
+            self.assertEqual(sum(len(block.links) + len(block.lines) for block in found), 4 * count)
+            self.assertEqual(max(block.line or 0 for block in found), 4 * count - 1)
+            return time.process_time() - begun
+
+        self.assertLess(min(seconds(8000) for _ in range(3)), 24 * min(seconds(1000) for _ in range(5)))

@@ -1,0 +1,29 @@
+use Rattle.std.proofs.Common.{◌≡◌, ◌∙◌, ap, sym, subst, List, None}
+use Rattle.markdown_block_model.specs.BlockTree.{Tree, nothing}
+use Rattle.markdown_blocks.specs.BlockRows.{rows_from}
+use Rattle.markdown_blocks.specs.NestedRows.{AreNested}
+use Rattle.markdown_blocks.specs.declared.block.Row.{Row}
+use Rattle.markdown_inline_c.specs.FlatBlocks.{flat_blocks}
+use Rattle.markdown_page.specs.ListPlaces.{places_in}
+use Rattle.markdown_page.proofs.PlacedRows.{count-places}
+use Rattle.markdown_inline_c.proofs.blocks.found_blocks.Goals as goal
+
+pub flat_rows-requires : goal.flat_rows-requires
+flat_rows-requires c =
+    let nested = rw c.as_slice-rows.ensures.value c.in_ok-found.ensures.nested in
+    rw c.as_slice.ensures.value (count-places c.args.bytes.now c.as_slice-rows.result.now c.in_ok-places.places.items nested c.in_ok-places.ensures)
+
+pub returns-clause-blocks : goal.returns-clause-blocks
+returns-clause-blocks c =
+    let bytes = c.args.bytes.now in
+    let rows = c.as_slice-rows.result.now in
+    let same : rows ≡ c.in_ok-found.found.blocks.rows.items = c.as_slice-rows.ensures.value in
+    let tree = ap (rows_from bytes nothing) same ∙ c.in_ok-found.ensures.tree in
+    record {
+      rows = rows;
+      tree = tree;
+      nested = rw same c.in_ok-found.ensures.nested;
+      texts = rw same (c.in_ok-found.ensures.texts c.in-Ok.ensures.ok.0);
+      blocks_are = c.in_ok-blocks.ensures.blocks ∙ ap (flat_blocks 0 rows) (c.as_slice.ensures.value ∙ c.in_ok-places.ensures ∙ ap (places_in None) tree);
+      pieces_are = c.in_ok-blocks.ensures.pieces;
+    }
