@@ -4,6 +4,7 @@ import { COMMONMARK, CRATE, GFM, MATH, OPTIONS } from './names.js';
 const SETS = { commonmark: COMMONMARK, crate: CRATE };
 const SWITCHES = { gfm: GFM, math: MATH, task: OPTIONS.firstOfItem, ...OPTIONS };
 const OTHERS = new Set(['rules', 'bits', 'pieces', 'contents', 'offsets', 'definitions', 'footnotes', 'rawHtml', 'anyLink', 'referenceLimit', 'lineFeeds', 'replacedNul']);
+const OF_DOCUMENTS = new Set(['rawHtml', 'anyLink', 'referenceLimit']);
 export const encoder = new TextEncoder();
 
 const flag = (given, what) => {
@@ -130,7 +131,7 @@ export const shownOf = (options) => bitsOfFlags(options, 'rawHtml', 'anyLink');
 /** The same of a document, which has no other options. */
 export function shownOfDocument(options) {
   for (const name of Object.keys(options ?? {})) {
-    if (name !== 'rawHtml' && name !== 'anyLink' && options[name] !== undefined) throw new TypeError(`no option of a document has the name ${name}`);
+    if (!OF_DOCUMENTS.has(name) && options[name] !== undefined) throw new TypeError(`no option of a document has the name ${name}`);
   }
   return shownOf(options);
 }

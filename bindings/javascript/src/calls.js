@@ -1,8 +1,10 @@
 // The calls of the library over one instance.
 import { bitsOf, contentsOf, isInBytes, labelsOf, limitOf, linesOf, piecesOf, shownOf, shownOfDocument, stringsOf, targetsOf, textOf, usualLimit, writtenOf } from './arguments.js';
+import { BLOCK, Blocks, PIECE } from './blocks.js';
 import { MarkdownInlineError, NO_MEMORY } from './errors.js';
 import { Instance } from './instance.js';
 import { linksOf } from './links.js';
+import { OPTIONS } from './names.js';
 import { EVENT, Events, LEAF, Leaves, Many, SHORT_EVENT, ShortEvents } from './rows.js';
 import { treeOf } from './tree.js';
 
@@ -61,23 +63,26 @@ export function callsOf(module, { maximum = 0xffff0000 } = {}) {
     });
   };
 
-  // A call for the rows of many contents.
+  // The rows of many contents.
+  const manyRows = (name, kind, size, asked, { rows, many }) => on.within(() => {
+    const { text, input } = putInput(on, asked), listed = on.putNumbers(rows);
+    const found = on.filledMany(name, [input, listed, many], size, Math.floor(covered(asked.pieces, text.length) / 4) + 64, many);
+    return new Many(kind, on.copied(text, found.at, found.many, size, PLACES.get(kind)), Number(text.isWide), found.ends);
+  });
+
+  // A call for them.
   const rowsOfMany = (name, kind, size) => (document, contents, options) => {
-    const { pieces, rows, many } = contentsOf(contents), asked = askedOf(document, options, pieces, withoutTargets(options));
-    return on.within(() => {
-      const { text, input } = putInput(on, asked), listed = on.putNumbers(rows);
-      const found = on.filledMany(name, [input, listed, many], size, Math.floor(covered(pieces, text.length) / 4) + 64, many);
-      return new Many(kind, on.copied(text, found.at, found.many, size, PLACES.get(kind)), Number(text.isWide), found.ends);
-    });
+    const listed = contentsOf(contents);
+    return manyRows(name, kind, size, askedOf(document, options, listed.pieces, withoutTargets(options)), listed);
   };
 
   const text = rowsOf('text', Events, EVENT, true);
   const shortTexts = rowsOfMany('short_texts', ShortEvents, SHORT_EVENT);
 
   const documentHtml = (document, options) => {
-    const read = textOf(document), shown = shownOfDocument(options);
+    const read = textOf(document), shown = shownOfDocument(options), limit = limitOf(options);
     return on.within(() => {
-      const text = on.put(read), { at, many } = on.filled('document_html', [text.at, text.length, shown], 1, 2 * text.length + 64);
+      const text = on.put(read), { at, many } = on.filled('document_html', [text.at, text.length, shown, limit ?? usualLimit(text.length)], 1, 2 * text.length + 64);
       return on.decoded(at, at + many);
     });
   };
@@ -91,14 +96,15 @@ export function callsOf(module, { maximum = 0xffff0000 } = {}) {
     });
   };
 
+  const manyHtmls = (asked, { rows, many }, shown, limit) => on.within(() => {
+    const { text, input, targets, count } = putInput(on, asked), listed = on.putNumbers(rows);
+    const { at, ends } = on.filledMany('htmls', [input, targets, count, listed, many, shown, limit ?? usualLimit(text.length)], 1, 2 * covered(asked.pieces, text.length) + 64, many);
+    return parted(on, at, ends);
+  });
+
   const htmls = (document, contents, options) => {
-    const { pieces, rows, many } = contentsOf(contents), asked = askedOf(document, options, pieces, targetsOf(options?.definitions));
-    const shown = shownOf(options), limit = limitOf(options);
-    return on.within(() => {
-      const { text, input, targets, count } = putInput(on, asked), listed = on.putNumbers(rows);
-      const { at, ends } = on.filledMany('htmls', [input, targets, count, listed, many, shown, limit ?? usualLimit(text.length)], 1, 2 * covered(pieces, text.length) + 64, many);
-      return parted(on, at, ends);
-    });
+    const listed = contentsOf(contents), asked = askedOf(document, options, listed.pieces, targetsOf(options?.definitions));
+    return manyHtmls(asked, listed, shownOf(options), limitOf(options));
   };
 
   const strings = (document, given, options) => {
@@ -111,6 +117,33 @@ export function callsOf(module, { maximum = 0xffff0000 } = {}) {
     });
   };
 
+  const definitionsOf = (read) => on.within(() => {
+    const text = on.put(read), many = Math.floor(text.length / 64) + 16;
+    const [labels, ranges, targets] = on.filledEach('definitions', [text.at, text.length], [[1, 1, Math.floor(text.length / 4) + 1024], [16, 0, many], [40, 0, many]]);
+    const textAt = (words, place) => on.decoded(labels.at + words[place], labels.at + words[place + 2]), leads = on.copied(text, targets.at, targets.many, 40, []);
+    return Array.from({ length: ranges.many }, (_, at) => ({
+      label: textAt(on.copied(text, ranges.at + 16 * at, 1, 16, []), 0), destination: textAt(leads, 10 * at), title: leads[10 * at + 8] === 0 ? null : textAt(leads, 10 * at + 4),
+    }));
+  });
+
+  // What a document's blocks ask for, of all contents together.
+  const ofBlocks = {
+    definitionsOf, strings, linksOf,
+    textsOf: (asked, contents) => manyRows('texts', Events, EVENT, asked, contents), shortTextsOf: (asked, contents) => manyRows('short_texts', ShortEvents, SHORT_EVENT, asked, contents),
+    htmlsOf: manyHtmls,
+  };
+
+  const blocks = (document, options) => {
+    // What the caller does with bytes later changes nothing.
+    const given = textOf(document), read = typeof given === 'string' ? given : new Uint8Array(given);
+    const asked = { bits: bitsOf(options), footnotes: labelsOf(options?.footnotes, 'footnotes'), shown: shownOf(options), limit: limitOf(options) };
+    return on.within(() => {
+      const text = on.put(read), many = Math.floor(text.length / 16) + 64;
+      const [rows, pieces] = on.filledEach('blocks', [text.at, text.length], [[BLOCK, 0, many], [PIECE, 1, many]]);
+      return new Blocks(ofBlocks, read, asked, on.copied(text, rows.at, rows.many, BLOCK, []), on.copied(text, pieces.at, pieces.many, PIECE, [[0], [16]]), Number(text.isWide));
+    });
+  };
+
   const piecesOfLines = (document, paragraphs, options) => {
     const { starts, ends } = linesOf(paragraphs), read = textOf(document), inBytes = isInBytes(options);
     return on.within(() => {
@@ -120,6 +153,14 @@ export function callsOf(module, { maximum = 0xffff0000 } = {}) {
       const pieces = starts.map((_, at) => [rows[8 * at + unit], rows[8 * at + 4 + unit]]);
       return ends.map((end, number) => pieces.slice(number === 0 ? 0 : ends[number - 1], end));
     });
+  };
+
+  const links = (document, options) => {
+    const { labels, targets } = targetsOf(options?.definitions), bits = bitsOf(options), read = textOf(document);
+    const contents = options?.contents ?? [{ pieces: options?.pieces ?? [[0, read.length]], firstOfItem: (bits & OPTIONS.firstOfItem) !== 0 }];
+    const isWhole = !options?.contents && !options?.pieces;
+    const asked = { bits: (bits & ~OPTIONS.firstOfItem) >>> 0, definitions: labels, footnotes: options?.footnotes, offsets: isWhole ? undefined : options?.offsets };
+    return linksOf(read, shortTexts(read, contents, asked), targets, (parts) => strings(read, parts, { bits, offsets: 'bytes' }));
   };
 
   const decodedBy = (name, bits, given, what) => {
@@ -141,9 +182,9 @@ export function callsOf(module, { maximum = 0xffff0000 } = {}) {
 
   return {
     text, string: rowsOf('string', Events, EVENT, false), leaves: rowsOf('leaves', Leaves, LEAF, true), tree: (document, options) => treeOf(text(document, options)),
-    texts: rowsOfMany('texts', Events, EVENT), shortTexts, documentHtml, html, htmls, strings, piecesOfLines, isText: holds('is_text'), isContent: holds('is_content'),
+    texts: rowsOfMany('texts', Events, EVENT), shortTexts, documentHtml, blocks, html, htmls, strings, piecesOfLines, isText: holds('is_text'), isContent: holds('is_content'),
     identifier: (label) => decodedBy('identifier', [], label, 'a label'),
     reference: (reference, options) => decodedBy('reference', [bitsOf(options)], reference, 'a reference'),
-    links: (document, options) => linksOf({ shortTexts, strings }, document, options),
+    links,
   };
 }

@@ -63,13 +63,16 @@ export interface DocumentOptions {
   rawHtml?: boolean;
   /** Lets links lead wherever they say, and not to listed schemes alone. */
   anyLink?: boolean;
+  /** How many bytes definitions may bring, from 1 on; Infinity is no limit. By default it is the length of the document in bytes, or 100,000 where that is more. */
+  referenceLimit?: number;
 }
 
 export interface HtmlsOptions extends DocumentOptions, Rules, Offsets, Footnotes {
   definitions?: Targets;
-  /** How many bytes definitions may bring, from 1 on; Infinity is no limit. By default it is the length of the document in bytes, or 100,000 where that is more. */
-  referenceLimit?: number;
 }
+
+/** How texts of a document are read and written. */
+export type BlocksOptions = DocumentOptions & Rules & Footnotes;
 
 export type HtmlOptions = HtmlsOptions & Pieces & Task;
 
@@ -165,6 +168,64 @@ export interface Rows<Row> extends Iterable<Row> {
   at(number: number): Row | undefined;
 }
 
+/** A link reference definition: its label as it is written, and where it leads, with escapes and character references resolved. */
+export interface Definition {
+  label: string;
+  destination: string;
+  title: string | null;
+}
+
+/** What a block is. */
+export type BlockKind = 'BlankLine' | 'ThematicBreak' | 'Heading' | 'Paragraph' | 'IndentedCode' | 'FencedCode' | 'Html' | 'Quote' | 'Item';
+
+/** A block of a document. */
+export interface Block {
+  readonly kind: BlockKind;
+  /** How many containers stand round it: what a quote or an item holds stands behind it, one deeper. */
+  readonly depth: number;
+  /** The level of a heading, the number of an item of an ordered list, the kind of HTML; else 0. */
+  readonly number: number;
+  /** The sign of an item's marker or of a fence. */
+  readonly marker: string | null;
+  /** Of an item, where it stands in its list. */
+  readonly beginsList: boolean;
+  readonly endsList: boolean;
+  /** Whether the item's list is loose. */
+  readonly isLoose: boolean;
+  /** The number of its text among those of `Blocks.texts`. Headings and paragraphs have a text, of which a paragraph of definitions alone has nothing. */
+  readonly content: number | null;
+  /** The pieces of a heading's or a paragraph's text; of code and HTML its lines, one piece each. Of fenced code the first piece is the info string. */
+  readonly pieces: [start: number, end: number, startVs: number, endVs: number][];
+  /** The line on which its first piece begins, from 1; null where it has no pieces. Fenced code begins with its fence. */
+  readonly line: number | null;
+  /** The lines of a text, of code or of HTML, each with its line ending, if it has one. Of a tab that a container cuts, the columns that are left are spaces. The
+   * blank lines behind indented code are among them, which HTML leaves out. */
+  readonly lines: string[];
+  /** The info string of fenced code, with escapes and character references resolved. Its first word names the language. */
+  readonly info: string | null;
+  /** The events of its text, none where it has none. */
+  readonly events: Rows<Event>;
+  readonly shortEvents: Rows<ShortEvent>;
+  /** The HTML of its text, without a tag of the block itself; empty where it has no text. */
+  readonly html: string;
+  /** The links, images, autolinks and literals of its text. */
+  readonly links: Link[];
+}
+
+/** The blocks of a document, in order. What stands in the texts of headings and paragraphs is found by one call for all of them, when it is first asked for. */
+export interface Blocks extends Rows<Block> {
+  /** The link reference definitions of the document. Of several with one identifier the first counts. */
+  readonly definitions: Definition[];
+  /** The events of the texts of all headings and paragraphs, in order. */
+  readonly texts: Rows<Rows<Event>>;
+  /** The short events of the same texts. The number of a definition is that of it among `definitions`. */
+  readonly shortTexts: Rows<Rows<ShortEvent>>;
+  /** The HTML of the same texts. */
+  readonly htmls: string[];
+  /** The links, images, autolinks and literals of the same texts. */
+  readonly links: Link[];
+}
+
 /** All that stands in a text. */
 export interface Tree {
   /** The nodes that stand directly in this one. */
@@ -204,9 +265,11 @@ export declare const GFM: number;
 export declare const MATH: number;
 
 export interface Calls {
-  /** The HTML of a document, of its blocks and of the text inside them, as CommonMark 0.31.2 says. The document's own definitions count, and there is no limit on
-   * how many bytes they bring: n references to a definition of n bytes write n * n bytes. All other calls read the text inside one block. */
+  /** The HTML of a document, of its blocks and of the text inside them, as CommonMark 0.31.2 says. The document's own definitions count. */
   documentHtml(document: Text, options?: DocumentOptions): string;
+  /** The blocks of a document, as CommonMark 0.31.2 says, and what stands in their texts, which are read as the options say. The document's own definitions count.
+   * Lines, columns and offsets are those of the document. All calls but these two read the text inside one block. */
+  blocks(document: Text, options?: BlocksOptions): Blocks;
   /** The events of a text: of a whole document, or of pieces of it. A call reads the whole document, so for many contents there is `texts`. */
   text(document: Text, options?: TextOptions): Rows<Event>;
   /** The events of a string, such as a title: of escapes, character references and data. */
@@ -251,6 +314,7 @@ export declare const tree: Calls['tree'];
 export declare const texts: Calls['texts'];
 export declare const shortTexts: Calls['shortTexts'];
 export declare const documentHtml: Calls['documentHtml'];
+export declare const blocks: Calls['blocks'];
 export declare const html: Calls['html'];
 export declare const htmls: Calls['htmls'];
 export declare const strings: Calls['strings'];

@@ -10,4 +10,4 @@ const module = await compiled();
 /** The calls over an instance of their own, whose memory has `maximum` bytes at most. */
 export const create = (settings) => callsOf(module, settings);
 
-export const { text, string, leaves, tree, texts, shortTexts, documentHtml, html, htmls, strings, piecesOfLines, identifier, reference, isText, isContent, links } = create();
+export const { text, string, leaves, tree, texts, shortTexts, documentHtml, blocks, html, htmls, strings, piecesOfLines, identifier, reference, isText, isContent, links } = create();

@@ -141,6 +141,21 @@ export class Instance {
     }
   }
 
+  /** The same of a call that is lent several arrays, and counts. An array is told by the size of its elements, the number of their count, and how many have room
+   *  at first. */
+  filledEach(name, list, arrays) {
+    const counts = this.#room(16), before = this.#top;
+    let rooms = arrays.map(([, , many]) => many);
+    for (;;) {
+      const found = arrays.map(([size], number) => this.#room(rooms[number] * size));
+      const status = this.call(name, [...list, ...found.flatMap((at, number) => [at, rooms[number]]), counts]);
+      rooms = arrays.map(([, count]) => this.#current.words[counts / 4 + 2 * count]);
+      if (status === 0) return found.map((at, number) => ({ at, many: rooms[number] }));
+      if (status !== TOO_SMALL) throw new MarkdownInlineError(status);
+      this.#top = before;
+    }
+  }
+
   /** The same of a call for so many contents or strings. It returns too where the elements of each end. */
   filledMany(name, list, size, many, contents) {
     const outcome = this.#room(24), ends = this.#room(8 * contents), before = this.#top;

@@ -1,6 +1,5 @@
 // The links, images, autolinks and literals of a document, and where each leads.
-import { bitsOf, encoder, targetsOf, textOf } from './arguments.js';
-import { OPTIONS } from './names.js';
+import { encoder } from './arguments.js';
 
 const KINDS = {
   Link: 'link', Image: 'image', Autolink: 'autolink', GfmAutolinkLiteralEmail: 'literal', GfmAutolinkLiteralMailto: 'literal', GfmAutolinkLiteralProtocol: 'literal',
@@ -42,7 +41,7 @@ function foundIn(events, content, found, strings) {
 }
 
 /** The numbers of the first unit of each line of a document. */
-function lineStarts(document) {
+export function lineStarts(document) {
   const starts = [0], isAt = typeof document === 'string' ? (at) => document.charCodeAt(at) : (at) => document[at];
   for (let at = 0; at < document.length; at++) {
     const unit = isAt(at);
@@ -52,7 +51,7 @@ function lineStarts(document) {
 }
 
 /** How many of the numbers are at most this one. */
-function countUpTo(numbers, most) {
+export function countUpTo(numbers, most) {
   let low = 0, high = numbers.length;
   while (low < high) {
     const middle = (low + high) >> 1;
@@ -62,16 +61,13 @@ function countUpTo(numbers, most) {
   return low;
 }
 
-/** All that leads somewhere, in the order in which it begins in its content. */
-export function linksOf({ shortTexts, strings }, document, options) {
-  const { labels, targets } = targetsOf(options?.definitions), bits = bitsOf(options), read = textOf(document);
-  const contents = options?.contents ?? [{ pieces: options?.pieces ?? [[0, read.length]], firstOfItem: (bits & OPTIONS.firstOfItem) !== 0 }];
-  const isWhole = !options?.contents && !options?.pieces;
-  const asked = { bits: (bits & ~OPTIONS.firstOfItem) >>> 0, definitions: labels, footnotes: options?.footnotes, offsets: isWhole ? undefined : options?.offsets };
+/** All that leads somewhere, in the order in which it begins in its content: by the short events of contents, the targets of definitions, and what resolves
+ *  strings by their parts. */
+export function linksOf(read, contents, targets, resolved) {
   const found = [], wanted = [];
   let number = 0;
-  for (const events of shortTexts(read, contents, asked)) foundIn(events, number++, found, wanted);
-  strings(read, wanted.map(({ parts }) => parts), { bits, offsets: 'bytes' }).forEach((it, at) => { wanted[at].one[wanted[at].field] = it; });
+  for (const events of contents) foundIn(events, number++, found, wanted);
+  resolved(wanted.map(({ parts }) => parts)).forEach((it, at) => { wanted[at].one[wanted[at].field] = it; });
   // The texts of each definition are decoded once, and all that refers to it shares them.
   const led = [], ledBy = (number) => led[number] ??= { destination: asText(targets[number].destination), title: targets[number].title === null ? null : asText(targets[number].title) };
   const starts = lineStarts(read), byteStarts = typeof read === 'string' ? lineStarts(encoder.encode(read)) : starts;

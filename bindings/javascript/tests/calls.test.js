@@ -8,7 +8,7 @@ import { callsOf } from '../../out/javascript/calls.js';
 import * as inside from '../../out/javascript/one.js';
 import * as markdownInline from '../../out/javascript/index.js';
 
-const { COMMONMARK, GFM, MarkdownInlineError, create, documentHtml, html, htmls, identifier, isContent, isText, leaves, links, piecesOfLines, reference, shortTexts, string, strings, text, texts, tree } = markdownInline;
+const { COMMONMARK, GFM, MarkdownInlineError, blocks, create, documentHtml, html, htmls, identifier, isContent, isText, leaves, links, piecesOfLines, reference, shortTexts, string, strings, text, texts, tree } = markdownInline;
 const beside = (name) => fileURLToPath(new URL(name, import.meta.url));
 const has = (command) => spawnSync(command, ['--version']).status === 0;
 const bytesOf = (given) => new TextEncoder().encode(given);
@@ -70,7 +70,7 @@ test('types', { skip: !has('tsc') }, () => {
 
 test('each error comes', () => {
   for (const call of [(options) => text('a', options), (options) => string('a', options), (options) => reference('&amp;', options)]) refuses('UNKNOWN_OPTION', () => call({ bits: 2 ** 31 }));
-  for (const call of [text, string, leaves, html, documentHtml, identifier, links]) refuses('NOT_UTF8', () => call(WRONG), call === links ? 0 : null);
+  for (const call of [text, string, leaves, html, documentHtml, blocks, identifier, links]) refuses('NOT_UTF8', () => call(WRONG), call === links ? 0 : null);
   refuses('NOT_UTF8', () => htmls(Uint8Array.of(0x61, 0xe2, 0x82), []), 1);
   for (const call of [text, leaves, html, links]) for (const given of ['a\n\nb', 'a\n']) refuses('BLANK_LINE', () => call(given), call === links ? 0 : null);
   for (const pieces of [[[0, 9]], [[1, 0]], [[0, 2 ** 40]]]) for (const call of [text, string, leaves, html]) refuses('NO_CONTENT', () => call('a', { pieces }));
@@ -94,6 +94,7 @@ test('what is no argument is named', () => {
     [/definitions/, () => text('a', { definitions: 'b' })], [/a label/, () => text('a', { definitions: [1] })], [/definitions/, () => html('a', { definitions: ['b'] })],
     [/a destination/, () => html('a', { definitions: { b: null } })], [/a title/, () => html('a', { definitions: { b: ['c', 1] } })], [/rawHtml/, () => html('a', { rawHtml: 'no' })],
     [/Uint8Array/, () => documentHtml(1)], [/name gfm/, () => documentHtml('a', { gfm: true })], [/anyLink/, () => documentHtml('a', { anyLink: 1 })],
+    [/referenceLimit/, () => documentHtml('a', { referenceLimit: 0 })], [/Uint8Array/, () => blocks(1)], [/name gfn/, () => blocks('a', { gfn: true })], [/rawHtml/, () => blocks('a', { rawHtml: 1 })],
     [/referenceLimit/, () => html('a', { referenceLimit: 0 })], [/strings is a list/, () => strings('a', 'b')], [/paragraphs is a list/, () => piecesOfLines('a', 1)], [/a paragraph is a list/, () => piecesOfLines('a', [0])], [/the start of a line/, () => piecesOfLines('a', [['0']])], [/a part/, () => strings('a', [[['0', 1]]])],
   ]) assert.throws(call, (it) => (it instanceof TypeError || it instanceof RangeError) && error.test(it.message), String(error));
 });
@@ -197,7 +198,7 @@ test('the package in one file', () => {
   for (const call of [
     (on) => [...on.text(given, { definitions })], (on) => [...on.string(given)], (on) => [...on.leaves(given, { definitions })], (on) => [...on.tree(given).walk()].map((it) => [it.name, it.text]),
     (on) => Array.from(on.texts(given, [[0, 5]]), (it) => [...it]), (on) => Array.from(on.shortTexts(given, [[0, 5], [6, 20]], { definitions }), (it) => [...it]),
-    (on) => on.documentHtml(given), (on) => on.html(given, { definitions }), (on) => on.htmls(given, [[0, 5], [6, 20]]), (on) => on.strings(given, [[[0, 5]]]), (on) => on.piecesOfLines(given, [[0]]), (on) => on.identifier(given), (on) => on.reference('&check;'),
+    (on) => on.documentHtml(given), (on) => Array.from(on.blocks(given), (it) => [{ ...it }, [...it.events], it.html]), (on) => on.html(given, { definitions }), (on) => on.htmls(given, [[0, 5], [6, 20]]), (on) => on.strings(given, [[[0, 5]]]), (on) => on.piecesOfLines(given, [[0]]), (on) => on.identifier(given), (on) => on.reference('&check;'),
     (on) => on.isText(given), (on) => on.isContent(given), (on) => on.links(given, { definitions }), (on) => on.create({ maximum: 1 << 20 }).html(given), (on) => [on.NAMES, on.OPTIONS, on.GFM],
   ]) assert.deepEqual(call(inside), call(markdownInline), String(call));
 });
@@ -213,6 +214,76 @@ test('documents have HTML', () => {
   ]) for (const it of [document, bytesOf(document)]) assert.equal(documentHtml(it, options), wanted);
   // Half of a pair that stands alone is read as U+FFFD.
   assert.equal(documentHtml('# \ud800é'), '<h1>\ufffdé</h1>\n');
+});
+
+test('definitions bring no more than a limit', () => {
+  const document = '[a]\n\n'.repeat(101) + '[a]: ' + 'x'.repeat(1000), found = blocks(document);
+  for (const options of [undefined, { referenceLimit: 100999 }]) refuses('REFERENCES', () => documentHtml(document, options));
+  for (const referenceLimit of [101000, Infinity]) assert.equal(documentHtml(document, { referenceLimit }).length, 101 * 1024);
+  assert.equal(documentHtml(document + '\n\n' + 'y'.repeat(100000)).length, 101 * 1024 + 100008);
+  refuses('REFERENCES', () => found.at(0).html, 100);
+  assert.equal(found.texts.length, 102);
+  assert.equal(blocks(document, { referenceLimit: Infinity }).htmls.length, 102);
+});
+
+const DOCUMENT = '# é *a*\n\n> 3) [b][B] ![c](/d)\n>    `e`\n>\n> 4) ~~~ f&amp;g\n>    \th\n>    ~~~\n\n***\n- 😀i\n- [x] <jj:k>\n<!-- l\n\nm\n=\n[b]: </n> "o"\n';
+
+test('blocks are told', () => {
+  const rows = [
+    ['Heading', 0, 1, null, false, false, false, 1, ['é *a*']], ['BlankLine', 0, 0, null, false, false, false, null, []], ['Quote', 0, 0, null, false, false, false, null, []],
+    ['Item', 1, 3, ')', true, false, true, null, []], ['Paragraph', 2, 0, null, false, false, false, 3, ['[b][B] ![c](/d)\n', '`e`']], ['BlankLine', 2, 0, null, false, false, false, null, []],
+    ['Item', 1, 4, ')', false, true, true, null, []], ['FencedCode', 2, 0, '~', false, false, false, 6, ['\th\n']], ['BlankLine', 0, 0, null, false, false, false, null, []],
+    ['ThematicBreak', 0, 0, null, false, false, false, null, []], ['Item', 0, 0, '-', true, false, false, null, []], ['Paragraph', 1, 0, null, false, false, false, 11, ['😀i']],
+    ['Item', 0, 0, '-', false, true, false, null, []], ['Paragraph', 1, 0, null, false, false, false, 12, ['[x] <jj:k>']],
+    ['Html', 0, 2, null, false, false, false, 13, ['<!-- l\n', '\n', 'm\n', '=\n', '[b]: </n> "o"\n']],
+  ];
+  for (const given of [DOCUMENT, bytesOf(DOCUMENT)]) {
+    const found = blocks(given), told = ({ kind, depth, number, marker, beginsList, endsList, isLoose, line, lines }) => [kind, depth, number, marker, beginsList, endsList, isLoose, line, lines];
+    assert.deepEqual(Array.from(found, told), rows);
+    assert.deepEqual([found.length, told(found.at(-1)), found.at(15), found.at(-16)], [15, rows[14], undefined, undefined]);
+    assert.deepEqual(Array.from(found, (it) => it.info).filter((it) => it !== null), ['f&g']);
+    // Emphasis in the heading, an image, and an autolink: offsets and columns count what the document is made of.
+    const wide = typeof given === 'string', [emphasis] = [...found.at(0).events].filter(({ name }) => name === 'Emphasis');
+    assert.deepEqual([emphasis.line, emphasis.column, emphasis.offset, emphasis.byte], wide ? [1, 5, 4, 5] : [1, 6, 5, 5]);
+    assert.deepEqual(found.links.map(({ kind, line, column, byte, destination }) => [kind, line, column, byte, destination]), [['image', 3, 13, 22, '/d'], ['autolink', 12, 7, 95, 'jj:k']]);
+    assert.deepEqual([found.at(0).pieces, found.at(4).pieces.length], [[[2, wide ? 7 : 8, 0, 0]], 2]);
+  }
+});
+
+test('texts of blocks are those of their pieces', () => {
+  const definitions = { b: ['/n', 'o'] }, footnotes = ['p'];
+  for (const given of [DOCUMENT.replace('<!--', '!'), bytesOf(DOCUMENT.replace('<!--', '!'))]) {
+    const found = blocks(given, { gfm: true, footnotes, rawHtml: true }), having = [...found].filter(({ content }) => content !== null);
+    const contents = having.map(({ pieces, lines }) => ({ pieces, firstOfItem: lines[0]?.startsWith('[x]') === true })), asked = { gfm: true, footnotes, definitions };
+    assert.deepEqual(having.map(({ kind, content }) => [kind, content]), [['Heading', 0], ['Paragraph', 1], ['Paragraph', 2], ['Paragraph', 3], ['Heading', 4], ['Paragraph', 5]]);
+    assert.deepEqual(having.map(({ events }) => [...events]), Array.from(texts(given, contents, asked), (it) => [...it]));
+    assert.deepEqual(having.map(({ shortEvents }) => [...shortEvents]), Array.from(shortTexts(given, contents, asked), (it) => [...it]));
+    assert.deepEqual(having.map((it) => it.html), htmls(given, contents, { ...asked, rawHtml: true }));
+    assert.deepEqual([found.htmls, found.links, having.flatMap((it) => it.links)], [having.map((it) => it.html), links(given, { ...asked, contents }), found.links]);
+    const [other] = [...found].filter(({ content }) => content === null);
+    assert.deepEqual([[...other.events], [...other.shortEvents], other.html, other.links], [[], [], '', []]);
+  }
+});
+
+test('blocks have definitions and checks of tasks', () => {
+  const found = blocks('[A]: /b "c"\n[a]: <d&amp;\\*>\n\n> [é\n> f]:\n> g\n\n[a] [é f]');
+  assert.deepEqual(found.definitions, [{ label: 'A', destination: '/b', title: 'c' }, { label: 'a', destination: 'd&*', title: null }, { label: 'é\nf', destination: 'g', title: null }]);
+  assert.deepEqual(found.links.map(({ destination, title, definition }) => [destination, title, definition]), [['/b', 'c', 0], ['g', null, 2]]);
+  assert.deepEqual([[...blocks('')], blocks('').definitions, blocks('').htmls, blocks('').links, blocks('').texts.length], [[], [], [], [], 0]);
+  for (const [document, many] of [['- [x] a\n- b\n- [ ] c', 2], ['-\n  [x] a', 1], ['- [r]: /s\n\n  [x] a', 1], ['- > [x] a', 0], ['- # a\n\n  [x] b', 0], ['-\n\n[x] a', 0], ['- - [x] a\n\n  [x] b', 1]]) {
+    assert.equal(blocks(document, { gfm: true }).htmls.join('').split('checkbox').length - 1, many, document);
+  }
+  // Of a tab that a container cuts the columns that are left are spaces.
+  for (const [document, lines] of [['-\t\ta\n', ['  a\n']], ['>\t\ta\n> \tb', ['  a\n']], ['> ~~~\n>\t\té\r\n>', ['  \té\r\n', '']], ['~~~', []]]) {
+    for (const given of [document, bytesOf(document)]) assert.deepEqual([...blocks(given)].find(({ kind }) => kind.endsWith('Code')).lines, lines);
+  }
+  assert.deepEqual(blocks('> <pre>a\n>').at(1).lines, ['<pre>a\n']);
+  // What is written to the bytes later changes nothing.
+  const bytes = bytesOf('*a*'), kept = blocks(bytes);
+  bytes.fill(0x62);
+  assert.deepEqual(kept.htmls, ['<em>a</em>']);
+  // Half of a pair that stands alone is one unit.
+  assert.deepEqual([blocks('\ud800\n\n# *a*').at(2).pieces, blocks('\ud800\n\n# *a*').at(2).events.at(0).offset], [[[5, 8, 0, 0]], 5]);
 });
 
 test('pieces are made of lines', () => {
@@ -265,13 +336,14 @@ test('hostile texts take time in proportion to their length', () => {
   const gfm = { gfm: true };
   for (const it of HOSTILE) {
     const long = (length) => ('a' + it.repeat(length / it.length)).trimEnd();
-    for (const call of [html, text, links, (given) => documentHtml(given)]) isLinear((length) => call(long(length), gfm), 8000, JSON.stringify(it));
+    for (const call of [html, text, links, (given) => documentHtml(given), (given) => blocks(given).links]) isLinear((length) => call(long(length), gfm), 8000, JSON.stringify(it));
   }
 });
 
 test('contents cost what they cost by themselves', () => {
   const contents = (many) => Array.from({ length: many }, (_, at) => [7 * at, 7 * at + 5]);
   isLinear((many) => texts('é*a* b\n'.repeat(many), contents(many)), 1000, 'contents');
+  isLinear((many) => Array.from(blocks('é [a](b)\n\n-\t\tc\n\n'.repeat(many)), (it) => [it.line, it.lines, it.links, it.html]), 1000, 'blocks');
 });
 
 /** A number of WebAssembly: seven bits a byte, the lowest first. */
@@ -294,7 +366,7 @@ function withMaximum(pages) {
 
 test('refused memory is an error', () => {
   for (const little of [create({ maximum: 1 << 20 }), callsOf(withMaximum(16))]) {
-    const calls = { text: (given) => little.text(given).length, html: little.html, documentHtml: little.documentHtml, texts: (given) => little.texts(given, [[0, given.length]]).length, links: (given) => little.links(given).length };
+    const calls = { text: (given) => little.text(given).length, html: little.html, documentHtml: little.documentHtml, blocks: (given) => little.blocks(given).length, texts: (given) => little.texts(given, [[0, given.length]]).length, links: (given) => little.links(given).length };
     for (const [name, call] of Object.entries(calls)) {
       let refused = 0;
       for (let length = 6; length < 3000000; length = Math.ceil(length * 1.2)) {

@@ -1,10 +1,11 @@
 // Reads cases of ../../tests/draw.py from standard input, and prints what the package finds in each, as cases.py there does. Each other document is
 // handed over as a string, half of these with pieces in UTF-16, and its offsets and columns in UTF-16 are counted here too.
 import { readFileSync } from 'node:fs';
-import { COMMONMARK, CRATE, GFM, MATH, OPTIONS, MarkdownInlineError, documentHtml, html, htmls, leaves, shortTexts, string, text, texts } from '../../out/javascript/index.js';
+import { COMMONMARK, CRATE, GFM, MATH, OPTIONS, MarkdownInlineError, blocks, documentHtml, html, htmls, leaves, shortTexts, string, text, texts } from '../../out/javascript/index.js';
 
 const SWITCHES = { gfm: GFM, math: MATH, task: OPTIONS.firstOfItem };
 const decoder = new TextDecoder('utf-8', { fatal: true, ignoreBOM: true });
+const KINDS = ['BlankLine', 'ThematicBreak', 'Heading', 'Paragraph', 'IndentedCode', 'FencedCode', 'Html', 'Quote', 'Item'];
 const listed = (word) => word === '-' ? [] : word.split(',');
 const bytesOf = (word) => Uint8Array.from(Buffer.from(word.replaceAll('-', ''), 'hex'));
 const hex = (bytes) => Buffer.from(bytes).toString('hex');
@@ -65,6 +66,17 @@ function asked(bits, how) {
   return { bits };
 }
 
+function shownBlock(block, places) {
+  const bytes = places ? new Map(Array.from(places.units, ([byte, unit]) => [unit, byte])) : null, byteOf = (at) => bytes ? bytes.get(at) : at;
+  const flags = Number(block.beginsList) | Number(block.endsList) << 1 | Number(block.isLoose) << 2;
+  const pieces = block.pieces.map(([start, end, startVs, endVs]) => ` ${byteOf(start)}.${startVs}-${byteOf(end)}.${endVs}`).join('');
+  const head = [KINDS.indexOf(block.kind), block.depth, block.number, block.marker === null ? 0 : block.marker.charCodeAt(0), flags].join(':');
+  return ` |${head}${pieces}${block.content === null ? '' : ' =' + hex(block.html)}`;
+}
+
+const allBlocks = (found, places) => Array.from(found, (it) => shownBlock(it, places)).join('')
+  + found.definitions.map(({ label, destination, title }) => ` ;${hex(label)}=${hex(destination)}${title === null ? '' : ':' + hex(title)}`).join('');
+
 function found(how, document, spans, options, places, labels, rest) {
   const content = (word) => {
     const [numbers, first] = word.split(':');
@@ -81,7 +93,8 @@ function found(how, document, spans, options, places, labels, rest) {
   if (how === 'texts') return parted([...texts(document, listed(rest[0]).map(content), { ...options, definitions: labels })].map((it) => all(it, shown, places)));
   if (how === 'shorts') return parted([...shortTexts(document, listed(rest[0]).map(content), { ...options, definitions: labels })].map((it) => all(it, shownShort, places)));
   const held = { rawHtml: (rest[0] & 1) !== 0, anyLink: (rest[0] & 2) !== 0 };
-  if (how === 'document') return ' ' + hex(documentHtml(document, held));
+  if (how === 'document') return ' ' + hex(documentHtml(document, { ...held, referenceLimit: Number(rest[1]) || Infinity }));
+  if (how === 'blocks') return allBlocks(blocks(document, { ...options, offsets: undefined, ...held, referenceLimit: Number(rest[1]) || Infinity }), places);
   const written = { ...options, ...held, definitions: targets(rest[1]) };
   if (how === 'html') return ' ' + hex(html(document, { ...written, pieces: spans }));
   return parted(htmls(document, listed(rest[2]).map(content), { ...written, referenceLimit: Number(rest[3]) || Infinity }).map(hex));

@@ -1,5 +1,5 @@
 // What has to fit the types, and what must not.
-import { COMMONMARK, GFM, MarkdownInlineError, create, documentHtml, html, htmls, leaves, links, piecesOfLines, shortTexts, strings, text, tree, type Name, type Node } from '../../out/javascript/index.js';
+import { COMMONMARK, GFM, MarkdownInlineError, blocks, create, documentHtml, html, htmls, leaves, links, piecesOfLines, shortTexts, strings, text, tree, type Block, type BlockKind, type Name, type Node } from '../../out/javascript/index.js';
 import plugin, { piecesOf } from '../../out/javascript/markdown-it.js';
 
 for (const event of text('a *b*', { gfm: true, codeText: false, definitions: ['a'] })) {
@@ -22,7 +22,12 @@ plugin({}, { signs: { mention: /@/ }, places: true });
 const eight: number | undefined = piecesOf([{ type: 'inline', tag: '', markup: '', content: 'a', map: [0, 1] }], 'a')[0]?.[0]?.[0];
 const nine: string[] = htmls('> a', piecesOfLines('> a', [[1]]).map((pieces) => ({ pieces })));
 const ten: string = documentHtml('# a', { rawHtml: true }) + documentHtml(new Uint8Array());
-console.log(six, seven, eight, nine, ten);
+for (const block of blocks('# [a]\n\n[a]: b', { gfm: true, rawHtml: true, footnotes: ['c'], referenceLimit: 9 })) {
+  const kind: BlockKind = block.kind, line: number | null = block.line;
+  for (const event of block.events) console.log(kind, line, event.line, event.column, event.offset, block.html, block.links[0]?.column, block.lines.length);
+}
+const found: Block | undefined = blocks(new Uint8Array()).at(0), title: string | null | undefined = blocks('').definitions[0]?.title;
+console.log(six, seven, eight, nine, ten, found?.pieces[0]?.[0], title);
 
 // @ts-expect-error no such name
 tree('a').find('Nothing');
@@ -32,6 +37,10 @@ plugin({}, { signs: { mention: '@' } });
 text('a', { nonsense: true });
 // @ts-expect-error a document has no such option
 documentHtml('a', { gfm: true });
+// @ts-expect-error a document has its own definitions
+blocks('a', { definitions: ['a'] });
+// @ts-expect-error no such kind
+export const kind: BlockKind = 'heading';
 // @ts-expect-error no such rules
 text('a', { rules: 'gfm' });
 // @ts-expect-error definitions of HTML say where they lead

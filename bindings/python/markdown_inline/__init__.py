@@ -1,33 +1,37 @@
-"""Markdown: the HTML of a document, and the events of a paragraph's inline tree.
+"""Markdown: the HTML of a document, its blocks, and the events of the inline trees of their texts.
 
-    >>> from markdown_inline import Kind, Name, document_html, text
+    >>> from markdown_inline import BlockKind, Kind, Name, blocks, document_html, text
     >>> document_html('# a *b*')
     '<h1>a <em>b</em></h1>\\n'
     >>> [str(event.name) for event in text('a *b*') if event.kind == Kind.Enter][:4]
     ['Data', 'Emphasis', 'EmphasisSequence', 'EmphasisText']
     >>> [event.index for event in text('a *b*') if event.name == Name.Emphasis]
     [2, 5]
+    >>> [(block.line, block.html) for block in blocks('# a\\n\\n> *b*') if block.kind == BlockKind.Paragraph]
+    [(3, '<em>b</em>')]
 
-`document_html` reads a whole document, its blocks included. All other calls read the text inside one block, such as a paragraph.
+`document_html` and `blocks` read a whole document. All other calls read the text inside one block, such as a paragraph.
 
 Kinds and names are members of enumerations, and equal to no string; `str` of them is the text that the program mdinline prints. By default a text is read as
 CommonMark 0.31.2 says, as in C and in Rust; `gfm=True` asks for what GitHub adds. What the calls return is proved; this package calls the proved library.
 """
-from itertools import chain
 from types import MappingProxyType
-from typing import Any, Iterable, List, Literal, Mapping, NamedTuple, Optional, Sequence, Tuple, Union
+from typing import Any, Iterable, List, Literal, Mapping, Optional, Sequence, Tuple, Union
 
 from . import _arguments, _library, _links, _tables
+from ._blocks import Asked, Block, Blocks, Content, Definition, Piece
+from ._errors import (
+    BlankLine, DefinitionError, Error, NoContent, NoMemory, NoReference, NoString, NotUtf8, References, TooLong, UnknownOption, raised)
 from ._events import Characters, Event, Events, Leaf, Leaves, Link, ShortEvent, ShortEvents, ShortTexts, Texts
 from ._links import Address
-from ._names import Kind, Name
+from ._names import BlockKind, Kind, Name
 from ._nodes import Node, Tree, tree_of
 
 __all__ = [
-    'Address', 'BlankLine', 'COMMONMARK', 'CRATE', 'Content', 'DefinitionError', 'Error', 'Event', 'Events', 'GFM', 'Kind', 'Leaf', 'Leaves', 'Link',
-    'MATH', 'Name', 'NoContent', 'NoMemory', 'NoReference', 'NoString', 'Node', 'NotUtf8', 'OPTIONS', 'Piece', 'References', 'ShortEvent',
-    'ShortEvents', 'ShortTexts', 'Texts', 'TooLong', 'Tree', 'UnknownOption', 'document_html', 'html', 'htmls', 'identifier', 'is_content', 'is_text',
-    'leaves', 'links', 'pieces_of_lines', 'reference', 'short_texts', 'string', 'strings', 'text', 'texts', 'tree',
+    'Address', 'BlankLine', 'Block', 'BlockKind', 'Blocks', 'COMMONMARK', 'CRATE', 'Content', 'Definition', 'DefinitionError', 'Error', 'Event', 'Events',
+    'GFM', 'Kind', 'Leaf', 'Leaves', 'Link', 'MATH', 'Name', 'NoContent', 'NoMemory', 'NoReference', 'NoString', 'Node', 'NotUtf8', 'OPTIONS', 'Piece',
+    'References', 'ShortEvent', 'ShortEvents', 'ShortTexts', 'Texts', 'TooLong', 'Tree', 'UnknownOption', 'blocks', 'document_html', 'html', 'htmls',
+    'identifier', 'is_content', 'is_text', 'leaves', 'links', 'pieces_of_lines', 'reference', 'short_texts', 'string', 'strings', 'text', 'texts', 'tree',
 ]
 
 __version__ = '1.0.0'
@@ -44,79 +48,6 @@ GFM: int = _tables.GFM
 MATH: int = _tables.MATH
 
 
-class Piece(NamedTuple):
-    """A piece of a document, from a byte to a byte of its UTF-8. `start_vs` and `end_vs` count the columns of a tab there that come before."""
-    start: int
-    end: int
-    start_vs: int = 0
-    end_vs: int = 0
-
-
-class Content(NamedTuple):
-    """One of many contents of a document: its pieces, and whether it is the first of a list item."""
-    pieces: Sequence[Sequence[int]]
-    first_of_item: bool = False
-
-
-class Error(Exception):
-    """Why a call returns nothing; `status` is that of the library. If a call for many says what is refused, `at` is its number: that of the content, of the
-    string, of the start of a line, for a DefinitionError of the definition, with the footnotes counted on behind the definitions, or for a NotUtf8 of the first
-    byte of the document that is not UTF-8. Otherwise `at` is None."""
-    status = 0
-    at: Optional[int] = None
-
-
-class UnknownOption(Error, ValueError):
-    """unknown option"""
-    status = 2
-
-
-class NotUtf8(Error, ValueError):
-    """document is not UTF-8"""
-    status = 3
-
-
-class BlankLine(Error, ValueError):
-    """blank line in text, or line ending at its end"""
-    status = 4
-
-
-class NoMemory(Error, MemoryError):
-    """out of memory"""
-    status = 5
-
-
-class NoContent(Error, ValueError):
-    """pieces are no content of the document"""
-    status = 7
-
-
-class DefinitionError(Error, ValueError):
-    """range of a definition is no text of the labels"""
-    status = 8
-
-
-class TooLong(Error, ValueError):
-    """document too long"""
-    status = 9
-
-
-class NoReference(Error, ValueError):
-    """no character reference"""
-    status = 10
-
-
-class References(Error, ValueError):
-    """references bring more than the limit"""
-    status = 11
-
-
-class NoString(Error, ValueError):
-    """part of a string is no text of the bytes"""
-    status = 12
-
-
-_ERRORS = {it.status: it for it in (UnknownOption, NotUtf8, BlankLine, NoMemory, NoContent, DefinitionError, TooLong, NoReference, References, NoString)}
 Text = Union[str, bytes, bytearray, memoryview]
 Pieces = Optional[Iterable[Sequence[int]]]
 # A tuple of the same two serves as a Content too.
@@ -126,12 +57,6 @@ Target = Union[Text, Tuple[Text, Optional[Text]]]
 Targets = Optional[Mapping[Any, Target]]
 Rules = Literal['commonmark', 'crate']
 Columns = Literal['bytes', 'characters', 'utf-16']
-
-
-def _raised(status: int, blamed: Optional[int] = None) -> Error:
-    error = _ERRORS.get(status, Error)(_tables.STATUSES.get(status))
-    error.at = blamed
-    return error
 
 
 def _characters(document: Text, bytes_given: bytes) -> Optional[Characters]:
@@ -183,7 +108,7 @@ def text(document: Text, pieces: Pieces = None, gfm: bool = False, math: bool = 
     given = _given(bytes_given, pieces, _bits(options, rules, gfm, math, task), definitions, footnotes)
     status, raw = _library.events('markdown_inline_text', given)
     if status:
-        raise _raised(status)
+        raise raised(status)
     return Events(raw, _characters(document, bytes_given))
 
 
@@ -204,7 +129,7 @@ def string(document: Text, pieces: Pieces = None, *, rules: Rules = 'commonmark'
     given = _given(bytes_given, pieces, _bits(options, rules), (), ())
     status, raw = _library.events('markdown_inline_string', given)
     if status:
-        raise _raised(status)
+        raise raised(status)
     return Events(raw, _characters(document, bytes_given))
 
 
@@ -219,7 +144,7 @@ def leaves(document: Text, pieces: Pieces = None, gfm: bool = False, math: bool 
     given = _given(bytes_given, pieces, _bits(options, rules, gfm, math, task), definitions, footnotes)
     status, raw = _library.leaves(given)
     if status:
-        raise _raised(status)
+        raise raised(status)
     return Leaves(raw, _characters(document, bytes_given), bytes_given)
 
 
@@ -255,7 +180,7 @@ def _texts(function: str, size: int, document: Text, contents: Contents, bits: i
         bytes_given, pieces, bits, _arguments.labels_of(definitions, 'definitions'), _arguments.labels_of(footnotes, 'footnotes'))
     status, raw, ends, blamed = _library.texts(function, size, given, listed, count)
     if status:
-        raise _raised(status, blamed)
+        raise raised(status, blamed)
     return raw, ends, _characters(document, bytes_given)
 
 
@@ -283,24 +208,44 @@ def _targets(definitions: Mapping[Any, Target]) -> List[Tuple[str, Optional[str]
         try:
             found.append((destination.decode(), None if title is None else title.decode()))
         except UnicodeDecodeError:
-            raise _raised(DefinitionError.status, at) from None
+            raise raised(DefinitionError.status, at) from None
     return found
 
 
-def document_html(document: Text, *, raw_html: bool = False, any_link: bool = False) -> str:
+def document_html(document: Text, *, raw_html: bool = False, any_link: bool = False, reference_limit: Optional[int] = None) -> str:
     """The HTML of a document, of its blocks and of the text inside them, as CommonMark 0.31.2 says. The document's own definitions count. `raw_html` writes raw
     HTML as it stands and not as text; `any_link` lets links lead wherever they say and not to listed schemes alone. Line endings of the document stay; those that
-    the page itself brings are line feeds.
-
-    There is no limit on how many bytes definitions bring: n references to a definition of n bytes write n * n bytes.
+    the page itself brings are line feeds. `reference_limit` is that of `htmls`.
 
     >>> document_html('> [a](b:c)\\n\\n<p>')
     '<blockquote>\\n<p><a href="">a</a></p>\\n</blockquote>\\n&lt;p&gt;\\n'
     """
-    status, found = _library.document_html(_arguments.text_of(document, 'document'), _shown(raw_html, any_link))
+    bytes_given = _arguments.text_of(document, 'document')
+    status, found = _library.document_html(bytes_given, _shown(raw_html, any_link), _limit(reference_limit, bytes_given))
     if status:
-        raise _raised(status)
+        raise raised(status)
     return str(found, 'utf-8')
+
+
+def blocks(document: Text, gfm: bool = False, math: bool = False, *, rules: Rules = 'commonmark', options: Optional[int] = None, footnotes: Iterable[Text] = (),
+           raw_html: bool = False, any_link: bool = False, reference_limit: Optional[int] = None, columns: Columns = 'bytes') -> Blocks:
+    """The blocks of a document, in order, by CommonMark 0.31.2, and what stands in the texts of its headings and paragraphs. The document's own definitions count.
+    Texts are read as `gfm`, `math`, `rules` or `options` say, as of `texts`; their HTML is written as the words of `htmls` say, and columns of links count what
+    `columns` says. Lines, columns and bytes are those of the document. Checks of tasks may stand in the first paragraph right in an item.
+
+    The call finds the blocks. The events of all texts are found by one call of the library when those of one are first asked for, and so are their short events,
+    their HTML and their links, and the definitions. So what is refused there is raised there: References by the HTML, UnknownOption by all.
+
+    >>> found = blocks('# *a*\\n\\n- [b]\\n\\n[b]: /c')
+    >>> [(str(block.kind), block.depth, block.number, block.html) for block in found][:4]
+    [('Heading', 0, 1, '<em>a</em>'), ('BlankLine', 0, 0, ''), ('Item', 0, 0, ''), ('Paragraph', 1, 0, '<a href="/c">b</a>')]
+    >>> [(it.line, it.column, it.destination) for it in found.links], found.definitions
+    ([(3, 3, '/c')], [Definition(label='b', destination='/c', title=None)])
+    """
+    given, bits = _arguments.text_of(document, 'document'), _bits(options, rules, gfm, math)
+    _arguments.one_of(columns, _links.COLUMNS, 'columns')
+    asked = Asked(bits, _arguments.labels_of(footnotes, 'footnotes'), _shown(raw_html, any_link), _limit(reference_limit, given), columns)
+    return Blocks(given, _characters(document, given), asked)
 
 
 def _shown(raw_html: bool, any_link: bool) -> int:
@@ -326,7 +271,7 @@ def html(document: Text, pieces: Pieces = None, gfm: bool = False, math: bool = 
         _arguments.labels_of(footnotes, 'footnotes'), written)
     status, found = _library.html(given, targets, len(defined), _shown(raw_html, any_link), _limit(reference_limit, bytes_given))
     if status:
-        raise _raised(status)
+        raise raised(status)
     return str(found, 'utf-8')
 
 
@@ -349,8 +294,8 @@ def htmls(document: Text, contents: Contents, gfm: bool = False, math: bool = Fa
     asked, limit = _shown(raw_html, any_link), _limit(reference_limit, bytes_given)
     status, found, ends, blamed = _library.htmls(given, targets, len(defined), listed, count, asked, limit)
     if status:
-        raise _raised(status, blamed)
-    return [str(found[start:end], 'utf-8') for start, end in zip(chain((0,), ends), ends)]
+        raise raised(status, blamed)
+    return _library.parted(found, ends)
 
 
 def strings(
@@ -369,8 +314,8 @@ def strings(
     how = _arguments.flag_of(line_feeds, 'line_feeds') | _arguments.flag_of(replaced_nul, 'replaced_nul') << 1
     status, found, ends, at = _library.strings(_bits(options, rules), how, bytes_given, parts, listed, count)
     if status:
-        raise _raised(status, at)
-    return [str(found[start:end], 'utf-8') for start, end in zip([0, *ends], ends)]
+        raise raised(status, at)
+    return _library.parted(found, ends)
 
 
 def pieces_of_lines(document: Text, starts: Iterable[int]) -> List[Piece]:
@@ -388,7 +333,7 @@ def pieces_of_lines(document: Text, starts: Iterable[int]) -> List[Piece]:
     bytes_given = _arguments.text_of(document, 'document')
     status, found, blamed = _library.pieces_of_lines(bytes_given, _arguments.starts_of(starts))
     if status:
-        raise _raised(status, blamed)
+        raise raised(status, blamed)
     return [Piece(*it) for it in zip(found[::4], found[2::4], found[1::4], found[3::4])]
 
 
@@ -410,7 +355,7 @@ def reference(reference: Text, *, rules: Rules = 'commonmark', options: Optional
 def _decoded(function: str, given: bytes, *before: int) -> str:
     status, found = _library.decoded(function, given, *before)
     if status:
-        raise _raised(status)
+        raise raised(status)
     return str(found, 'utf-8')
 
 
@@ -428,5 +373,5 @@ def _holds(function: str, document: Text, pieces: Pieces) -> bool:
     bytes_given = _arguments.text_of(document, 'document')
     status = _library.tested(function, bytes_given, _arguments.pieces_of(pieces, len(bytes_given)))
     if status == NoMemory.status:
-        raise _raised(status)
+        raise raised(status)
     return status == _library.DONE

@@ -3,7 +3,7 @@ its tree, its HTML or its links. Of files, or of standard input as a file, it pr
 import os
 import sys
 
-from . import COMMONMARK, CRATE, GFM, MATH, Error, Events, NotUtf8, OPTIONS, TooLong, __version__, document_html, html, links, string, text
+from . import COMMONMARK, CRATE, GFM, MATH, Error, Events, NotUtf8, OPTIONS, References, TooLong, __version__, document_html, html, links, string, text
 from . import _program, _tables
 
 USAGE = '''usage: python -m markdown_inline text|string [WORD]..        the events
@@ -120,7 +120,7 @@ def document_of(file, html):
     """The HTML of a file, or of standard input."""
     try:
         return document_html(read(file), **html)
-    except NotUtf8 as error:
+    except (NotUtf8, References) as error:
         raise Fault(error.status, str(error) if file is None else '%r: %s' % (file, error)) from None
 
 

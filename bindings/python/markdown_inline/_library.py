@@ -3,6 +3,7 @@ import ctypes
 import ctypes.util
 import os
 from array import array
+from itertools import chain
 
 from . import _arguments
 from ._events import EVENT, LEAF, SHORT
@@ -12,6 +13,7 @@ DONE, TOO_SMALL = 0, 6
 #: The number of nothing.
 NONE = 2 ** 64 - 1
 EVENT_SIZE, SHORT_SIZE, LEAF_SIZE = EVENT.size, SHORT.size, LEAF.size
+_BLOCK_SIZE, _PIECE_SIZE, _RANGE_SIZE, _TARGET_SIZE = 40, 32, 16, 40
 # No name of a module, which one that ends in `.so` would be.
 SHARED = 'libmarkdown_inline.so.1'
 #: How many bytes an array has that is lent again, and how many such arrays are kept for all threads together.
@@ -39,12 +41,22 @@ class Given:
     __slots__ = ('input', 'bytes', 'pieces', 'ranges')
 
     def __init__(self, document, pieces, options, defined, noted, targets=b''):
-        definitions, end = _arguments.ranges_of(defined, len(targets))
-        footnotes, end = _arguments.ranges_of(noted, end)
-        labels = b''.join([targets] + defined + noted)
+        definitions, _ = _arguments.ranges_of(defined, len(targets))
+        self._put(document, pieces, options, b''.join([targets] + defined), definitions, noted)
+
+    @classmethod
+    def defined(cls, document, pieces, options, labels, definitions, noted):
+        """An input whose definitions stand at these ranges of the labels."""
+        given = cls.__new__(cls)
+        given._put(document, pieces, options, labels, definitions, noted)
+        return given
+
+    def _put(self, document, pieces, options, labels, definitions, noted):
+        footnotes, _ = _arguments.ranges_of(noted, len(labels))
+        labels = b''.join([labels] + noted)
         self.bytes, self.pieces, self.ranges = document, pieces, (definitions, footnotes)
         self.input = Input(
-            document, len(document), pieces.buffer_info()[0], len(pieces) // 4, labels, len(labels), definitions.buffer_info()[0], len(defined),
+            document, len(document), pieces.buffer_info()[0], len(pieces) // 4, labels, len(labels), definitions.buffer_info()[0], len(definitions) // 2,
             footnotes.buffer_info()[0], len(noted), options)
 
     def covered(self):
@@ -74,10 +86,10 @@ def _load():
     if found != VERSION:
         raise ImportError('the library has version %d of the interface, and this package wants %d' % (found, VERSION))
     text, numbers, lent = [ctypes.c_char_p, _size], [ctypes.c_void_p, _size], [ctypes.c_void_p, _size, ctypes.POINTER(_size)]
-    given, outcome = [ctypes.POINTER(Input)], [ctypes.POINTER(Outcome)]
+    given, outcome, counts = [ctypes.POINTER(Input)], [ctypes.POINTER(Outcome)], [ctypes.POINTER(_size)]
     for name, arguments in (
         ('is_content', text + numbers), ('is_text', text + numbers), ('pieces_of_lines', text + 2 * numbers + outcome), ('string', given + lent), ('text', given + lent), ('leaves', given + lent),
-        ('document_html', text + [ctypes.c_uint32] + lent), ('identifier', text + lent), ('reference', [ctypes.c_uint32] + text + lent), ('texts', given + 3 * numbers + outcome), ('short_texts', given + 3 * numbers + outcome),
+        ('document_html', text + [ctypes.c_uint32, _size] + lent), ('blocks', text + 2 * numbers + counts), ('definitions', text + 3 * numbers + counts), ('identifier', text + lent), ('reference', [ctypes.c_uint32] + text + lent), ('texts', given + 3 * numbers + outcome), ('short_texts', given + 3 * numbers + outcome),
         ('html', given + numbers + [ctypes.c_uint32, _size] + lent), ('htmls', given + 2 * numbers + [ctypes.c_uint32, _size] + 2 * numbers + outcome),
         ('strings', 2 * [ctypes.c_uint32] + text + 4 * numbers + outcome),
     ):
@@ -138,6 +150,23 @@ def filled(call, size, room):
     raise RuntimeError('the library wants other room for the same input')
 
 
+def _filled_each(function, document, *arrays):
+    """The status of a call that is lent several arrays, and two counts, and the bytes that it wrote to each. An array is told by the size of its elements, the
+    number of their count, and the room that it has in elements at first. The call tells how many they are where one of them is too small."""
+    counts = (_size * 2)()
+    rooms = [room for _, _, room in arrays]
+    for _ in range(2):
+        lent = [_lend(size * room) for (size, _, _), room in zip(arrays, rooms)]
+        status = function(document, len(document), *chain.from_iterable((it, len(it) // size) for it, (size, _, _) in zip(lent, arrays)), counts)
+        rooms = [counts[at] for _, at, _ in arrays]
+        if status != TOO_SMALL:
+            return status, [_written(it, size * room if status == DONE else 0) for it, (size, _, _), room in zip(lent, arrays, rooms)]
+        for it in lent:
+            _give_back(it)
+        del lent
+    raise RuntimeError('the library wants other room for the same input')
+
+
 def filled_many(call, size, room, many, goes_on=True):
     """The status of a call for so many, the bytes that it wrote, where those of each end, counted in elements of this size, and the number of what is to blame,
     if one of several is. The call is lent the number of the first that it reads, an array with its length, an array for ends with its length, and an outcome.
@@ -186,9 +215,21 @@ def decoded(name, text, *before):
     return filled(lambda *lent: function(*before, text, len(text), *lent), 1, len(text))
 
 
-def document_html(document, options):
+def document_html(document, options, limit):
     """Calls for the HTML of a document: the status, and its bytes."""
-    return filled(lambda *lent: LIBRARY.markdown_inline_document_html(document, len(document), options, *lent), 1, 2 * len(document))
+    return filled(lambda *lent: LIBRARY.markdown_inline_document_html(document, len(document), options, limit, *lent), 1, 2 * len(document))
+
+
+def blocks(document):
+    """Calls for the blocks of a document: the status, and the bytes of the blocks and of their pieces."""
+    # Prose has a block and a piece for each line.
+    room = len(document) // 16 + 64
+    return _filled_each(LIBRARY.markdown_inline_blocks, document, (_BLOCK_SIZE, 0, room), (_PIECE_SIZE, 1, room))
+
+
+def definitions(document):
+    """Calls for the definitions of a document: the status, the texts of labels and targets, and the bytes of where the labels stand and of the targets."""
+    return _filled_each(LIBRARY.markdown_inline_definitions, document, (1, 1, 0), (_RANGE_SIZE, 0, 0), (_TARGET_SIZE, 0, 0))
 
 
 def texts(name, size, given, contents, count):
@@ -221,6 +262,11 @@ def htmls(given, targets, count, contents, many, options, limit):
             at, targets, count, ctypes.byref(contents_at, start * each), left, options, limit, lent, room, ends, left, outcome)
 
     return filled_many(call, 1, 2 * given.covered(), many, not given.input.footnotes_len)
+
+
+def parted(found, ends):
+    """The texts of bytes that end there."""
+    return [str(found[start:end], 'utf-8') for start, end in zip(chain((0,), ends), ends)]
 
 
 def tested(name, document, pieces):

@@ -88,6 +88,11 @@ def found_in(events: ShortTexts) -> Tuple[List[Found], List[List[Tuple[int, int]
     return found, strings
 
 
+def line_starts(document: bytes) -> List[int]:
+    """The bytes at which lines begin."""
+    return [0, *(it.end() for it in _LINE_ENDING.finditer(document))]
+
+
 def _columns(document: bytes, columns: str) -> Callable[[int], int]:
     """How many of these a document has before a byte."""
     if columns == 'bytes' or document.isascii():
@@ -99,7 +104,7 @@ def _columns(document: bytes, columns: str) -> Callable[[int], int]:
 def addresses(document: bytes, found: List[Found], strings: List[str], targets: Sequence[Tuple[str, Optional[str]]], columns: str) -> List[Address]:
     """Where all leads: by its strings, by the targets of definitions, or as it is written."""
     listed, count = [], _columns(document, columns)
-    starts = [0, *(it.end() for it in _LINE_ENDING.finditer(document))]
+    starts = line_starts(document)
     for it in found:
         if it.definition is not None:
             destination, title = targets[it.definition]

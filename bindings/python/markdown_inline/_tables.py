@@ -16,7 +16,15 @@ def _header():
 
 
 _TEXT = _header()
-NAMES = tuple(re.findall(r'X\([A-Z_]+, "(\w+)"\)', _TEXT))
-OPTIONS = {name: int(bit, 16) for name, bit in re.findall(r'X\([A-Z_]+, "(\w+)", (0x\w+)\)', _TEXT)}
-STATUSES = {int(number): words for number, words in re.findall(r'X\([A-Z0-9_]+, (\d+), "([^"]*)"\)', _TEXT)}
+
+
+def _rows(name, row):
+    """What stands in the rows of a list of the header."""
+    return re.findall(row, re.search(r'#define MARKDOWN_INLINE_EACH_%s\(X\)(.*?[^\\])\n' % name, _TEXT, re.S).group(1))
+
+
+NAMES = tuple(_rows('NAME', r'X\([A-Z_]+, "(\w+)"\)'))
+BLOCKS = tuple(_rows('BLOCK', r'X\([A-Z_]+, "(\w+)"\)'))
+OPTIONS = {name: int(bit, 16) for name, bit in _rows('OPTION', r'X\([A-Z_]+, "(\w+)", (0x\w+)\)')}
+STATUSES = {int(number): words for number, words in _rows('STATUS', r'X\([A-Z0-9_]+, (\d+), "([^"]*)"\)')}
 COMMONMARK, CRATE, GFM, MATH = (int(re.search(r'MARKDOWN_INLINE_%s = (0x\w+)' % name, _TEXT).group(1), 16) for name in ('COMMONMARK', 'CRATE', 'GFM', 'MATH'))

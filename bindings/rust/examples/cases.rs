@@ -2,8 +2,8 @@
 //! `crates/markdown_test_runs` does, leaves, HTML in hexadecimal, or the events or the HTML of each text; where there are none, why.
 
 use markdown_inline::{
-    document_html, Error, Event, HtmlOptions, Input, Leaf, Options, Piece, Point, Refusal,
-    ShortEvent, TextContent,
+    blocks, document_html_within, Block, Blocks, Definition, Error, Event, HtmlOptions, Htmls,
+    Input, Leaf, Options, Piece, Point, Refusal, ShortEvent, TextContent,
 };
 use std::io::{self, BufRead};
 
@@ -140,6 +140,44 @@ fn htmls_of(input: &Input, words: &[&str]) -> Result<String, Refusal> {
     Ok(shown.collect())
 }
 
+fn shown_block(block: Block, htmls: &Htmls) -> String {
+    let flags = [block.begins_list, block.ends_list, block.is_loose];
+    let flags = (0..3).fold(0, |bits, at| bits | u8::from(flags[at]) << at);
+    let marker = block.marker.map_or(0, u32::from);
+    let pieces = block.pieces.iter();
+    let pieces = pieces
+        .map(|it| format!(" {}.{}-{}.{}", it.start, it.start_vs, it.end, it.end_vs))
+        .collect::<String>();
+    let html = block.content.and_then(|number| htmls.get(number));
+    let html = html.map_or(String::new(), |it| {
+        " =".to_string() + &hexadecimal(it.as_bytes())
+    });
+    format!(
+        " |{}:{}:{}:{marker}:{flags}{pieces}{html}",
+        block.kind as u8, block.depth, block.number
+    )
+}
+
+fn shown_definition(it: Definition) -> String {
+    let title = it.title.map(|title| hexadecimal(title.as_bytes()));
+    format!(
+        " ;{}={}{}",
+        hexadecimal(it.label.as_bytes()),
+        hexadecimal(it.destination.as_bytes()),
+        title.map_or(String::new(), |title| ":".to_string() + &title)
+    )
+}
+
+// The blocks of a document, by the options and the footnotes of an input.
+fn blocks_of(found: &Blocks, input: Input, words: &[&str]) -> Result<String, Refusal> {
+    let input = input.reference_limit(words[1].parse().unwrap());
+    let htmls = input.htmls(found.contents(), held(words[0]))?;
+    let rows = found.iter().map(|block| shown_block(block, &htmls));
+    Ok(rows
+        .chain(found.definitions().map(shown_definition))
+        .collect())
+}
+
 // What is found in a case, or why nothing is.
 fn answer(words: &[&str]) -> Result<String, Refusal> {
     let document = bytes_of(words[5]);
@@ -161,7 +199,20 @@ fn answer(words: &[&str]) -> Result<String, Refusal> {
         "text" => Ok(input.text()?.iter().map(shown).collect()),
         "leaves" => Ok(input.leaves()?.iter().map(shown_leaf).collect()),
         "html" => Ok(html_of(input.html(held(words[6])))?),
-        "document" => Ok(html_of(document_html(&document, held(words[6])))?),
+        "document" => {
+            let limit = words[7].parse().unwrap();
+            let html = document_html_within(&document, held(words[6]), limit);
+            Ok(html_of(html)?)
+        }
+        "blocks" => {
+            let found = blocks(&document)?;
+            let input = found.input().options(options);
+            blocks_of(
+                &found,
+                input.footnotes(listed(words[4]).map(bytes_of)),
+                &words[6..],
+            )
+        }
         "htmls" => htmls_of(&input, &words[6..]),
         "shorts" => shorts_of(&input, words[6]),
         _ => texts_of(&input, words[6]),

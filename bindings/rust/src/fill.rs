@@ -29,6 +29,15 @@ pub(crate) fn fill<T>(
     }
 }
 
+/// Whether a call has written what it has found; else it wants more room.
+pub(crate) fn is_done(status: u32) -> Result<bool, Error> {
+    match status {
+        raw::DONE => Ok(true),
+        raw::TOO_SMALL => Ok(false),
+        status => Err(Error::of(status)),
+    }
+}
+
 /// The elements of a vector without much room beside them, since they may be kept for long.
 pub(crate) fn fitted<T: Copy>(found: Vec<T>) -> Vec<T> {
     let mut fitted = Vec::new();

@@ -34,9 +34,9 @@ use std::mem;
 pub struct Input<'a> {
     document: &'a [u8],
     pieces: Cow<'a, [Piece]>,
-    labels: Vec<u8>,
-    definitions: Vec<RawRange>,
-    targets: Vec<RawTarget>,
+    labels: Cow<'a, [u8]>,
+    definitions: Cow<'a, [RawRange]>,
+    targets: Cow<'a, [RawTarget]>,
     footnotes: Vec<RawRange>,
     options: Options,
     reference_limit: usize,
@@ -44,6 +44,11 @@ pub struct Input<'a> {
 
 /// How many bytes definitions may bring by default, if the document is not longer: as many as cmark lets them bring.
 const REFERENCE_LIMIT: usize = 100_000;
+
+/// How many bytes definitions may bring by default to a document.
+pub(crate) fn usual_limit(document: &[u8]) -> usize {
+    document.len().max(REFERENCE_LIMIT)
+}
 
 impl<'a> Input<'a> {
     /// A whole document, read as CommonMark says, with nothing defined.
@@ -56,12 +61,12 @@ impl<'a> Input<'a> {
         Input {
             document,
             pieces: Cow::Owned(vec![whole]),
-            labels: Vec::new(),
-            definitions: Vec::new(),
-            targets: Vec::new(),
+            labels: Cow::default(),
+            definitions: Cow::default(),
+            targets: Cow::default(),
             footnotes: Vec::new(),
             options: Options::default(),
-            reference_limit: document.len().max(REFERENCE_LIMIT),
+            reference_limit: usual_limit(document),
         }
     }
 
@@ -147,6 +152,19 @@ impl<'a> Input<'a> {
         self.reference_limit = limit;
     }
 
+    /// These definitions and no others: where their labels stand, and where each leads.
+    pub(crate) fn defined(
+        mut self,
+        labels: &'a [u8],
+        definitions: &'a [RawRange],
+        targets: &'a [RawTarget],
+    ) -> Input<'a> {
+        self.labels = Cow::Borrowed(labels);
+        self.definitions = Cow::Borrowed(definitions);
+        self.targets = Cow::Borrowed(targets);
+        self
+    }
+
     /// Sets other pieces, which are kept in the input.
     pub fn set_pieces(&mut self, pieces: impl IntoIterator<Item = Piece>) {
         let mut kept = match mem::take(&mut self.pieces) {
@@ -176,14 +194,14 @@ impl<'a> Input<'a> {
         title: Option<&str>,
     ) {
         let range = self.labelled(label.as_ref());
-        self.definitions.push(range);
+        self.definitions.to_mut().push(range);
         let target = RawTarget {
             destination: self.labelled(destination.as_ref()),
             title: self.labelled(title.unwrap_or("").as_bytes()),
             has_title: u32::from(title.is_some()),
             reserved: 0,
         };
-        self.targets.push(target);
+        self.targets.to_mut().push(target);
     }
 
     /// Adds a footnote definition, as `footnote` does.
@@ -194,7 +212,7 @@ impl<'a> Input<'a> {
 
     fn labelled(&mut self, label: &[u8]) -> RawRange {
         let start = self.labels.len();
-        self.labels.extend_from_slice(label);
+        self.labels.to_mut().extend_from_slice(label);
         RawRange {
             start,
             end: self.labels.len(),

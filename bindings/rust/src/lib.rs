@@ -1,7 +1,7 @@
-//! Markdown: the HTML of a document, and the events of a paragraph's inline tree.
+//! Markdown: the HTML of a document, its blocks, and the events of the inline trees of their texts.
 //!
-//! What the calls return is proved; this crate calls the proved library, and has no dependencies. [`document_html`] writes the HTML of a document, its blocks
-//! included. All other calls read the text inside one block.
+//! What the calls return is proved; this crate calls the proved library, and has no dependencies. [`document_html`] writes the HTML of a document, and
+//! [`blocks`] finds its blocks. All other calls read the text inside one block, or those of several.
 //!
 //! ```
 //! # fn main() -> Result<(), markdown_inline::Error> {
@@ -61,6 +61,7 @@
 //! 4. else where `bindings/build` leaves them in the repository.
 #![warn(missing_docs)]
 
+mod blocks;
 mod error;
 mod event;
 mod fill;
@@ -79,6 +80,7 @@ mod strings;
 mod texts;
 mod version;
 
+pub use blocks::{blocks, Block, BlockKind, Blocks, BlocksIter, Definition};
 pub use error::{Error, Refusal};
 pub use event::{Chain, Content, Event, EventSlice, Events, Iter, Kind, Link, Point};
 pub use htmls::{Htmls, HtmlsIter};
@@ -93,14 +95,17 @@ pub use short::{ShortEvent, ShortIter, ShortTexts, ShortTextsIter};
 pub use strings::{strings, strings_with, Strings, StringsIter};
 pub use texts::{TextContent, Texts, TextsIter};
 
+use input::usual_limit;
+
 /// The HTML of a document, of its blocks and of the text inside them, as CommonMark 0.31.2 says. The document's own definitions count. Line endings of the
 /// document stay; those that the page itself brings are line feeds.
 ///
-/// There is no limit on how many bytes definitions bring: n references to a definition of n bytes write n * n bytes.
+/// Definitions may bring as many bytes as the document has, or 100,000 where it is shorter: those of the destination and of the title, for each link and image that
+/// refers to one. [`document_html_within`] takes another limit.
 ///
 /// # Errors
 ///
-/// `TooLong`, `NotUtf8` or `NoMemory`.
+/// `TooLong`, `NotUtf8`, `References` or `NoMemory`.
 ///
 /// ```
 /// use markdown_inline::{document_html, HtmlOptions};
@@ -111,6 +116,27 @@ pub fn document_html<D: AsRef<[u8]> + ?Sized>(
     document: &D,
     options: HtmlOptions,
 ) -> Result<String, Error> {
+    document_html_within(document, options, usual_limit(document.as_ref()))
+}
+
+/// The HTML of a document as of [`document_html`], where definitions may bring as many bytes as this limit says; 0 is no limit. Without one, n references to a
+/// definition of n bytes write n * n bytes.
+///
+/// # Errors
+///
+/// `TooLong`, `NotUtf8`, `References` or `NoMemory`.
+///
+/// ```
+/// use markdown_inline::{document_html_within, Error, HtmlOptions};
+/// let within = |limit| document_html_within("[a]\n\n[a]: /bc\n", HtmlOptions::default(), limit);
+/// assert_eq!(within(3).unwrap(), "<p><a href=\"/bc\">a</a></p>\n");
+/// assert_eq!(within(2), Err(Error::References));
+/// ```
+pub fn document_html_within<D: AsRef<[u8]> + ?Sized>(
+    document: &D,
+    options: HtmlOptions,
+    limit: usize,
+) -> Result<String, Error> {
     let document = document.as_ref();
     // SAFETY: each pointer goes with the length of its array, and nothing is kept.
     text_by(2 * document.len() + 128, |array, len, count| unsafe {
@@ -118,6 +144,7 @@ pub fn document_html<D: AsRef<[u8]> + ?Sized>(
             document.as_ptr(),
             document.len(),
             options.bits(),
+            limit,
             array,
             len,
             count,

@@ -118,6 +118,36 @@ pub(crate) struct RawContent {
     pub reserved: u32,
 }
 
+/// A block as it crosses.
+#[derive(Clone, Copy, Debug)]
+#[repr(C)]
+pub(crate) struct RawBlock {
+    pub(crate) pieces: RawRange,
+    pub(crate) depth: usize,
+    pub(crate) number: usize,
+    pub(crate) kind: u8,
+    pub(crate) marker: u8,
+    pub(crate) list: u8,
+    pub(crate) reserved: u8,
+    pub(crate) reserved_too: u32,
+}
+
+/// How many blocks a document has, and how many pieces.
+#[derive(Clone, Copy, Debug, Default)]
+#[repr(C)]
+pub(crate) struct RawBlocksCount {
+    pub blocks: usize,
+    pub pieces: usize,
+}
+
+/// How many definitions a document has, and how many bytes their labels and targets.
+#[derive(Clone, Copy, Debug, Default)]
+#[repr(C)]
+pub(crate) struct RawDefinitionsCount {
+    pub definitions: usize,
+    pub labels: usize,
+}
+
 /// How far a call for many comes.
 #[derive(Clone, Copy, Debug, Default)]
 #[repr(C)]
@@ -131,7 +161,7 @@ const _: () = assert!(size_of::<usize>() == 8 && size_of::<Piece>() == 32);
 const _: () = assert!(size_of::<RawInput>() == 88 && size_of::<RawEvent>() == 56);
 const _: () = assert!(size_of::<RawLeaf>() == 96 && size_of::<RawTarget>() == 40);
 const _: () = assert!(size_of::<RawContent>() == 24 && size_of::<RawOutcome>() == 24);
-const _: () = assert!(size_of::<RawShortEvent>() == 16);
+const _: () = assert!(size_of::<RawShortEvent>() == 16 && size_of::<RawBlock>() == 40);
 
 /// A call that fills an array by what is found in an input.
 pub(crate) type Call<T> = unsafe extern "C" fn(*const RawInput, *mut T, usize, *mut usize) -> u32;
@@ -154,9 +184,30 @@ extern "C" {
         bytes: *const u8,
         bytes_len: usize,
         html_options: u32,
+        limit: usize,
         html: *mut u8,
         html_len: usize,
         count: *mut usize,
+    ) -> u32;
+    pub(crate) fn markdown_inline_blocks(
+        bytes: *const u8,
+        bytes_len: usize,
+        blocks: *mut RawBlock,
+        blocks_len: usize,
+        pieces: *mut Piece,
+        pieces_len: usize,
+        count: *mut RawBlocksCount,
+    ) -> u32;
+    pub(crate) fn markdown_inline_definitions(
+        bytes: *const u8,
+        bytes_len: usize,
+        labels: *mut u8,
+        labels_len: usize,
+        definitions: *mut RawRange,
+        definitions_len: usize,
+        targets: *mut RawTarget,
+        targets_len: usize,
+        count: *mut RawDefinitionsCount,
     ) -> u32;
     pub(crate) fn markdown_inline_is_content(
         bytes: *const u8,

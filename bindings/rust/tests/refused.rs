@@ -2,8 +2,8 @@
 #![cfg(all(target_os = "linux", target_env = "gnu"))]
 
 use markdown_inline::{
-    document_html, identifier, reference, strings, Error, Events, HtmlOptions, Htmls, Input, Piece,
-    TextContent, Texts,
+    blocks, document_html, identifier, reference, strings, Error, Events, HtmlOptions, Htmls,
+    Input, Piece, TextContent, Texts,
 };
 use std::cell::Cell;
 use std::ffi::c_void;
@@ -82,10 +82,11 @@ fn refused_memory_is_an_error() {
         refused(|| strings("a", &[0..1, 0..1], &[0..2, 0..1]).map(drop)).map_err(Error::from),
         refused(|| Piece::of_lines("a", &[0]).map(drop)).map_err(Error::from),
         refused(|| document_html("a", options).map(drop)),
+        refused(|| blocks("a").map(drop)),
         refused(|| identifier("A").map(drop)),
         refused(|| reference("&amp;").map(drop)),
     ];
-    assert_eq!(found, [Err(Error::NoMemory); 16]);
+    assert_eq!(found, [Err(Error::NoMemory); 17]);
     assert!(events.is_empty() && html.is_empty() && texts.is_empty() && htmls.is_empty());
     assert!(input.htmls_into(&contents, options, &mut htmls).is_ok() && htmls.len() == 1);
     assert!(input.texts(&contents).is_ok());

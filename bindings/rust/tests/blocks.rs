@@ -1,0 +1,202 @@
+//! The blocks of documents, and what stands in their texts.
+
+use markdown_inline::{
+    blocks, document_html, document_html_within, BlockKind, Definition, Error, HtmlOptions, Input,
+    Name, Options, Piece, Refusal, TextContent,
+};
+
+const DOCUMENT: &str = "# é *a*\n\n> 3) [b][B] ![c](/d)\n>    `e`\n>\n> 4) ~~~ f&amp;g\n>    \th\n>    ~~~\n\n***\n- i\n- [x] <jj:k>\n<!-- l\n\nm\n=\n[b]: </n> \"o\"\n";
+
+#[test]
+fn each_block_is_told() {
+    use BlockKind::*;
+    let found = blocks(DOCUMENT).unwrap();
+    let rows: Vec<_> = found
+        .iter()
+        .map(|it| {
+            let list = [it.begins_list, it.ends_list, it.is_loose];
+            (it.kind, it.depth, it.number, it.marker, list, it.line())
+        })
+        .collect();
+    let none = [false; 3];
+    assert_eq!(
+        rows,
+        [
+            (Heading, 0, 1, None, none, Some(1)),
+            (BlankLine, 0, 0, None, none, None),
+            (Quote, 0, 0, None, none, None),
+            (Item, 1, 3, Some(')'), [true, false, true], None),
+            (Paragraph, 2, 0, None, none, Some(3)),
+            (BlankLine, 2, 0, None, none, None),
+            (Item, 1, 4, Some(')'), [false, true, true], None),
+            (FencedCode, 2, 0, Some('~'), none, Some(6)),
+            (BlankLine, 0, 0, None, none, None),
+            (ThematicBreak, 0, 0, None, none, None),
+            (Item, 0, 0, Some('-'), [true, false, false], None),
+            (Paragraph, 1, 0, None, none, Some(11)),
+            (Item, 0, 0, Some('-'), [false, true, false], None),
+            (Paragraph, 1, 0, None, none, Some(12)),
+            (Html, 0, 2, None, none, Some(13)),
+        ]
+    );
+    assert_eq!(found.get(0).unwrap().pieces, [Piece::from(2..8)]);
+    let code = found.get(7).unwrap();
+    assert!(code.lines().eq(["\th\n"]));
+    assert_eq!(code.info().unwrap().as_deref(), Some("f&g"));
+    assert_eq!(found.get(0).unwrap().info(), Ok(None));
+    assert_eq!((found.len(), found.get(15).is_none()), (15, true));
+    let numbers = |it: markdown_inline::Block| (it.kind, it.line());
+    let mut both = found.iter().map(numbers).collect::<Vec<_>>();
+    both.reverse();
+    assert!(found.iter().rev().map(numbers).eq(both));
+    assert!(blocks("").unwrap().is_empty());
+    let shown = format!("{:?}", blocks("# a").unwrap());
+    let wanted = "[Block { kind: Heading, depth: 0, number: 1, line: Some(1), .. }]";
+    assert_eq!(shown, wanted);
+}
+
+#[test]
+fn texts_are_those_of_their_pieces() {
+    let document = DOCUMENT.replace("<!--", "!");
+    let found = blocks(&document).unwrap();
+    let options = Options::COMMONMARK | Options::GFM;
+    let input = found.input().options(options);
+    let (texts, held) = (
+        input.texts(found.contents()).unwrap(),
+        HtmlOptions::default(),
+    );
+    let htmls = input.htmls(found.contents(), held).unwrap();
+    let mut many = 0;
+    for block in &found {
+        let has_text = matches!(block.kind, BlockKind::Heading | BlockKind::Paragraph);
+        assert_eq!(block.content, has_text.then_some(many));
+        if !has_text {
+            continue;
+        }
+        let number = many;
+        many += 1;
+        let is_task = block.lines().any(|it| it.starts_with("[x]"));
+        let options = if is_task {
+            options | Options::FIRST_OF_ITEM
+        } else {
+            options
+        };
+        let one = Input::new(&document)
+            .pieces(block.pieces)
+            .options(options)
+            .definition_to("b", "/n", Some("o"));
+        assert!(texts
+            .get(number)
+            .unwrap()
+            .into_iter()
+            .eq(&one.text().unwrap()));
+        assert_eq!(htmls.get(number).unwrap(), one.html(held).unwrap());
+    }
+    assert_eq!((many, texts.len(), htmls.len()), (6, 6, 6));
+}
+
+#[test]
+fn links_have_places_of_the_document() {
+    let found = blocks(DOCUMENT).unwrap();
+    let links = found.input().links(found.contents()).unwrap();
+    let places: Vec<_> = links
+        .iter()
+        .map(|it| (it.name, it.start.line, it.start.column, &*it.destination))
+        .collect();
+    let wanted = [(Name::Image, 3, 13, "/d"), (Name::Autolink, 12, 7, "jj:k")];
+    assert_eq!(places, wanted);
+}
+
+#[test]
+fn definitions_are_told() {
+    let document = "[A]: /b \"c\"\n[a]: <d&amp;\\*>\n\n> [é\n> f]:\n> g\n\n[a] [é f] [h]";
+    let found = blocks(document).unwrap();
+    let of = |label, destination, title| Definition {
+        label,
+        destination,
+        title,
+    };
+    let wanted = [
+        of("A", "/b", Some("c")),
+        of("a", "d&*", None),
+        of("é\nf", "g", None),
+    ];
+    assert!(found.definitions().eq(wanted));
+    let htmls = |input: Input| {
+        let found = input.htmls(found.contents(), HtmlOptions::default());
+        found.unwrap().as_str().to_string()
+    };
+    let both = "<a href=\"/b\" title=\"c\">a</a> <a href=\"g\">é f</a> ";
+    assert_eq!(htmls(found.input()), both.to_string() + "[h]");
+    // What the input is given besides stands behind the document's own.
+    let more = found.input().definition_to("h", "/i", None);
+    assert_eq!(htmls(more), both.to_string() + "<a href=\"/i\">h</a>");
+}
+
+#[test]
+fn the_first_paragraph_of_an_item_is_told() {
+    for (document, wanted) in [
+        ("- a\n- b\n\n  c", &[true, true, false][..]),
+        ("-\n  a", &[true]),
+        ("- [r]: /s\n\n  a", &[true, true]),
+        ("- # a\n\n  b", &[false, false]),
+        ("- > a", &[false]),
+        ("-\n\na", &[false]),
+        ("- - a\n\n  b", &[true, false]),
+        ("a\n\n- ***\n  b", &[false, false]),
+    ] {
+        let found = blocks(document).unwrap();
+        let firsts: Vec<_> = found.contents().iter().map(|it| it.first_of_item).collect();
+        assert_eq!(firsts, wanted, "{document}");
+    }
+}
+
+#[test]
+fn lines_with_tabs_are_cut() {
+    for (document, wanted) in [
+        ("-\t\ta\n", &["  a\n"][..]),
+        (">\t\ta\n> \tb", &["  a\n"]),
+        ("\t\ta\tb\n", &["\ta\tb\n"]),
+        ("> ~~~\n>\t\té\r\n>", &["  \té\r\n", ""]),
+        ("~~~", &[]),
+    ] {
+        let found = blocks(document).unwrap();
+        let is_code = |kind| matches!(kind, BlockKind::IndentedCode | BlockKind::FencedCode);
+        let code = found.iter().find(|it| is_code(it.kind)).unwrap();
+        assert!(code.lines().eq(wanted.iter().copied()), "{document}");
+    }
+    let html = blocks("> <pre>a\n>").unwrap();
+    assert!(html.get(1).unwrap().lines().eq(["<pre>a\n"]));
+}
+
+#[test]
+fn definitions_bring_no_more_than_a_limit() {
+    let (document, held) = (
+        "[a]\n\n".repeat(101) + "[a]: " + &"x".repeat(1000),
+        HtmlOptions::default(),
+    );
+    let len_within = |limit| document_html_within(&document, held, limit).map(|it| it.len());
+    let usual = document_html(&document, held).map(drop);
+    assert_eq!(usual, Err(Error::References));
+    assert_eq!(len_within(100_999), Err(Error::References));
+    assert_eq!(len_within(101_000), Ok(101 * 1024));
+    assert_eq!(len_within(0), Ok(101 * 1024));
+    let padded = document.clone() + "\n\n" + &"y".repeat(100_000);
+    assert!(document_html(&padded, held).is_ok());
+    let found = blocks(&document).unwrap();
+    let refused = found.input().htmls(found.contents(), held).unwrap_err();
+    let wanted = Refusal {
+        error: Error::References,
+        at: Some(100),
+    };
+    assert_eq!(refused, wanted);
+}
+
+#[test]
+fn what_is_no_document_is_refused() {
+    assert_eq!(blocks(b"a\xff").map(drop), Err(Error::NotUtf8));
+    let found = blocks("a").unwrap();
+    let input = found.input().options(Options::from_bits(1 << 31));
+    let refused = input.texts(&[TextContent::from(0..1)]).map(drop);
+    assert_eq!(refused.map_err(Error::from), Err(Error::UnknownOption));
+}
