@@ -15,6 +15,7 @@ pub mod CursorInvariant
 pub mod ContentEnd
 pub mod CodesBeside
 pub mod BytesOfContent
+pub mod BytesOfCodes
 pub mod LaterPieces
 pub mod CursorSteps
 pub mod NestingLemmas

@@ -3,7 +3,7 @@ ghost use Rattle.std.specs.Prelude.{◌≡◌, ◌∷◌, ◌++◌, [], ℕ, Lis
 ghost use Rattle.markdown_content.specs.Beside.{has_code_before, has_code_behind};
 ghost use Rattle.markdown_content.specs.Codes.{count_among, line_feed, place_of};
 ghost use Rattle.markdown_content.specs.Content.{IsContent, has_no_blank_line};
-ghost use Rattle.markdown_content.specs.ContentBytes.{bytes_within};
+ghost use Rattle.markdown_content.specs.ContentBytes.{AreBytes, bytes_within};
 ghost use Rattle.markdown_content.specs.KnownPlaces.{first_place};
 ghost use Rattle.markdown_content.specs.Place.{start_of_content, ahead_at, code_at, code_before, point_of, exit_point, moved};
 ghost use Rattle.markdown_content.specs.PlaceInDocument.{is_open, first_point, followed, IsPlaceOf};
@@ -19,6 +19,7 @@ use crate::parser::Piece;
 use crate::part::{is_in_one_piece, push_between};
 use crate::walk::{DOCUMENT_START, code_from, past_code, walk_to};
 use markdown_event::event::Point;
+use memchr::memchr2;
 use std::alloc::AllocError;
 use std::marker::Model;
 
@@ -212,6 +213,24 @@ impl<'a> Cursor<'a> {
         ensures { OnOk result (out.new.items ≡ out.old.items ++ bytes_within text.now from to self.now.codes) }
     {
         push_between(out, text, self.bytes, self.pieces, from, to)
+    }
+
+    /// Answers the bytes of the whole content where each of its codes is one of them: where it is one piece, which does not end within a tab, and no
+    /// byte of it is a tab or a carriage return.
+    pub fn bytes_of_codes(&self) -> Option<&'a [u8]>
+        ensures { IfSome result (λ bytes. AreBytes bytes.now self.now.codes) }
+    {
+        let [piece] = self.pieces else {
+            return None;
+        };
+        if piece.end.1 != 0 {
+            return None;
+        }
+        let bytes = &self.bytes[piece.start.0..piece.end.0];
+        match memchr2(b'\t', b'\r', bytes) {
+            Some(_) => None,
+            None => Some(bytes),
+        }
     }
 
     /// Answers the bytes of the document that it reads.
