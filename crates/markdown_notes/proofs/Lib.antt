@@ -3,6 +3,7 @@ pub mod RunIndexLemmas
 pub mod RunIndexFacts
 mod RunIndexOrder
 pub mod SequenceIndexLemmas
+mod SequenceBytes
 pub mod TitleIndexLemmas
 pub mod NameOrder
 pub mod BracketIndexLemmas

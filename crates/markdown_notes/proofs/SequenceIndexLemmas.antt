@@ -332,7 +332,7 @@ last-is cs WwwDot = refl
 last-is cs SpanMark = refl
 
 -- a sequence that begins further on begins in the whole
-later-begin : (p : List Code → Bool) (k a : ℕ) (cs : List Code) → last_where p (drop k cs) ≡ Some a →
+pub later-begin : (p : List Code → Bool) (k a : ℕ) (cs : List Code) → last_where p (drop k cs) ≡ Some a →
     last_where p cs ≡ Some (k + a)
 later-begin p zero a cs e = e ∙ ap (λ n. Some n) (omega arith)
 later-begin p (suc k) a [] e = cc

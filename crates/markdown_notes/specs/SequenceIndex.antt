@@ -51,6 +51,16 @@ begins_at ResourceEnd = closes_twice
 begins_at WwwDot = dots_behind_w
 begins_at SpanMark = marks_span
 
+-- the values of which it is one that its first code has
+abbrev pub first_bytes : Sequence → ℕ × ℕ
+first_bytes CommentEnd = (byte "-", byte "-")
+first_bytes SectionEnd = (byte "]", byte "]")
+first_bytes InstructionEnd = (byte "?", byte "?")
+first_bytes DeclarationEnd = (byte ">", byte ">")
+first_bytes ResourceEnd = (byte ")", byte ")")
+first_bytes WwwDot = (byte "w", byte "W")
+first_bytes SpanMark = (byte "`", byte "$")
+
 -- how many codes stand before the last code from which on the codes pass
 abbrev pub last_where : (List Code → Bool) → List Code → Option ℕ
 last_where p [] = None

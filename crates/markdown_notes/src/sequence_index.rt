@@ -1,7 +1,9 @@
 //! Where the last of some sequences of bytes begins.
-ghost use Rattle.std.specs.Prelude.{◌≡◌, ◌-◌, Some, None, cond};
+ghost use Rattle.std.specs.Prelude.{◌≡◌, ◌-◌, List, Some, None, cond};
+ghost use Rattle.markdown_content.specs.Codes.{Code};
+ghost use Rattle.markdown_content.specs.ContentBytes.{AreBytes};
 ghost use Rattle.markdown_content.specs.Place.{ahead_at, code_at};
-ghost use Rattle.markdown_notes.specs.SequenceIndex.{begun_at, closes_past_spacing, closes_twice, is_behind_w, is_spacing, last_begins, last_in, rules_out, shows_at, stand_next, stop_bytes};
+ghost use Rattle.markdown_notes.specs.SequenceIndex.{begins_at, begun_at, closes_past_spacing, closes_twice, first_bytes, is_behind_w, is_spacing, last_begins, last_in, last_where, rules_out, shows_at, stand_next, stop_bytes};
 ghost use Rattle.markdown_notes.specs.declared.sequence_index.Sequence.{Sequence as Kind};
 ghost use Rattle.markdown_notes.specs.declared.sequence_index.Sequence.TheVariants.{WwwDot};
 ghost use Rattle.std.specs.Str.{byte};
@@ -9,6 +11,7 @@ ghost use Rattle.std.specs.Str.{byte};
 use markdown_content::byte_table;
 use markdown_content::bytes::{ByteSet, ByteTable};
 use markdown_content::cursor::Cursor;
+use memchr::memrchr2;
 use std::marker::Model;
 
 /// A sequence of bytes without which some construct does not stand: one that ends it, or that it holds.
@@ -91,25 +94,15 @@ impl SequenceIndex {
         SequenceIndex { last: None }
     }
 
-    /// The sequences in the whole content of a cursor, by one walk.
+    /// The sequences in the whole content of a cursor: searched for in its bytes, from the last one on, where each code is one of them; else by one
+    /// walk over the codes.
     pub fn over(cursor: &Cursor) -> SequenceIndex
         ensures { result ≡ Some (last_begins cursor.now.codes) }
     {
-        let mut last = LastBegins {
-            comment_end: None,
-            section_end: None,
-            instruction_end: None,
-            declaration_end: None,
-            resource_end: None,
-            www_dot: None,
-            span_mark: None,
+        let last = match cursor.bytes_of_codes() {
+            Some(bytes) => last_in_bytes(bytes),
+            None => last_in_codes(cursor),
         };
-        let stops = stop_bytes();
-        let mut place = cursor.restart();
-        while let Some(code) = place.seek(&stops) {
-            last = found_at(&place, code, last);
-            place.consume();
-        }
         SequenceIndex { last: Some(last) }
     }
 
@@ -125,6 +118,110 @@ impl SequenceIndex {
             },
         }
     }
+}
+
+// Where the sequences last begin in the whole content of a cursor, by one walk over its codes.
+fn last_in_codes(cursor: &Cursor) -> LastBegins
+    ensures { result ≡ last_begins cursor.now.codes }
+{
+    let mut last = LastBegins {
+        comment_end: None,
+        section_end: None,
+        instruction_end: None,
+        declaration_end: None,
+        resource_end: None,
+        www_dot: None,
+        span_mark: None,
+    };
+    let stops = stop_bytes();
+    let mut place = cursor.restart();
+    while let Some(code) = place.seek(&stops) {
+        last = found_at(&place, code, last);
+        place.consume();
+    }
+    last
+}
+
+// Where the sequences last begin in codes that are these bytes.
+fn last_in_bytes(bytes: &[u8]) -> LastBegins
+    ensures { (cs : List Code) → AreBytes bytes.now cs → result ≡ last_begins cs }
+{
+    LastBegins {
+        comment_end: last_of(Sequence::CommentEnd, bytes),
+        section_end: last_of(Sequence::SectionEnd, bytes),
+        instruction_end: last_of(Sequence::InstructionEnd, bytes),
+        declaration_end: last_of(Sequence::DeclarationEnd, bytes),
+        resource_end: last_of(Sequence::ResourceEnd, bytes),
+        www_dot: last_of(Sequence::WwwDot, bytes),
+        span_mark: last_of(Sequence::SpanMark, bytes),
+    }
+}
+
+// Where a sequence last begins in codes that are these bytes: from the last byte that may begin it on.
+fn last_of(sequence: Sequence, bytes: &[u8]) -> Option<usize>
+    ensures { (cs : List Code) → AreBytes bytes.now cs → result ≡ last_where (begins_at sequence) cs }
+{
+    let (one, other) = first_bytes(sequence);
+    let mut end = bytes.len();
+    while let Some(at) = memrchr2(one, other, &bytes[..end]) {
+        if begins_at(sequence, &bytes[at..]) {
+            return Some(at);
+        }
+        end = at;
+    }
+    None
+}
+
+// The bytes with which a sequence may begin.
+fn first_bytes(sequence: Sequence) -> (u8, u8)
+    ensures { result ≡ first_bytes sequence }
+{
+    match sequence {
+        Sequence::CommentEnd => (b'-', b'-'),
+        Sequence::SectionEnd => (b']', b']'),
+        Sequence::InstructionEnd => (b'?', b'?'),
+        Sequence::DeclarationEnd => (b'>', b'>'),
+        Sequence::ResourceEnd => (b')', b')'),
+        Sequence::WwwDot => (b'w', b'W'),
+        Sequence::SpanMark => (b'`', b'$'),
+    }
+}
+
+// Whether codes that are these bytes begin with a sequence.
+fn begins_at(sequence: Sequence, bytes: &[u8]) -> bool
+    ensures { (cs : List Code) → AreBytes bytes.now cs → result ≡ begins_at sequence cs }
+{
+    match sequence {
+        Sequence::CommentEnd => bytes.starts_with(b"-->"),
+        Sequence::SectionEnd => bytes.starts_with(b"]]>"),
+        Sequence::InstructionEnd => bytes.starts_with(b"?>"),
+        Sequence::DeclarationEnd => bytes.starts_with(b">"),
+        Sequence::ResourceEnd => close_twice(bytes),
+        Sequence::WwwDot => bytes.starts_with(b"w.") || bytes.starts_with(b"W."),
+        Sequence::SpanMark => bytes.starts_with(b"`") || bytes.starts_with(b"$"),
+    }
+}
+
+// Whether codes that are these bytes begin with a closing parenthesis, and another one comes behind it, past whitespace.
+fn close_twice(bytes: &[u8]) -> bool
+    ensures { (cs : List Code) → AreBytes bytes.now cs → result ≡ closes_twice cs }
+{
+    let [first, behind @ ..] = bytes else {
+        return false;
+    };
+    *first == b')' && close_past_spacing(behind)
+}
+
+// Whether a closing parenthesis comes next in codes that are these bytes, past whitespace.
+fn close_past_spacing(bytes: &[u8]) -> bool
+    ensures { (cs : List Code) → AreBytes bytes.now cs → result ≡ closes_past_spacing cs }
+{
+    for byte in bytes {
+        if !is_spacing(*byte) {
+            return *byte == b')';
+        }
+    }
+    false
 }
 
 // What was found, with the sequence that shows at the place, by the code there.

@@ -371,8 +371,8 @@ fn index_ends(tokenizer: &mut Tokenizer) -> Result<(), AllocError>
 
 /// Makes known what rules constructs out in the content.
 ///
-/// One walk over it finds the sequences that end HTML and resources, so that none is looked for in vain, and whether literals from `www.` on
-/// and spans may begin. The others are made only where that walk has seen what they look for. Where a mark of a span stands, one finds the
+/// A search of it finds the sequences that end HTML and resources, so that none is looked for in vain, and whether literals from `www.` on
+/// and spans may begin. The others are made only where that search has seen what they look for. Where a mark of a span stands, one finds the
 /// runs at which spans may close. Where many titles in parentheses may begin, and a resource may end behind one, one finds where each may end. Where many
 /// literals from `www.` on may begin behind a `_`, one finds at which of these places no domain begins.
 ///

@@ -5,7 +5,7 @@ use Rattle.markdown_content.specs.Stretch.{past_stretch}
 use Rattle.markdown_content.proofs.PlaceRules.{left_moved}
 use Rattle.markdown_notes.proofs.SequenceIndexLemmas.{AreBeginsFound, found-start, found-past, found-stretch, found-all}
 use Rattle.markdown_content.proofs.StretchLemmas.{left-behind}
-use Rattle.markdown_notes.proofs.sequence_index.SequenceIndex.over.Goals as goal
+use Rattle.markdown_notes.proofs.sequence_index.last_in_codes.Goals as goal
 
 pub loop-code-init : goal.loop-code-init
 loop-code-init c = found-start c.args.cursor.now c.restart-place.result c.restart-place.ensures
@@ -23,5 +23,5 @@ loop-code-preserved c =
 pub returns : goal.returns
 returns c =
     let at : c.seek.new.self ≡ past_stretch stop_bytes c.loop-code.place = c.seek.ensures.place ∙ ap (λ ms. past_stretch ms c.loop-code.place) c.stop_bytes-stops.ensures in
-    ap (λ l. Some l) (found-all c.args.cursor.now.codes c.seek.new.self c.loop-code.last (sym c.seek.ensures.code ∙ c.in_default.is)
-    (subst (λ (p : Place). AreBeginsFound c.args.cursor.now.codes p c.loop-code.last) (sym at) (found-stretch c.args.cursor.now.codes c.loop-code.place c.loop-code.last c.loop-code.invariant)))
+    found-all c.args.cursor.now.codes c.seek.new.self c.loop-code.last (sym c.seek.ensures.code ∙ c.in_default.is)
+    (subst (λ (p : Place). AreBeginsFound c.args.cursor.now.codes p c.loop-code.last) (sym at) (found-stretch c.args.cursor.now.codes c.loop-code.place c.loop-code.last c.loop-code.invariant))
