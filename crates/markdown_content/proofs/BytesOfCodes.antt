@@ -46,7 +46,7 @@ alone bytes from to order within none i low high =
 -- One code.
 
 -- the code at a place is the byte there, and it ends behind it
-record IsByte (bytes : List ℕ) (p : Point) : Type 0 where
+record IsByteAlone (bytes : List ℕ) (p : Point) : Type 0 where
   value : value_at bytes p ≡ get_or bytes p.index 0
   index : (stop_at bytes p).index ≡ p.index + 1
   vs : (stop_at bytes p).vs ≡ 0
@@ -55,10 +55,10 @@ ending-len : (b : ℕ) (bs : List ℕ) → b ≢ 13 → line_ending_len b bs ≡
 ending-len b [] other = refl
 ending-len b (c ∷ cs) other = grind (arith, nat_tests)
 
-is-byte : (bytes : List ℕ) (p : Point) → get_or bytes p.index 0 ≢ 9 → get_or bytes p.index 0 ≢ 13 → IsByte bytes p
+is-byte : (bytes : List ℕ) (p : Point) → get_or bytes p.index 0 ≢ 9 → get_or bytes p.index 0 ≢ 13 → IsByteAlone bytes p
 is-byte bytes p tab return = by-test (is_line_ending_byte (get_or bytes p.index 0)) refl
   where
-    by-test : (t : Bool) → is_line_ending_byte (get_or bytes p.index 0) ≡ t → IsByte bytes p
+    by-test : (t : Bool) → is_line_ending_byte (get_or bytes p.index 0) ≡ t → IsByteAlone bytes p
     by-test true h = grind (arith, nat_tests, ending-len)
     by-test false h = grind (arith, nat_tests)
 
@@ -96,7 +96,7 @@ values-to bytes p q (c ∷ cs) e h k l first last all =
           let o : Point = stop_at bytes p in
           let lt : p.index < q.index = in-order p.index p.vs q.index q.vs first last before in
           let here = all p.index (omega arith) lt in
-          let b : IsByte bytes p = is-byte bytes p here.0 here.1 in
+          let b : IsByteAlone bytes p = is-byte bytes p here.0 here.1 in
           let is : c ≡ code_here bytes p = head_same c (code_here bytes p) cs (codes_to bytes o q) (sym e ∙ f.codes) in
           let rest : codes_to bytes o q ≡ cs = sym (tail_same c (code_here bytes p) cs (codes_to bytes o q) (sym e ∙ f.codes)) in
           let more : AreBytes (slice_range bytes o.index q.index) cs =
