@@ -1,18 +1,15 @@
 -- The sequences in codes that are bytes, and the search that finds where each last begins, from the last byte on.
-use Rattle.std.proofs.Common.{◌≡◌, ℕ, zero, suc, ◌+◌, ◌-◌, ◌<◌, ◌≤◌, ◌==◌, ◌&&◌, ◌||◌, Bool, true, false, if◌then◌else◌, List, [], ◌∷◌, length, drop, take, map, get_or, slice_get, Option, Some, None, refl, sym, ap, ◌∙◌, arith, inl, inr}
-use Rattle.std.specs.List.{starts_with}
-use Rattle.std.proofs.lemmas.Bool.{and_parts, cases_Bool, both_ways, eq-eqb}
-use Rattle.std.proofs.lemmas.Bool.Decides.{nat_tests}
-use Rattle.std.proofs.lemmas.List.{drop-drop, drop-map, drop_all, length-drop, length-map, length-take-le, get_or-take}
+use Rattle.std.proofs.Common.{◌≡◌, ℕ, zero, suc, ◌+◌, ◌-◌, ◌<◌, ◌≤◌, ◌==◌, ◌&&◌, ◌||◌, Bool, true, false, List, [], ◌∷◌, length, drop, take, map, get_or, slice_get, Some, None, refl, sym, ap, ◌∙◌, arith, inl, inr}
+use Rattle.std.proofs.lemmas.Bool.{and_parts, cases_Bool}
+use Rattle.std.proofs.lemmas.List.{drop-drop, drop-map, length-drop, length-map, length-take-le, get_or-take}
 use Rattle.std.proofs.Math.Seq.{take-length}
 use Rattle.memchr.specs.Find.{Nowhere, Passes, is_byte2}
-use Rattle.markdown_event.specs.declared.event.Point.{Point}
 use Rattle.markdown_content.specs.Codes.{Code, document_start}
 use Rattle.markdown_content.specs.ContentBytes.{AreBytes}
 use Rattle.markdown_content.specs.Place.{Place, ahead_at, code_at, moved, value_of}
 use Rattle.markdown_content.proofs.PlaceRules.{IsAhead, ahead_some}
 use Rattle.markdown_notes.specs.RunIndex.{later_or}
-use Rattle.markdown_notes.specs.SequenceIndex.{begins_at, closes_past_spacing, closes_twice, dots_behind_w, first_bytes, is_w, last_where, marks_span, stand_next}
+use Rattle.markdown_notes.specs.SequenceIndex.{begins_at, closes_past_spacing, first_bytes, is_w, last_where, stand_next}
 use Rattle.markdown_notes.specs.declared.sequence_index.Sequence.{Sequence}
 use Rattle.markdown_notes.specs.declared.sequence_index.Sequence.TheVariants.{CommentEnd, SectionEnd, InstructionEnd, DeclarationEnd, ResourceEnd, WwwDot, SpanMark}
 use Rattle.markdown_notes.proofs.SequenceIndexLemmas.{later-begin}
@@ -44,43 +41,6 @@ code-none bs cs i h past = none cs i (omega (arith, past, ap length h, length-ma
     none (c ∷ cs) zero past = absurd (omega (arith, past))
     none (c ∷ cs) (suc i) past = none cs i (omega (arith, past))
 
--- Words.
-
-abbrev is_same : ℕ → ℕ → Bool
-is_same v n = v == n
-
-pub starts-as : (bs vs : List ℕ) (cs : List Code) → AreBytes bs cs → starts_with is_same bs vs ≡ stand_next vs cs
-starts-as bs vs cs h = ap (λ xs. starts_with is_same xs vs) (sym h) ∙ starts vs cs
-  where
-    turned : (v n : ℕ) → (v == n) ≡ (n == v)
-    turned v n = grind (arith, nat_tests)
-
-    starts : (vs : List ℕ) (cs : List Code) → starts_with is_same (values cs) vs ≡ stand_next vs cs
-    starts [] cs = refl
-    starts (v ∷ vs) [] = refl
-    starts (v ∷ vs) (c ∷ cs) = ap (λ b. b && starts_with is_same (values cs) vs) (turned v c.value) ∙ ap (λ b. c.value == v && b) (starts vs cs)
-
--- a dot behind a `w` of either case
-pub dots-as : (cs : List Code) → (stand_next (119 ∷ 46 ∷ []) cs || stand_next (87 ∷ 46 ∷ []) cs) ≡ dots_behind_w cs
-dots-as [] = refl
-dots-as (c ∷ cs) = spread (c.value == 119) (c.value == 87) (stand_next (46 ∷ []) cs)
-  where
-    spread : (a b d : Bool) → (a && d || b && d) ≡ ((a || b) && d)
-    spread a b d = grind arith
-
--- a closing parenthesis, and what comes behind it
-pub closes-as : (b : ℕ) (bs : List ℕ) (cs : List Code) (behind : Bool) → AreBytes (b ∷ bs) cs →
-    ((ds : List Code) → AreBytes bs ds → behind ≡ closes_past_spacing ds) → (b == 41 && behind) ≡ closes_twice cs
-closes-as b bs [] behind h k = cc
-closes-as b bs (c ∷ cs) behind h k =
-    ap (λ v. v == 41 && behind) (first h) ∙ ap (λ t. c.value == 41 && t) (k cs (rest h))
-  where
-    first : c.value ∷ values cs ≡ b ∷ bs → b ≡ c.value
-    first e = cc
-
-    rest : c.value ∷ values cs ≡ b ∷ bs → values cs ≡ bs
-    rest e = cc
-
 -- The search.
 
 twice : (a b : Bool) → (a && b) ≡ true → (a || a) ≡ true
@@ -103,10 +63,6 @@ begins-by SpanMark c cs h = either (c.value == 96) (c.value == 36) h
 -- it begins nowhere from a place on
 abbrev pub BeginsNowhere : Sequence → List Code → ℕ → Type 0
 BeginsNowhere s cs n = last_where (begins_at s) (drop n cs) ≡ None
-
-pub nowhere-last : (s : Sequence) (bs : List ℕ) (cs : List Code) → AreBytes bs cs → BeginsNowhere s cs (length bs)
-nowhere-last s bs cs h =
-    ap (last_where (begins_at s)) (drop_all (length bs) cs (omega (arith, ap length h, length-map cs (λ (c : Code). c.value))))
 
 -- none of the bytes that were passed is a first one
 abbrev pub PassesNone : Sequence → List ℕ → ℕ → ℕ → Type 0

@@ -1,9 +1,7 @@
 -- The numbers, sorted.
-use Rattle.std.proofs.Common.{◌∙◌, ap, subst, map, string_bytes, arith}
-use Rattle.std.specs.List.Sorted.{IsPermutation}
+use Rattle.std.proofs.Common.{string_bytes, arith}
 use Rattle.std.proofs.lemmas.List.{take_all}
 use Rattle.std.proofs.lemmas.List.Sorted.{IsNonDecreasingBy-from_sort}
-use Rattle.markdown_notes.specs.BracketIndex.{brackets_of}
 use Rattle.markdown_notes.proofs.name_index.counts_of.Goals as goal
 
 pub returns-clause-sorted : goal.returns-clause-sorted

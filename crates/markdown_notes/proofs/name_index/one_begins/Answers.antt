@@ -1,5 +1,5 @@
 -- The first name that does not come before a front settles it.
-use Rattle.std.proofs.Common.{◌==◌, ◌∙◌, ℕ, Bool, List, ap, length, string_bytes, arith}
+use Rattle.std.proofs.Common.{◌==◌, ◌∙◌, ℕ, Bool, List, ap, length, string_bytes}
 use Rattle.std.specs.List.{starts_with}
 use Rattle.std.proofs.lemmas.Bool.{le-ltb}
 use Rattle.markdown_notes.proofs.NameOrder.{begins-after, begins-between, found, none}

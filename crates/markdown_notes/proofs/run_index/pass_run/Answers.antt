@@ -1,7 +1,7 @@
-use Rattle.std.proofs.Common.{◌≡◌, ◌∙◌, ◌+◌, ◌<◌, ◌==◌, ℕ, nat_eq, true, false, length, sym, ap, subst, arith, Option, Some, None}
+use Rattle.std.proofs.Common.{◌≡◌, ◌∙◌, ◌==◌, ℕ, nat_eq, true, false, sym, ap, arith, Option, Some, None}
 use Rattle.std.proofs.lemmas.Bool.{eqb-true}
 use Rattle.std.specs.Option.{option_eq}
-use Rattle.markdown_content.specs.Place.{Place, ahead_at, moved, code_at}
+use Rattle.markdown_content.specs.Place.{Place, code_at}
 use Rattle.markdown_notes.specs.RunIndex.{past_run}
 use Rattle.markdown_content.proofs.PlaceRules.{left_moved}
 use Rattle.markdown_notes.proofs.RunIndexLemmas.{past-one, past-none}

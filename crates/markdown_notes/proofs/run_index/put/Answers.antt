@@ -1,6 +1,5 @@
 -- What is noted goes to its place.
-use Rattle.std.proofs.Common.{◌∙◌, sym, subst, arith}
-use Rattle.markdown_notes.specs.RunIndex.{AreEntriesInOrder, IsAt, IsGapFor}
+use Rattle.std.proofs.Common.{arith}
 use Rattle.markdown_notes.proofs.RunIndexOrder.{put-ordered}
 use Rattle.markdown_notes.proofs.run_index.put.Goals as goal
 

@@ -1,6 +1,5 @@
 -- The code behind the whitespace settles it.
-use Rattle.std.proofs.Common.{◌≡◌, ◌+◌, ◌<◌, length, sym, subst, ◌∙◌, arith}
-use Rattle.markdown_content.specs.Place.{Place, ahead_at, moved}
+use Rattle.std.proofs.Common.{sym, ◌∙◌, arith}
 use Rattle.markdown_content.proofs.PlaceRules.{left_moved}
 use Rattle.markdown_notes.proofs.SequenceIndexLemmas.{spaced-end, spaced-other, spaced-one}
 use Rattle.markdown_notes.proofs.sequence_index.closes_past_spacing.Goals as goal

@@ -1,5 +1,5 @@
-use Rattle.std.proofs.Common.{◌≡◌, ◌+◌, ◌≤◌, Some, length, sym, ap, subst, ◌∙◌, arith}
-use Rattle.markdown_content.specs.Place.{Place, ahead_at, moved, code_at}
+use Rattle.std.proofs.Common.{◌≡◌, sym, ap, subst, ◌∙◌, arith}
+use Rattle.markdown_content.specs.Place.{Place}
 use Rattle.markdown_notes.specs.SequenceIndex.{stop_bytes}
 use Rattle.markdown_content.specs.Stretch.{past_stretch}
 use Rattle.markdown_content.proofs.PlaceRules.{left_moved}

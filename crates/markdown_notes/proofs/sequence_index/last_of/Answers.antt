@@ -1,8 +1,6 @@
 -- A byte that may begin the sequence settles its place, and none behind it does.
-use Rattle.std.proofs.Common.{◌≡◌, ◌<◌, ◌≤◌, ◌+◌, List, length, take, sym, ◌∙◌, arith}
+use Rattle.std.proofs.Common.{◌≡◌, ◌<◌, ◌+◌, length, take, sym, ◌∙◌, arith}
 use Rattle.std.proofs.lemmas.List.{length-take-le}
-use Rattle.markdown_content.specs.Codes.{Code}
-use Rattle.markdown_content.specs.ContentBytes.{AreBytes}
 use Rattle.markdown_notes.proofs.SequenceBytes.{BeginsNowhere, begins-last, bytes-behind, nowhere-before, nowhere-here}
 use Rattle.markdown_notes.proofs.sequence_index.last_of.Goals as goal
 

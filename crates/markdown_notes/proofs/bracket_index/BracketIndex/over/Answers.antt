@@ -1,5 +1,5 @@
 -- From one control or bracket to the next.
-use Rattle.std.proofs.Common.{◌≡◌, ◌≤◌, ◌<◌, ◌∙◌, ◌+◌, List, ℕ, length, sym, ap, subst, arith}
+use Rattle.std.proofs.Common.{◌≡◌, ◌≤◌, ◌<◌, ◌+◌, List, ℕ, length, sym, subst, arith}
 use Rattle.std.specs.List.{slice_range}
 use Rattle.std.specs.Global.{Vec}
 use Rattle.markdown_notes.specs.BracketIndex.{places_from}

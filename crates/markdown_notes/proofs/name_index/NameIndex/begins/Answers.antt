@@ -1,6 +1,5 @@
 -- The names are in order, and what is told of them is told of their bytes.
-use Rattle.std.proofs.Common.{◌==◌, ◌∙◌, ℕ, Bool, List, sym, ap, subst, string_bytes, arith}
-use Rattle.std.specs.List.{list_any, starts_with}
+use Rattle.std.proofs.Common.{sym, subst, string_bytes, arith}
 use Rattle.std.specs.List.Sorted.{IsSorted}
 use Rattle.std.specs.String.{string_cmp}
 use Rattle.markdown_notes.proofs.NameOrder.{any_map}

@@ -1,5 +1,5 @@
 -- A search among the numbers in order settles it.
-use Rattle.std.proofs.Common.{◌∙◌, ◌==◌, ap, string_bytes, subst, sym, arith}
+use Rattle.std.proofs.Common.{◌∙◌, ◌==◌, ap, string_bytes, subst, sym}
 use Rattle.std.specs.List.{list_any}
 use Rattle.std.specs.List.Sorted.{IsNonDecreasing}
 use Rattle.std.proofs.lemmas.List.Sorted.{searched}

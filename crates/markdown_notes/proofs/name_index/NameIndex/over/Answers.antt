@@ -1,5 +1,5 @@
 -- The names, sorted, are the names in order.
-use Rattle.std.proofs.Common.{◌∙◌, ap, subst, map, string_bytes, arith}
+use Rattle.std.proofs.Common.{◌∙◌, ap, subst, map, string_bytes}
 use Rattle.std.specs.List.Sorted.{IsPermutation}
 use Rattle.std.proofs.lemmas.List.Sorted.{IsPermutation-map}
 use Rattle.std.proofs.lemmas.List.{take_all}

@@ -1,5 +1,4 @@
-use Rattle.std.proofs.Common.{◌∙◌, sym, ap, subst, Some, None, arith}
-use Rattle.markdown_notes.specs.RunIndex.{LastRuns, rules_out, begins_before, IsAt, IsGapFor}
+use Rattle.std.proofs.Common.{arith}
 use Rattle.markdown_notes.proofs.RunIndexLemmas.{answered}
 use Rattle.markdown_notes.proofs.run_index.RunIndex.rules_out.Goals as goal
 

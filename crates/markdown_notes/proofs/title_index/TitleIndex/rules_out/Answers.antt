@@ -1,8 +1,7 @@
 -- The first parenthesis from the place on settles it.
-use Rattle.std.proofs.Common.{◌∙◌, sym, ap, not, arith, subst, get_or}
+use Rattle.std.proofs.Common.{sym, arith, subst}
 use Rattle.std.specs.List.Sorted.{IsNonDecreasingBy}
 use Rattle.std.proofs.lemmas.Bool.{le-leb}
-use Rattle.markdown_notes.specs.TitleIndex.{first_twice}
 use Rattle.markdown_notes.specs.declared.title_index.Closer.{Closer}
 use Rattle.markdown_notes.proofs.TitleIndexLemmas.{first-found, none-found}
 use Rattle.markdown_notes.proofs.title_index.TitleIndex.rules_out.Goals as goal
