@@ -41,6 +41,7 @@ count-read bytes r h nested = by_open r.open refl
   where
     closed : block_count (closed_tree bytes r) ≡ length r.rows.items
     closed = omega (arith, count-rows bytes r.rows.items nothing nested)
+
     by_open : (o : Option declared.Leaf) → r.open ≡ o → block_count (with_open bytes (depth r) o (closed_tree bytes r)) ≡ length r.rows.items + (if is_some o then 1 else 0)
     by_open None e = omega (arith, closed)
     by_open (Some l) e = omega (arith, closed, count-leaf (depth r) (leaf_of bytes l) (closed_tree bytes r) (length-front (depth r) (spine (closed_tree bytes r)) (map container_of r.path) h.is_front.front (simp length-map)))

@@ -6,6 +6,7 @@
 //!                                      the column, the code before, and the code that the stretch stops at, which is passed then
 //!     holds SET TIMES PIECE.. | DOCUMENT   whether so many codes of the content are in the set, `]` or else `abc`, asked behind the first code
 //!     between FROM TO PIECE.. | DOCUMENT   the bytes of the content between two indexes, and whether one piece has them
+//!     bytes PIECE.. | DOCUMENT         the bytes of the content, if each code is one
 //!     beside INDEX PIECE.. | DOCUMENT  whether a code of the content ends at an index, and whether one begins there
 //!     restart PIECE.. | DOCUMENT       how many codes are passed at the end, how many at the start again, and the code there
 //!
@@ -33,6 +34,7 @@ pub(crate) fn answer(alloc: Global, case: &Case, pieces: &[Piece], out: &mut Ans
         "stretch" => stretch(&mut cursor, out),
         "holds" => holds(&mut cursor, case.word(0), case.number(1), out),
         "between" => between(alloc, &cursor, case, out),
+        "bytes" => bytes(&cursor, out),
         "beside" => beside(&cursor, case.number(0), out),
         "restart" => restart(&mut cursor, out),
         _ => out.say(" no such call"),
@@ -140,6 +142,12 @@ fn between(alloc: Global, cursor: &Cursor, case: &Case, out: &mut Answers) {
         }
         Err(AllocError) => out.end(),
     }
+}
+
+// Appends the bytes of the content, if each code is one.
+fn bytes(cursor: &Cursor, out: &mut Answers) {
+    let bytes = cursor.bytes_of_codes();
+    out.show(bytes.map(|bytes| str::from_utf8(bytes).unwrap_or("not UTF-8")));
 }
 
 // Passes all codes, and starts over.

@@ -39,7 +39,7 @@ loop-point-preserved g c =
     let after = block_count (whole_tree bytes r) in
     let counted : after ≡ c.count.result = count-read bytes r stop.ensures.between stop.ensures.texts.0.1 ∙ sym c.count.ensures in
     let noted : c.note_line.new.lines.items ≡ l.lines.items ++ replicate (after - before) l.number =
-        c.in_ok-note_line.ensures ∙ ap (λ k. l.lines.items ++ replicate k l.number) (omega (arith, counted, l.invariant.lined)) in
+    c.in_ok-note_line.ensures ∙ ap (λ k. l.lines.items ++ replicate k l.number) (omega (arith, counted, l.invariant.lined)) in
     let next : suc l.number ≡ l.number + 1 = omega arith in
     record {
       is_point = stop.ensures.is_point;
