@@ -44,7 +44,7 @@ rows-more s p bytes (ContainerAt d c ∷ rs) t nested =
     let rest : tree_brought s p (rows_from bytes t (ContainerAt d c ∷ rs)) ≡ tree_brought s p (with_row bytes (ContainerAt d c) t) + sum_by (row_brought s p bytes) rs =
     rows-more s p bytes rs (with_row bytes (ContainerAt d c) t) (subst (λ n. AreNested n rs) (sym deep) nested.1) in
     let this : tree_brought s p (with_row bytes (ContainerAt d c) t) ≡ tree_brought s p t = container-more s p d (container_of c) t nested.0 in
-    let sum : sum_by (row_brought s p bytes) (ContainerAt d c ∷ rs) ≡ sum_by (row_brought s p bytes) rs = sum_by-cons (row_brought s p bytes) (ContainerAt d c) rs in
+    let sum : sum_by (row_brought s p bytes) (ContainerAt d c ∷ rs) ≡ 0 + sum_by (row_brought s p bytes) rs = sum_by-cons (row_brought s p bytes) (ContainerAt d c) rs in
     omega (arith, rest, this, sum)
 
 -- what they bring to rows is what they bring to their tree

@@ -1,5 +1,6 @@
 -- A document without definitions has nothing brought to it.
 use Rattle.std.proofs.Common.{◌≡◌, ℕ, ◌+◌, ◌<◌, refl, List, [], ◌∷◌, length, ◌==◌, Option, Some, None, Bool, true, false, if◌then◌else◌, arith}
+use Rattle.std.proofs.lemmas.Bool.Decides.{Decides-eqb}
 use Rattle.markdown_content.specs.Codes.{Code}
 use Rattle.markdown_content.specs.Tree.{Forest, empty, leaf_then, group_then}
 use Rattle.markdown_model.specs.Setting.{Setting}
@@ -65,7 +66,7 @@ nothing-brought options bytes e = to-blocks (setting_of bytes) (page_of options 
 none-in : (ds : List link_definitions.Definition) (xs : List Definition) → AreTextsOf xs ds → (length xs == 0) ≡ true → ds ≡ []
 none-in [] xs texts e = refl
 none-in (d ∷ ds) [] texts e = absurd (cc)
-none-in (d ∷ ds) (x ∷ xs) texts e = absurd (cc)
+none-in (d ∷ ds) (x ∷ xs) texts e = let eqb = Decides-eqb (length (x ∷ xs)) 0 in let none = eqb.0 e in absurd (omega (arith, none))
 
 module _ (options : HtmlOptions) (bytes : List ℕ) (xs : List Definition) (texts : AreTextsOf xs (definitions bytes)) (limit : Option ℕ) where
   by-count : (none : Bool) → (length xs == 0) ≡ none → IsBeyond (if none then None else limit) (document_brought options bytes) → IsBeyond limit (document_brought options bytes)

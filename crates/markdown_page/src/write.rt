@@ -135,6 +135,7 @@ impl Writer {
 }
 
 // The HTML of rows, each of which has its place, if definitions bring no more to it than the limit; none is no limit.
+#[tactic(auto, using(crate::proofs::BroughtRows::spent_nothing))]
 pub(crate) fn write(
     alloc: Global,
     given: &Given,

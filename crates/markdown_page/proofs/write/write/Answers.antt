@@ -1,4 +1,4 @@
-use Rattle.std.proofs.Common.{◌≡◌, refl, Result, Ok, Err, IfErr, IsErrAnd, ◌∙◌, ℕ, ◌+◌, ◌≤◌, ap, arith, get_or, subst, sym, take, take_all, List}
+use Rattle.std.proofs.Common.{◌≡◌, Result, Ok, Err, IfErr, IsErrAnd, ◌∙◌, ℕ, ◌+◌, ◌≤◌, ap, arith, get_or, subst, sym, take, take_all, List}
 use Rattle.std.specs.List.{sum_by}
 use Rattle.std.proofs.lemmas.List.Sums.{sum_by_more, sum_by_more_le}
 use Rattle.markdown_block_model.specs.BlockTree as model
@@ -8,10 +8,9 @@ use Rattle.markdown_page.specs.DocumentBrought.{IsBeyond, tree_brought}
 use Rattle.markdown_page.specs.BroughtSoFar.{IsSpent, IsStop, row_brought}
 use Rattle.markdown_page.specs.GivenPage.{page_of, bytes_of, setting_of}
 use Rattle.markdown_page.specs.ListPlaces.{no_place}
-use Rattle.markdown_page.specs.PlacedTree.{nothing}
 use Rattle.markdown_page.specs.declared.given.Given.{Given}
 use Rattle.markdown_page.specs.declared.limit.Stop.{Stop}
-use Rattle.markdown_page.proofs.BroughtRows.{not_beyond, rows_brought, spent_more, spent_nothing, stop_more}
+use Rattle.markdown_page.proofs.BroughtRows.{not_beyond, rows_brought, spent_more, stop_more}
 use Rattle.markdown_page.proofs.PlacedRows.{count-places, rows-html}
 use Rattle.markdown_page.proofs.WriterSteps.{here, item-here, row-within, reached-more, all-written}
 use Rattle.markdown_page.proofs.write.write.Goals as goal
@@ -58,12 +57,6 @@ returns-in_err-row-clause-stop c =
     (sum_by_more_le f c.args.rows.now c.loop-index.index c.index-rows-index.result c.loop-index-test.true) in
     stopped-by c.from_residual.result c.in_err-row.field-0.0 (IsStop c.args.limit (tree_brought (setting_of g) (page_of g) (rows_from (bytes_of g) model.nothing c.args.rows.now))) c.from_residual.ensures.1
     (λ is. subst (λ (n : ℕ). IsBeyond c.args.limit n) all (stop_more c.args.limit c.loop-index.writer.left _ _ _ c.loop-index.invariant.spent least (c.in_err-row.ensures.stop is)))
-
-pub loop-index-init : goal.loop-index-init
-loop-index-init c = record {
-  reached = record { tree = nothing; written = record { containers = refl; html = refl; line = refl }; rest = refl; nested = c.requires.nested };
-  spent = spent_nothing c.args.limit;
-}
 
 pub returns-clause-html : goal.returns-clause-html
 returns-clause-html c =
