@@ -15,11 +15,11 @@ use Rattle.markdown_html_model.specs.declared.role.Within.{Within}
 use Rattle.markdown_html.specs.EventWalk.{State, walked, beginning}
 use Rattle.markdown_html.proofs.WalkTree.{IsWrittenAs, html_within, walk-html}
 
-pub walked_end : (p : Page) (before : List (List ℕ)) (within : Within) (n : ℕ) (previous : Option ℕ) (t : Forest) (events : List Event) (s : State) (left : List Event)
-    → walked p s left ≡ walked p (beginning before within) events → length left ≡ 0 → events ≡ events_from n previous t → IsWrittenAs p before within t s
-walked_end p before within n previous t events s [] so_far none is =
-    walk-html p before within n previous t s (ap (walked p (beginning before within)) (sym is) ∙ sym so_far)
-walked_end p before within n previous t events s (x ∷ left) so_far none is = cc
+pub walked_end : (p : Page) (out : List ℕ) (before : List (List ℕ)) (within : Within) (n : ℕ) (previous : Option ℕ) (t : Forest) (events : List Event) (s : State) (left : List Event)
+    → walked p s left ≡ walked p (beginning out before within) events → length left ≡ 0 → events ≡ events_from n previous t → IsWrittenAs p out before within t s
+walked_end p out before within n previous t events s [] so_far none is =
+    walk-html p out before within n previous t s (ap (walked p (beginning out before within)) (sym is) ∙ sym so_far)
+walked_end p out before within n previous t events s (x ∷ left) so_far none is = cc
 
 abbrev pub page-with : List ℕ → List Code → Rules → Decoding → List Defined → HtmlOptions → Page
 page-with bytes cs rules decoding definitions options =

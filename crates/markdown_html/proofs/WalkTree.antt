@@ -413,10 +413,10 @@ walk-tree p (leaf_then name (Some content) cs t) n previous s rest =
 walk-tree p (group_then name a b inside t) n previous s rest = group-cases p name a b inside t (walk-tree p inside) (walk-tree p t) n previous s rest
 
 -- the walk over all events of trees
-pub walk-whole : (p : Page) (before : List (List ℕ)) (within : Within) (n : ℕ) (previous : Option ℕ) (t : Forest)
-    → walked p (beginning before within) (events_from n previous t) ≡ after (beginning before within) (written p before within t)
-walk-whole p before within n previous t =
-    ap (walked p (beginning before within)) (sym (append-nil (events_from n previous t))) ∙ walk-tree p t n previous (beginning before within) []
+pub walk-whole : (p : Page) (out : List ℕ) (before : List (List ℕ)) (within : Within) (n : ℕ) (previous : Option ℕ) (t : Forest)
+    → walked p (beginning out before within) (events_from n previous t) ≡ after (beginning out before within) (written p before within t)
+walk-whole p out before within n previous t =
+    ap (walked p (beginning out before within)) (sym (append-nil (events_from n previous t))) ∙ walk-tree p t n previous (beginning out before within) []
 
 abbrev pub html_within : Page → List (List ℕ) → Within → Forest → List ℕ
 html_within p before within t = let w = written p before within t in w.html
@@ -424,10 +424,10 @@ html_within p before within t = let w = written p before within t in w.html
 abbrev pub calls_within : Page → List (List ℕ) → Within → Forest → List (List ℕ)
 calls_within p before within t = let w = written p before within t in w.calls ++ before
 
--- what is written of trees, and the calls up to their end
-abbrev pub IsWrittenAs : Page → List (List ℕ) → Within → Forest → State → Type 0
-IsWrittenAs p before within t s = (s.out ≡ html_within p before within t) × (s.calls ≡ calls_within p before within t)
+-- what is written of trees behind this, and the calls up to their end
+abbrev pub IsWrittenAs : Page → List ℕ → List (List ℕ) → Within → Forest → State → Type 0
+IsWrittenAs p out before within t s = (s.out ≡ out ++ html_within p before within t) × (s.calls ≡ calls_within p before within t)
 
-pub walk-html : (p : Page) (before : List (List ℕ)) (within : Within) (n : ℕ) (previous : Option ℕ) (t : Forest) (s : State)
-    → walked p (beginning before within) (events_from n previous t) ≡ s → IsWrittenAs p before within t s
-walk-html p before within n previous t s e = grind (arith, walk-whole)
+pub walk-html : (p : Page) (out : List ℕ) (before : List (List ℕ)) (within : Within) (n : ℕ) (previous : Option ℕ) (t : Forest) (s : State)
+    → walked p (beginning out before within) (events_from n previous t) ≡ s → IsWrittenAs p out before within t s
+walk-html p out before within n previous t s e = grind (arith, walk-whole)

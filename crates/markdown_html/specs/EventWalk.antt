@@ -195,6 +195,6 @@ abbrev pub walked : Page → State → List Event → State
 walked p s [] = s
 walked p s (e ∷ rest) = walked p (stepped p s e rest) rest
 
--- before all events, which stand somewhere, behind these calls
-abbrev pub beginning : List (List ℕ) → Within → State
-beginning before within = record { out = []; within = within; parts = no_parts; opened = []; before = []; calls = before }
+-- before all events, which stand somewhere, behind what is written and these calls
+abbrev pub beginning : List ℕ → List (List ℕ) → Within → State
+beginning out before within = record { out = out; within = within; parts = no_parts; opened = []; before = []; calls = before }

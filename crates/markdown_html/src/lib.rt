@@ -16,4 +16,4 @@ mod writer;
 
 pub use brought::left_of_limit;
 pub use brought_at_most::is_within_limit;
-pub use writer::{text_by, text_of, to_html};
+pub use writer::{push_html, text_by, text_of, to_html};

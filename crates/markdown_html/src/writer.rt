@@ -475,10 +475,11 @@ fn step(
     Ok(index + 1)
 }
 
-// Writes trees that stand somewhere, behind the calls before them.
+// Writes trees that stand somewhere, behind what is written and the calls before them.
 fn written(
     alloc: Global,
     given: &Given,
+    out: Vec<u8>,
     calls: FootnoteCalls,
     within: Within,
     events: &EventSlice,
@@ -486,10 +487,10 @@ fn written(
     requires content { HasContent given.now }
     requires fits { length given.now.bytes.now ≤ document_limit }
     requires places { All (IsSpanInOrder given.now.bytes.now) (innermost events.now) }
-    ensures { (n : ℕ) (previous : Option ℕ) (t : Forest) → events.now ≡ events_from n previous t → IfOk result (λ writer. let w = written (page_of given.now) calls within t in (writer.out.items ≡ w.html) × (writer.calls ≡ w.calls ++ calls)) }
+    ensures { (n : ℕ) (previous : Option ℕ) (t : Forest) → events.now ≡ events_from n previous t → IfOk result (λ writer. let w = written (page_of given.now) calls within t in (writer.out.items ≡ out.items ++ w.html) × (writer.calls ≡ w.calls ++ calls)) }
 {
     let mut writer = Writer {
-        out: Vec::new(alloc),
+        out,
         within,
         found: Found::nothing(),
         entries: Vec::new(alloc),
@@ -503,6 +504,45 @@ fn written(
         index = step(&mut writer, alloc, given, events, index)?;
     }
     Ok(writer)
+}
+
+/// Appends the HTML of the tree whose events these are, over the bytes of a document.
+///
+/// The call takes what [`to_html`] takes, and appends what that returns. So many contents are written into one vector, and no HTML is copied.
+///
+/// The error comes only where memory is refused. After it `out` is empty and there are no calls, and the document has to be written anew.
+pub fn push_html(
+    alloc: Global,
+    out: &mut Vec<u8>,
+    parse_state: &ParseState,
+    pieces: &[Piece],
+    events: &EventSlice,
+    definitions: &Targets,
+    calls: &mut FootnoteCalls,
+    options: HtmlOptions,
+) -> Result<(), AllocError>
+    requires fits { length parse_state.now.bytes.now ≤ document_limit }
+    requires content { HasLabelTexts parse_state.now.options.now parse_state.now.bytes.now pieces.now }
+    requires places { All (IsSpanInOrder parse_state.now.bytes.now) (innermost events.now) }
+    ensures exact { (t : Forest) → events.now ≡ events_of t → OnOk result (out.new.items ≡ out.old.items ++ html (page_from parse_state.now pieces.now definitions.now options) calls.old t) }
+    ensures calls { (t : Forest) → events.now ≡ events_of t → OnOk result (calls.new ≡ calls_behind (page_from parse_state.now pieces.now definitions.now options) calls.old t) }
+    ensures err { OnErr result ((out.new.items ≡ []) × (calls.new ≡ [])) }
+{
+    let given = Given {
+        bytes: parse_state.bytes,
+        pieces,
+        rules: parse_state.options.rules(),
+        footnotes_on: parse_state.options.constructs.gfm_label_start_footnote,
+        decoding: decoding_of(parse_state.options),
+        definitions,
+        options,
+    };
+    let earlier = mem::replace(out, Vec::new(alloc));
+    let before = mem::replace(calls, FootnoteCalls::new(alloc));
+    let writer = written(alloc, &given, earlier, before, Within::Outside, events)?;
+    *out = writer.out;
+    *calls = writer.calls;
+    Ok(())
 }
 
 /// The HTML of the tree whose events these are, over the bytes of a document.
@@ -538,19 +578,18 @@ pub fn to_html(
     ensures own { (t : Forest) → events.now ≡ events_of t → options.raw_html ≡ false → IfOk result (λ written. IsOwnMarkup true written.items) }
     ensures safe { (t : Forest) → events.now ≡ events_of t → options.raw_html ≡ false → options.any_link ≡ false → IfOk result (λ written. IsOwnMarkup false written.items) }
 {
-    let given = Given {
-        bytes: parse_state.bytes,
+    let mut out = Vec::new(alloc);
+    push_html(
+        alloc,
+        &mut out,
+        parse_state,
         pieces,
-        rules: parse_state.options.rules(),
-        footnotes_on: parse_state.options.constructs.gfm_label_start_footnote,
-        decoding: decoding_of(parse_state.options),
+        events,
         definitions,
+        calls,
         options,
-    };
-    let before = mem::replace(calls, FootnoteCalls::new(alloc));
-    let writer = written(alloc, &given, before, Within::Outside, events)?;
-    *calls = writer.calls;
-    Ok(writer.out)
+    )?;
+    Ok(out)
 }
 
 /// The text of the trees whose events these are, over the bytes of a document, as the description of an image has it (CommonMark 6.4).
@@ -594,6 +633,6 @@ pub fn text_by(
         definitions: &definitions,
         options: HtmlOptions::safe(),
     };
-    let calls = FootnoteCalls::new(alloc);
-    Ok(written(alloc, &given, calls, Within::InText, events)?.out)
+    let (out, calls) = (Vec::new(alloc), FootnoteCalls::new(alloc));
+    Ok(written(alloc, &given, out, calls, Within::InText, events)?.out)
 }

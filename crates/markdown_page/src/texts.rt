@@ -11,7 +11,7 @@ use crate::given::Given;
 use crate::limit::{Stop, spend};
 use markdown_content::parser::Piece;
 use markdown_html::footnotes::FootnoteCalls;
-use markdown_html::to_html;
+use markdown_html::push_html;
 use std::alloc::Global;
 
 // Appends the HTML of a text, if definitions bring no more to it than what is left of the limit.
@@ -31,8 +31,9 @@ pub(crate) fn push_text(
     let events = run.events.as_slice();
     *left = spend(alloc, given, pieces, &events, *left)?;
     let mut calls = FootnoteCalls::new(alloc);
-    let html = to_html(
+    push_html(
         alloc,
+        out,
         given.document.parse_state(),
         pieces,
         &events,
@@ -40,5 +41,5 @@ pub(crate) fn push_text(
         &mut calls,
         given.options,
     )?;
-    Ok(out.extend_from_slice(html.as_slice())?)
+    Ok(())
 }

@@ -7,7 +7,7 @@ use Rattle.markdown_html.proofs.writer.written.Given as goal
 abbrev pub invariant-loop-index : goal.invariant-loop-index
 invariant-loop-index l = record {
   high : l.index ≤ length l.events;
-  whole : walked (page_of l.given) (state_of l.writer) (drop l.index l.events) ≡ walked (page_of l.given) (beginning l.fn.calls l.fn.within) l.events;
+  whole : walked (page_of l.given) (state_of l.writer) (drop l.index l.events) ≡ walked (page_of l.given) (beginning l.fn.out.items l.fn.calls l.fn.within) l.events;
 }
 
 abbrev pub decreases-loop-index : goal.decreases-loop-index
