@@ -508,7 +508,8 @@ fn written(
 
 /// Appends the HTML of the tree whose events these are, over the bytes of a document.
 ///
-/// The call takes what [`to_html`] takes, and appends what that returns. So many contents are written into one vector, and no HTML is copied.
+/// The call takes what [`to_html`] takes, and appends what that returns. So the contents of a document are written one behind the other into one vector, and
+/// need none of their own.
 ///
 /// The error comes only where memory is refused. After it `out` is empty and there are no calls, and the document has to be written anew.
 pub fn push_html(
