@@ -1,10 +1,10 @@
 -- Definitions that are written one after another.
-use Rattle.std.proofs.Common.{◌≡◌, ◌∙◌, sym, ap, subst, refl, ◌⊎◌, inl, inr, ℕ, ◌+◌, ◌-◌, ◌≤◌, List, [], ◌∷◌, ◌++◌, length, take, drop, arith, Option, Some, None, option_map, IfSome, IsUtf8, if◌then◌else◌, ◌==◌}
+use Rattle.std.proofs.Common.{◌≡◌, ◌∙◌, sym, ap, subst, refl, inl, inr, ℕ, ◌-◌, ◌≤◌, List, [], ◌∷◌, ◌++◌, length, take, drop, arith, Option, Some, None, option_map, IfSome, IsUtf8, if◌then◌else◌, ◌==◌}
 use Rattle.std.proofs.lemmas.List.{length-append, length-drop, take-append-le, drop-append-le, take_all, drop_all}
 use Rattle.markdown_block_definitions.specs.DefinitionTexts.{Texts, AreUtf8Texts}
 use Rattle.markdown_html_model.specs.Resolved.{resolved}
 use Rattle.markdown_inline_c.specs.FlatDefinitions.{AreFlat, IsFlat, IsAppendedText, IsTargetOf, IsTitle, title_bytes}
-use Rattle.markdown_inline_c.specs.FlatHtml.{IsTarget, IsTitleRange, title_of}
+use Rattle.markdown_inline_c.specs.FlatHtml.{IsTitleRange, title_of}
 use Rattle.markdown_inline_c.specs.FlatInput.{IsLabelRange, range_bytes}
 use Rattle.markdown_inline_c.specs.declared.flat.FlatTarget.{FlatTarget}
 use Rattle.markdown_inline_c.specs.declared.flat.Range.{Range}

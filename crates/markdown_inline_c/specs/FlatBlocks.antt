@@ -1,5 +1,5 @@
 -- Blocks of a document as a caller in C gets them (CommonMark 4 and 5).
-use Rattle.std.specs.Prelude.{◌≡◌, ◌<◌, ◌⊎◌, ◌+◌, ℕ, Bool, if◌then◌else◌, List, [], ◌∷◌, All, length, map, flat_map, None}
+use Rattle.std.specs.Prelude.{◌≡◌, ◌<◌, ◌⊎◌, ◌+◌, ℕ, if◌then◌else◌, List, [], ◌∷◌, All, length, map, flat_map, None}
 use Rattle.markdown_block_definitions.specs.ResolvedRows.{IsTextRow}
 use Rattle.markdown_block_line.specs.declared.containers.Container.{Container}
 use Rattle.markdown_block_line.specs.declared.containers.Container.TheVariants.{Quote, Item}
@@ -22,7 +22,7 @@ use Rattle.markdown_inline_c.specs.declared.flat.BlocksCount.{BlocksCount}
 use Rattle.markdown_inline_c.specs.declared.flat.FlatBlock.{FlatBlock}
 use Rattle.markdown_inline_c.specs.declared.flat.FlatPiece.{FlatPiece}
 use Rattle.markdown_inline_c.specs.declared.flat.Range.{Range}
-use Rattle.markdown_page.specs.ListPlaces.{no_place, places_in}
+use Rattle.markdown_page.specs.ListPlaces.{places_in}
 use Rattle.markdown_page.specs.declared.lists.Place.{Place}
 
 -- One block.

@@ -1,8 +1,7 @@
-use Rattle.std.proofs.Common.{◌≡◌, ◌∙◌, ap, sym, subst, List, None}
-use Rattle.markdown_block_model.specs.BlockTree.{Tree, nothing}
+use Rattle.std.proofs.Common.{◌≡◌, ◌∙◌, ap, None}
+use Rattle.markdown_block_model.specs.BlockTree.{nothing}
 use Rattle.markdown_blocks.specs.BlockRows.{rows_from}
 use Rattle.markdown_blocks.specs.NestedRows.{AreNested}
-use Rattle.markdown_blocks.specs.declared.block.Row.{Row}
 use Rattle.markdown_inline_c.specs.FlatBlocks.{flat_blocks}
 use Rattle.markdown_page.specs.ListPlaces.{places_in}
 use Rattle.markdown_page.proofs.PlacedRows.{count-places}
@@ -10,7 +9,7 @@ use Rattle.markdown_inline_c.proofs.blocks.found_blocks.Goals as goal
 
 pub flat_rows-requires : goal.flat_rows-requires
 flat_rows-requires c =
-    let nested = rw c.as_slice-rows.ensures.value c.in_ok-found.ensures.nested in
+    let nested : AreNested 0 c.as_slice-rows.result.now = rw c.as_slice-rows.ensures.value c.in_ok-found.ensures.nested in
     rw c.as_slice.ensures.value (count-places c.args.bytes.now c.as_slice-rows.result.now c.in_ok-places.places.items nested c.in_ok-places.ensures)
 
 pub returns-clause-blocks : goal.returns-clause-blocks
@@ -23,7 +22,7 @@ returns-clause-blocks c =
       rows = rows;
       tree = tree;
       nested = rw same c.in_ok-found.ensures.nested;
-      texts = rw same (c.in_ok-found.ensures.texts c.in-Ok.ensures.ok.0);
+      texts = rw same (c.in_ok-found.ensures.texts c.in_default.ensures.ok.0);
       blocks_are = c.in_ok-blocks.ensures.blocks ∙ ap (flat_blocks 0 rows) (c.as_slice.ensures.value ∙ c.in_ok-places.ensures ∙ ap (places_in None) tree);
       pieces_are = c.in_ok-blocks.ensures.pieces;
     }

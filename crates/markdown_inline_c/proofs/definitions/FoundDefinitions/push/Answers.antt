@@ -1,4 +1,4 @@
-use Rattle.std.proofs.Common.{◌++◌, ◌∷◌, [], List, ℕ, subst}
+use Rattle.std.proofs.Common.{List, ℕ, subst}
 use Rattle.markdown_block_definitions.specs.DefinitionTexts.{texts_of}
 use Rattle.markdown_inline_c.specs.FlatDefinitions.{IsAppendedText}
 use Rattle.markdown_inline_c.proofs.FlatDefinitionLemmas.{one-more-flat}
