@@ -3,7 +3,9 @@ use Rattle.std.proofs.Common.{◌≡◌, ℕ, zero, suc, ◌+◌, ◌-◌, ◌*�
 use Rattle.std.specs.Prelude.{◌==◌, if◌then◌else◌, slice_range}
 use Rattle.std.specs.List.{list_any}
 use Rattle.std.proofs.lemmas.Bool.Decides.{nat_tests}
+use Rattle.std.proofs.lemmas.List.{length-take-le}
 use Rattle.std.proofs.lemmas.Option.{same_Some}
+use Rattle.std.proofs.Math.Seq.{take-append_seam, drop-append_seam}
 use Rattle.markdown_event.specs.declared.event.Point.{Point}
 use Rattle.markdown_content.specs.Codes.{Code, stop_of, place_of, is_line_ending, tab_value, is_line_ending_byte, next_column, line_ending_len}
 use Rattle.markdown_content.specs.DocumentWalk.{codes_after, IsPoint, next_point, value_from}
@@ -20,7 +22,7 @@ use Rattle.markdown_content.proofs.WalkSteps.{codes_left_at, falls, few-less}
 use Rattle.markdown_model.specs.CodeTests.{values_of}
 use Rattle.markdown_block_model.specs.LineRests.{lines_of, onto_line}
 use Rattle.markdown_block_line.specs.DocumentLines.{line_from, first_line, IsLineOf}
-use Rattle.markdown_block_line.proofs.RestValues.{by_bool}
+use Rattle.markdown_block_line.proofs.RestValues.{by_bool, values-length}
 
 -- Lines of codes.
 
@@ -190,18 +192,18 @@ range-more bytes i m h =
         let e : suc i + m ≡ suc (i + m) = omega arith in
         ap (λ k. take m (drop i bs) ++ get_or (b ∷ bs) k 0 ∷ []) e ∙ here bs i m (omega (arith, h))
 
--- so many ordinary bytes behind the start of a line
-pub part-plain : (set bytes : List ℕ) (p : Point) (m : ℕ) → IsPoint bytes p → p.vs ≡ 0 → p.index + m ≤ length bytes → ArePlain set bytes p.index (p.index + m) → IsLinePart bytes p (columns_on p m) (slice_range bytes p.index (p.index + m))
-part-plain set bytes p zero h z l plain =
+-- so many bytes above 13 behind the start of a line
+pub part-plain : (bytes : List ℕ) (p : Point) (m : ℕ) → IsPoint bytes p → p.vs ≡ 0 → p.index + m ≤ length bytes → ((i : ℕ) → p.index ≤ i → i < p.index + m → 13 < get_or bytes i 0) → IsLinePart bytes p (columns_on p m) (slice_range bytes p.index (p.index + m))
+part-plain bytes p zero h z l plain =
     let a : p ≡ columns_on p 0 = grind (arith, z) in
     let b : p.index + 0 - p.index ≡ 0 = omega arith in
     subst (λ (t : Point). IsLinePart bytes p t (slice_range bytes p.index (p.index + 0))) a (subst (λ (vs : List ℕ). IsLinePart bytes p p vs) (ap (λ k. take k (drop p.index bytes)) (sym b)) (part-start bytes p h))
-part-plain set bytes p (suc m) h z l plain =
+part-plain bytes p (suc m) h z l plain =
     let q : Point = columns_on p m in
     let v : ℕ = get_or bytes q.index 0 in
     let lt : q.index < length bytes = omega (arith, l) in
-    let more : IsLinePart bytes p q (slice_range bytes p.index (p.index + m)) = part-plain set bytes p m h z (omega (arith, l)) (λ i low high. plain i low (omega (arith, high))) in
-    let big : 13 < v = (plain-parts set _ (plain (p.index + m) (omega arith) (omega arith))).0 in
+    let more : IsLinePart bytes p q (slice_range bytes p.index (p.index + m)) = part-plain bytes p m h z (omega (arith, l)) (λ i low high. plain i low (omega (arith, high))) in
+    let big : 13 < v = plain (p.index + m) (omega arith) (omega arith) in
     let other : is_line_ending_byte v ≡ false = other_byte v (above v 10 big (omega arith)) (above v 13 big (omega arith)) in
     let value : value_from bytes q ≡ Some v = value_byte bytes q more.point lt other (λ e. absurd (above v tab_value big (omega arith) e)) in
     let step : columns_on p (suc m) ≡ next_point bytes q = sym (further p m) ∙ next_byte bytes q more.point lt other (λ e. absurd (above v tab_value big (omega arith) e)) in
@@ -222,7 +224,7 @@ plain-to set bytes p end h lt low high plain feed =
     let m : ℕ = end - p.index in
     let e : p.index + m ≡ end = omega arith in
     subst (λ (i : ℕ). IsLinePart bytes p (record { line = p.line; column = p.column + m; index = i; vs = 0 }) (slice_range bytes p.index i)) e
-    (part-plain set bytes p m h (first-column bytes p h tabless) (omega (arith, high)) (λ i l k. plain i l (omega (arith, k))))
+    (part-plain bytes p m h (first-column bytes p h tabless) (omega (arith, high)) (λ i l k. (plain-parts set _ (plain i l (omega (arith, k)))).0))
   where
     tabless : get_or bytes p.index 0 ≡ tab_value → ⊥
     tabless t = by_bool (nat_lt p.index end)
@@ -337,3 +339,24 @@ behind-next bytes p q r k h l s =
       place = sym (ap (stop_of p) split.0 ∙ stop-more p (take k (codes_after bytes (place_of p))) c);
       rest = split.1;
     })
+
+-- behind so many bytes above 13
+pub plain-behind : (bytes : List ℕ) (p : Point) (m : ℕ) → IsPoint bytes p → p.index + m ≤ length bytes → ((i : ℕ) → p.index ≤ i → i < p.index + m → 13 < get_or bytes i 0)
+    → IsBehind bytes p (record { line = p.line; column = p.column + m; index = p.index + m; vs = p.vs }) m
+plain-behind bytes p zero h l plain =
+    let e : p ≡ record { line = p.line; column = p.column + 0; index = p.index + 0; vs = p.vs } = grind arith in
+    subst (λ (q : Point). IsBehind bytes p q 0) e (record { point = h; place = refl; rest = refl })
+plain-behind bytes p (suc m) h l plain =
+    let z : p.vs ≡ 0 = first-column bytes p h (above (get_or bytes p.index 0) tab_value (plain p.index (omega arith) (omega arith)) (omega arith)) in
+    let part : IsLinePart bytes p (columns_on p (suc m)) (slice_range bytes p.index (p.index + suc m)) = part-plain bytes p (suc m) h z l plain in
+    let rest : List Code = codes_after bytes (place_of (columns_on p (suc m))) in
+    let same : p.index + suc m - p.index ≡ suc m = omega arith in
+    let few : suc m ≤ length (drop p.index bytes) = omega (arith, l, length-drop p.index bytes) in
+    let len : length part.front ≡ suc m =
+    sym (values-length part.front) ∙ ap length part.values_are ∙ ap (λ n. length (take n (drop p.index bytes))) same ∙ length-take-le (suc m) (drop p.index bytes) few in
+    subst (λ (v : ℕ). IsBehind bytes p (record { line = p.line; column = p.column + suc m; index = p.index + suc m; vs = v }) (suc m)) (sym z)
+    (subst (λ (n : ℕ). IsBehind bytes p (columns_on p (suc m)) n) len (record {
+      point = part.point;
+      place = sym (ap (λ (cs : List Code). stop_of p (take (length part.front) cs)) part.codes ∙ ap (stop_of p) (take-append_seam part.front rest) ∙ part.stop);
+      rest = ap (drop (length part.front)) part.codes ∙ drop-append_seam part.front rest;
+    }))

@@ -1,6 +1,6 @@
 //! The lines of a document (CommonMark 2.1 and 2.2), as values of codes.
 
-ghost use Rattle.std.specs.Prelude.{◌≡◌, ◌≤◌, ◌<◌, length, take, slice_range, IfSome, IfOk};
+ghost use Rattle.std.specs.Prelude.{◌≡◌, ◌≤◌, ◌<◌, ◌+◌, ℕ, length, take, slice_range, slice_index, IfSome, IfOk};
 ghost use Rattle.markdown_content.specs.Codes.{place_of, stop_of};
 ghost use Rattle.markdown_content.specs.Content.{document_limit};
 ghost use Rattle.markdown_content.specs.DocumentWalk.{IsPoint, codes_after};
@@ -92,6 +92,22 @@ fn fill_line(bytes: &[u8], start: Point, buffer: &mut Vec<u8>) -> Result<Point, 
     Ok(point)
 }
 
+// How many bytes from a place on, at most so many, are above 13.
+fn plain_len(bytes: &[u8], start: Point, most: usize) -> usize
+    requires { IsPoint bytes.now start }
+    ensures within { result ≤ most }
+    ensures inside { start.index + result ≤ length bytes.now }
+    ensures plain { (i : ℕ) → start.index ≤ i → i < start.index + result → 13 < slice_index bytes.now i }
+{
+    let most = most.min(bytes.len() - start.index);
+    plain_end(
+        bytes,
+        start.index,
+        start.index + most,
+        &ByteSet::new(&NO_BYTES),
+    ) - start.index
+}
+
 /// Returns the place behind so many codes.
 pub fn past_codes(bytes: &[u8], start: Point, count: usize) -> Point
     requires fits { length bytes.now ≤ document_limit }
@@ -100,8 +116,13 @@ pub fn past_codes(bytes: &[u8], start: Point, count: usize) -> Point
     ensures place { result ≡ stop_of start (take count (codes_after bytes.now (place_of start))) }
     ensures is_point { IsPoint bytes.now result }
 {
-    let mut point = start;
-    for _ in 0..count {
+    let plain = plain_len(bytes, start, count);
+    let mut point = Point {
+        column: start.column + plain,
+        index: start.index + plain,
+        ..start
+    };
+    for _ in plain..count {
         point = past_code(bytes, point);
     }
     point
