@@ -8,6 +8,7 @@ pub mod FrontTexts
 pub mod GapRests
 pub mod LineCounts
 pub mod LinesTaken
+pub mod PlainRuns
 pub mod RawWalks
 pub mod ReadingRests
 pub mod ResolvedRowLemmas

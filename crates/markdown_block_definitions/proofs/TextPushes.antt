@@ -1,5 +1,5 @@
 -- The codes of pieces, pushed one by one.
-use Rattle.std.proofs.Common.{◌≡◌, ℕ, suc, ◌≤◌, refl, ap, ◌∙◌, sym, subst, List, [], ◌∷◌, ◌++◌, length, filter, Bool, true, false, ◌&&◌, ◌||◌, not, nat_lt, ◌==◌, arith, if◌then◌else◌, append_assoc, append-nil}
+use Rattle.std.proofs.Common.{◌≡◌, ℕ, suc, ◌+◌, ◌*◌, ◌≤◌, ◌<◌, refl, ap, ◌∙◌, sym, subst, List, [], ◌∷◌, ◌++◌, length, filter, Bool, true, false, ◌&&◌, ◌||◌, not, nat_lt, ◌==◌, arith, append_assoc, append-nil}
 use Rattle.std.proofs.lemmas.Bool.Decides.{nat_tests}
 use Rattle.std.proofs.lemmas.Grind.{flat_map-append}
 use Rattle.markdown_event.specs.declared.event.Point.{Point}
@@ -10,11 +10,12 @@ use Rattle.markdown_content.specs.declared.parser.Piece.{Piece}
 use Rattle.markdown_content.proofs.PlaceOrder.{is_before, not_before-trans}
 use Rattle.markdown_content.proofs.DocumentWalkLemmas.{past-end}
 use Rattle.markdown_content.proofs.DocumentPlaces.{stands-point, codes-point}
-use Rattle.markdown_model.specs.CodeTests.{values_of, is_value, next_is}
+use Rattle.markdown_model.specs.CodeTests.{values_of}
 use Rattle.markdown_block_line.proofs.RestValues.{by_bool}
 use Rattle.markdown_block_definitions.specs.TextReadings.{is_first, firsts_of}
-use Rattle.markdown_block_definitions.specs.TextCopies.{IsSpot, IsRead, IsLonger, IsPut, point_of, spot_place, line_spot, is_spot_before}
+use Rattle.markdown_block_definitions.specs.TextCopies.{IsSpot, IsRead, IsLonger, IsCopied, codes_left, point_of, spot_place, line_spot, is_spot_before}
 use Rattle.markdown_block_definitions.specs.declared.copy.Spot.{Spot}
+use Rattle.markdown_block_definitions.proofs.SpotReads.{spot-small}
 
 pub keep : (f : Code → Bool) (c : Code) (cs : List Code) → f c ≡ true → filter f (c ∷ cs) ≡ c ∷ filter f cs
 keep f c cs h = rw h refl
@@ -76,14 +77,6 @@ nothing-left bytes piece s h l =
 
 -- What is pushed.
 
-values-more : (cs : List Code) (c : Code) → values_of (cs ++ c ∷ []) ≡ values_of cs ++ c.value ∷ []
-values-more [] c = refl
-values-more (d ∷ cs) c = ap (λ (xs : List ℕ). d.value ∷ xs) (values-more cs c)
-
-firsts-more : (cs : List Code) (c : Code) → firsts_of (cs ++ c ∷ []) ≡ firsts_of cs ++ is_first c ∷ []
-firsts-more [] c = refl
-firsts-more (d ∷ cs) c = ap (λ (xs : List Bool). is_first d ∷ xs) (firsts-more cs c)
-
 pub values-append : (cs ds : List Code) → values_of (cs ++ ds) ≡ values_of cs ++ values_of ds
 values-append [] ds = refl
 values-append (c ∷ cs) ds = ap (λ (xs : List ℕ). c.value ∷ xs) (values-append cs ds)
@@ -94,20 +87,23 @@ firsts-append (c ∷ cs) ds = ap (λ (xs : List Bool). is_first c ∷ xs) (first
 
 pub record IsPushed (bytes : List ℕ) (piece : Piece) (v0 : List ℕ) (b0 : List Bool) (v : List ℕ) (b : List Bool) (s : Spot) : Type 0 where
   pub done : List Code
-  pub split : piece_codes (codes_of bytes) piece ≡ done ++ filter (is_in_piece piece) (codes_after bytes (spot_place s))
+  pub split : piece_codes (codes_of bytes) piece ≡ done ++ codes_left bytes piece (spot_place s)
   pub longer : IsLonger v0 b0 v b done
   pub stands : IsSpot bytes s
+  pub started : s.index < length bytes → is_spot_before s piece.start ≡ false
 
-pub pushed-start : (bytes : List ℕ) (piece : Piece) (v : List ℕ) (b : List Bool) (n : ℕ) → n ≤ piece.start.0 → IsSpot bytes (line_spot n) → IsPushed bytes piece v b v b (line_spot n)
-pushed-start bytes piece v b n l h = record {
-  done = [];
-  split = from-line piece n (codes_of bytes) l;
-  longer = record { values_more = sym (append-nil v); firsts_more = sym (append-nil b) };
-  stands = h;
+pub pushed-start : (bytes : List ℕ) (piece : Piece) (v : List ℕ) (b : List Bool) (s : Spot) → IsSpot bytes s → piece_codes (codes_of bytes) piece ≡ codes_left bytes piece (spot_place s)
+    → (s.index < length bytes → is_spot_before s piece.start ≡ false) → IsPushed bytes piece v b v b s
+pushed-start bytes piece v b s h e g = record { done = []; split = e; longer = record { values_more = sym (append-nil v); firsts_more = sym (append-nil b) }; stands = h; started = g }
+
+longer-on : (v0 v v1 : List ℕ) (b0 b b1 : List Bool) (cs ds : List Code) → IsLonger v0 b0 v b cs → IsLonger v b v1 b1 ds → IsLonger v0 b0 v1 b1 (cs ++ ds)
+longer-on v0 v v1 b0 b b1 cs ds h k = record {
+  values_more = k.values_more ∙ ap (λ (x : List ℕ). x ++ values_of ds) h.values_more ∙ append_assoc v0 (values_of cs) (values_of ds) ∙ ap (λ (x : List ℕ). v0 ++ x) (sym (values-append cs ds));
+  firsts_more = k.firsts_more ∙ ap (λ (x : List Bool). x ++ firsts_of ds) h.firsts_more ∙ append_assoc b0 (firsts_of cs) (firsts_of ds) ∙ ap (λ (x : List Bool). b0 ++ x) (sym (firsts-append cs ds));
 }
 
 module _ (bytes : List ℕ) (piece : Piece) (v0 : List ℕ) (b0 : List Bool) (v : List ℕ) (b : List Bool) (s : Spot) (h : IsPushed bytes piece v0 b0 v b s) where
-  whole : filter (is_in_piece piece) (codes_after bytes (spot_place s)) ≡ [] → IsLonger v0 b0 v b (piece_codes (codes_of bytes) piece)
+  whole : codes_left bytes piece (spot_place s) ≡ [] → IsLonger v0 b0 v b (piece_codes (codes_of bytes) piece)
   whole e =
       let x : h.done ≡ piece_codes (codes_of bytes) piece = sym (h.split ∙ ap (λ (xs : List Code). h.done ++ xs) e ∙ append-nil h.done) in
       subst (λ (xs : List Code). IsLonger v0 b0 v b xs) x h.longer
@@ -118,62 +114,45 @@ module _ (bytes : List ℕ) (piece : Piece) (v0 : List ℕ) (b0 : List Bool) (v 
   pub pushed-end : length bytes ≤ s.index → IsLonger v0 b0 v b (piece_codes (codes_of bytes) piece)
   pushed-end l = whole (nothing-left bytes piece s h.stands l)
 
-  module _ (value : ℕ) (t : Spot) (v1 : List ℕ) (b1 : List Bool) (before : is_spot_before s piece.end ≡ true) (r : IsRead bytes s value t) (put : IsPut piece.start s value v b v1 b1) where
-    at-place : (at : ℕ × ℕ) → is_code_before at r.code ≡ is_spot_before s at
-    at-place at = ap (λ (x : ℕ × ℕ). is_before x at) r.starts
+  pub pushed-more : (v1 : List ℕ) (b1 : List Bool) (t : Spot) → IsCopied bytes piece s t v b v1 b1 → IsPushed bytes piece v0 b0 v1 b1 t
+  pushed-more v1 b1 t k = record {
+    done = h.done ++ k.codes;
+    split = h.split ∙ ap (λ (xs : List Code). h.done ++ xs) k.left ∙ sym (append_assoc h.done k.codes (codes_left bytes piece (spot_place t)));
+    longer = longer-on v0 v v1 b0 b b1 h.done k.codes h.longer k.longer;
+    stands = k.stands;
+    started = λ l. k.started;
+  }
 
-    passed : is_spot_before s piece.start ≡ true → IsPushed bytes piece v0 b0 v1 b1 t
-    passed e = record {
-      done = h.done;
-      split = h.split ∙ ap (λ (xs : List Code). h.done ++ filter (is_in_piece piece) xs) r.codes
-          ∙ ap (λ (xs : List Code). h.done ++ xs) (leave (is_in_piece piece) r.code (codes_after bytes (spot_place t)) (not-started piece r.code (at-place piece.start ∙ e)));
-      longer = record {
-        values_more = put.values_more ∙ ap (λ x. if x then v else v ++ value ∷ []) e ∙ h.longer.values_more;
-        firsts_more = put.firsts_more ∙ ap (λ x. if x then b else b ++ (s.vs == 0) ∷ []) e ∙ h.longer.firsts_more;
-      };
-      stands = r.stands;
-    }
+-- One code.
 
-    code-first : (s.vs == 0) ≡ is_first r.code
-    code-first = ap (λ (x : ℕ × ℕ). x.1 == 0) (sym r.starts)
+module _ (bytes : List ℕ) (piece : Piece) (s t : Spot) (value : ℕ) (r : IsRead bytes s value t) where
+  at-place : (at : ℕ × ℕ) → is_code_before at r.code ≡ is_spot_before s at
+  at-place at = ap (λ (x : ℕ × ℕ). is_before x at) r.starts
 
-    taken : is_spot_before s piece.start ≡ false → IsPushed bytes piece v0 b0 v1 b1 t
-    taken e = record {
-      done = h.done ++ r.code ∷ [];
-      split = h.split ∙ ap (λ (xs : List Code). h.done ++ filter (is_in_piece piece) xs) r.codes
-          ∙ ap (λ (xs : List Code). h.done ++ xs) (keep (is_in_piece piece) r.code (codes_after bytes (spot_place t)) (inside piece r.code (at-place piece.start ∙ e) (at-place piece.end ∙ before)))
-          ∙ sym (append_assoc h.done (r.code ∷ []) (filter (is_in_piece piece) (codes_after bytes (spot_place t))));
-      longer = record {
-        values_more = put.values_more ∙ ap (λ x. if x then v else v ++ value ∷ []) e ∙ ap (λ (x : List ℕ). x ++ value ∷ []) h.longer.values_more ∙ append_assoc v0 (values_of h.done) (value ∷ [])
-            ∙ ap (λ n. v0 ++ (values_of h.done ++ n ∷ [])) (sym r.values) ∙ ap (λ (x : List ℕ). v0 ++ x) (sym (values-more h.done r.code));
-        firsts_more = put.firsts_more ∙ ap (λ x. if x then b else b ++ (s.vs == 0) ∷ []) e ∙ ap (λ (x : List Bool). x ++ (s.vs == 0) ∷ []) h.longer.firsts_more
-            ∙ append_assoc b0 (firsts_of h.done) ((s.vs == 0) ∷ [])
-            ∙ ap (λ n. b0 ++ (firsts_of h.done ++ n ∷ [])) code-first ∙ ap (λ (x : List Bool). b0 ++ x) (sym (firsts-more h.done r.code));
-      };
-      stands = r.stands;
-    }
+  pub left-more : is_spot_before s piece.start ≡ false → is_spot_before s piece.end ≡ true → codes_left bytes piece (spot_place s) ≡ r.code ∷ codes_left bytes piece (spot_place t)
+  left-more e f = ap (filter (is_in_piece piece)) r.codes
+      ∙ keep (is_in_piece piece) r.code (codes_after bytes (spot_place t)) (inside piece r.code (at-place piece.start ∙ e) (at-place piece.end ∙ f))
 
-    pub pushed-more : IsPushed bytes piece v0 b0 v1 b1 t
-    pushed-more = by_bool (is_spot_before s piece.start) (λ (e : is_spot_before s piece.start ≡ true). passed e) (λ (e : is_spot_before s piece.start ≡ false). taken e)
-
--- The first code.
-
-module _ (bytes : List ℕ) (piece : Piece) (s : Spot) (value : ℕ) (t : Spot) (h : piece_codes (codes_of bytes) piece ≡ filter (is_in_piece piece) (codes_after bytes (spot_place s))) (r : IsRead bytes s value t) where
-  spot-code : (at : ℕ × ℕ) → is_code_before at r.code ≡ is_spot_before s at
-  spot-code at = ap (λ (x : ℕ × ℕ). is_before x at) r.starts
-
-  pub first-later : is_spot_before s piece.start ≡ true → piece_codes (codes_of bytes) piece ≡ filter (is_in_piece piece) (codes_after bytes (spot_place t))
-  first-later e = h ∙ ap (filter (is_in_piece piece)) r.codes ∙ leave (is_in_piece piece) r.code (codes_after bytes (spot_place t)) (not-started piece r.code (spot-code piece.start ∙ e))
-
-  pub first-here : is_spot_before s piece.start ≡ false → is_spot_before s piece.end ≡ true → next_is (is_value value) (piece_codes (codes_of bytes) piece) ≡ true
-  first-here e f =
-      ap (next_is (is_value value)) (h ∙ ap (filter (is_in_piece piece)) r.codes ∙ keep (is_in_piece piece) r.code (codes_after bytes (spot_place t)) (inside piece r.code (spot-code piece.start ∙ e) (spot-code piece.end ∙ f)))
-      ∙ ap (λ n. n == value) r.values ∙ same value
+  pub still-behind : (at : ℕ × ℕ) → is_spot_before s at ≡ false → is_spot_before t at ≡ false
+  still-behind at e = let k : t.vs ≤ 3 = (spot-small bytes t r.stands).0 in numbers s.index s.vs t.index t.vs at.0 at.1 e k r.later
     where
-      same : (n : ℕ) → (n == n) ≡ true
-      same n = grind (arith, nat_tests)
+      numbers : (a b c d e f : ℕ) → is_before (a, b) (e, f) ≡ false → d ≤ 3 → 4 * a + b + 1 ≤ 4 * c + d → is_before (c, d) (e, f) ≡ false
+      numbers a b c d e f h k l = grind (arith, nat_tests)
 
-pub first-start : (bytes : List ℕ) (piece : Piece) (n : ℕ) → n ≤ piece.start.0 → piece_codes (codes_of bytes) piece ≡ filter (is_in_piece piece) (codes_after bytes (spot_place (line_spot n)))
+  pub first-later : piece_codes (codes_of bytes) piece ≡ codes_left bytes piece (spot_place s) → is_spot_before s piece.start ≡ true → piece_codes (codes_of bytes) piece ≡ codes_left bytes piece (spot_place t)
+  first-later h e = h ∙ ap (filter (is_in_piece piece)) r.codes ∙ leave (is_in_piece piece) r.code (codes_after bytes (spot_place t)) (not-started piece r.code (at-place piece.start ∙ e))
+
+  pub copied-one : (v : List ℕ) (b : List Bool) → is_spot_before s piece.start ≡ false → is_spot_before s piece.end ≡ true → IsCopied bytes piece s t v b (v ++ value ∷ []) (b ++ (s.vs == 0) ∷ [])
+  copied-one v b e f = record {
+    codes = r.code ∷ [];
+    left = left-more e f;
+    longer = record { values_more = ap (λ n. v ++ n ∷ []) (sym r.values); firsts_more = ap (λ (x : ℕ × ℕ). b ++ (x.1 == 0) ∷ []) (sym r.starts) };
+    stands = r.stands;
+    started = still-behind piece.start e;
+    later = r.later;
+  }
+
+pub first-start : (bytes : List ℕ) (piece : Piece) (n : ℕ) → n ≤ piece.start.0 → piece_codes (codes_of bytes) piece ≡ codes_left bytes piece (spot_place (line_spot n))
 first-start bytes piece n l = from-line piece n (codes_of bytes) l
 
 -- A text.
@@ -186,10 +165,7 @@ longer-more v0 v1 v2 b0 b1 b2 bytes ps qs piece h k e =
     let cs : List Code = content_of bytes ps in
     let ds : List Code = piece_codes (codes_of bytes) piece in
     let whole : content_of bytes qs ≡ cs ++ ds = ap (content_of bytes) e ∙ flat_map-append (piece_codes (codes_of bytes)) ps (piece ∷ []) ∙ ap (λ (xs : List Code). cs ++ xs) (append-nil ds) in
-    record {
-      values_more = k.values_more ∙ ap (λ (x : List ℕ). x ++ values_of ds) h.values_more ∙ append_assoc v0 (values_of cs) (values_of ds) ∙ ap (λ (x : List ℕ). v0 ++ x) (sym (values-append cs ds) ∙ ap values_of (sym whole));
-      firsts_more = k.firsts_more ∙ ap (λ (x : List Bool). x ++ firsts_of ds) h.firsts_more ∙ append_assoc b0 (firsts_of cs) (firsts_of ds) ∙ ap (λ (x : List Bool). b0 ++ x) (sym (firsts-append cs ds) ∙ ap firsts_of (sym whole));
-    }
+    subst (λ (xs : List Code). IsLonger v0 b0 v2 b2 xs) (sym whole) (longer-on v0 v1 v2 b0 b1 b2 cs ds h k)
 
 -- the codes of a text alone
 module _ (v0 v : List ℕ) (b0 b : List Bool) (cs : List Code) (h : IsLonger v0 b0 v b cs) where

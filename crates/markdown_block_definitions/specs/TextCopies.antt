@@ -1,8 +1,11 @@
 -- The codes of a text, from place to place.
-use Rattle.std.specs.Prelude.{◌≡◌, ℕ, ◌+◌, ◌-◌, ◌*◌, ◌%◌, ◌≤◌, Bool, true, ◌&&◌, ◌||◌, nat_lt, ◌==◌, List, [], ◌∷◌, ◌++◌, drop, slice_index, if◌then◌else◌}
+use Rattle.std.specs.Prelude.{◌≡◌, ℕ, ◌+◌, ◌-◌, ◌*◌, ◌%◌, ◌≤◌, Bool, true, false, ◌&&◌, ◌||◌, nat_lt, ◌==◌, List, ◌∷◌, ◌++◌, drop, filter, length, replicate, slice_index, slice_range, if◌then◌else◌}
+use Rattle.std.specs.List.{list_all}
 use Rattle.markdown_event.specs.declared.event.Point.{Point}
 use Rattle.markdown_content.specs.Codes.{Code, place_of, is_line_ending_byte, line_ending_len}
+use Rattle.markdown_content.specs.Content.{is_in_piece}
 use Rattle.markdown_content.specs.DocumentWalk.{IsPoint, codes_after}
+use Rattle.markdown_content.specs.declared.parser.Piece.{Piece}
 use Rattle.markdown_model.specs.CodeTests.{values_of}
 use Rattle.markdown_block_definitions.specs.TextReadings.{firsts_of}
 use Rattle.markdown_block_definitions.specs.declared.copy.Spot.{Spot}
@@ -51,7 +54,27 @@ pub record IsLonger (values : List ℕ) (firsts : List Bool) (more_values : List
   pub values_more : more_values ≡ values ++ values_of cs
   pub firsts_more : more_firsts ≡ firsts ++ firsts_of cs
 
--- the same by the code at a place, which counts if it is not before another
-pub record IsPut (start : ℕ × ℕ) (s : Spot) (value : ℕ) (values : List ℕ) (firsts : List Bool) (more_values : List ℕ) (more_firsts : List Bool) : Type 0 where
-  pub values_more : more_values ≡ (if is_spot_before s start then values else values ++ value ∷ [])
-  pub firsts_more : more_firsts ≡ (if is_spot_before s start then firsts else firsts ++ (s.vs == 0) ∷ [])
+-- the codes of a piece from a place on
+abbrev pub codes_left : List ℕ → Piece → ℕ × ℕ → List Code
+codes_left bytes piece at = filter (is_in_piece piece) (codes_after bytes at)
+
+-- values and marks, longer by those of the codes of a piece from a place to another
+pub record IsCopied (bytes : List ℕ) (piece : Piece) (s t : Spot) (values : List ℕ) (firsts : List Bool) (more_values : List ℕ) (more_firsts : List Bool) : Type 0 where
+  pub codes : List Code
+  pub left : codes_left bytes piece (spot_place s) ≡ codes ++ codes_left bytes piece (spot_place t)
+  pub longer : IsLonger values firsts more_values more_firsts codes
+  pub stands : IsSpot bytes t
+  pub started : is_spot_before t piece.start ≡ false
+  pub later : 4 * s.index + s.vs + 1 ≤ 4 * t.index + t.vs
+
+-- the codes of a piece from a place to another are the bytes there, which are above 13
+pub record IsPlainRun (bytes : List ℕ) (piece : Piece) (s t : Spot) : Type 0 where
+  pub codes : List Code
+  pub left : codes_left bytes piece (spot_place s) ≡ codes ++ codes_left bytes piece (spot_place t)
+  pub values : values_of codes ≡ slice_range bytes s.index t.index
+  pub firsts : firsts_of codes ≡ replicate (t.index - s.index) true
+  pub above : list_all (λ c. nat_lt 13 c.value) codes ≡ true
+  pub stands : IsSpot bytes t
+  pub started : is_spot_before t piece.start ≡ false
+  pub low : s.index ≤ t.index
+  pub high : t.index ≤ length bytes

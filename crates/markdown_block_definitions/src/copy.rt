@@ -1,11 +1,13 @@
 //! The codes of a document, one by one, and those of a text, copied: their values, and which of them are no later columns of a tab.
 
-ghost use Rattle.std.specs.Prelude.{◌≡◌, ◌<◌, ◌≤◌, ◌+◌, length, drop, true, [], IfOk, MatchOption, slice_index};
+ghost use Rattle.std.specs.Prelude.{◌≡◌, ◌<◌, ◌≤◌, ◌+◌, length, drop, true, false, [], IfOk, MatchOption, slice_index};
 ghost use Rattle.markdown_content.specs.Codes.{codes_of, is_line_ending_byte, line_ending_len};
 ghost use Rattle.markdown_content.specs.Content.{content_of, piece_codes};
 ghost use Rattle.markdown_model.specs.CodeTests.{is_value, next_is};
-ghost use Rattle.markdown_block_definitions.specs.TextCopies.{IsSpot, IsRead, EndsLine, IsLonger, IsPut, is_spot_before, line_spot, past_tab};
+ghost use Rattle.markdown_block_definitions.specs.TextCopies.{IsSpot, IsRead, EndsLine, IsLonger, IsCopied, IsPlainRun, codes_left, is_spot_before, line_spot, past_tab, spot_place};
 
+use markdown_content::bytes::{ByteSet, NO_BYTES};
+use markdown_content::cursor::plain_end;
 use markdown_content::parser::Piece;
 use std::alloc::AllocError;
 
@@ -122,22 +124,68 @@ pub fn is_before(spot: Spot, place: (usize, usize)) -> bool
     spot.index < place.0 || (spot.index == place.0 && spot.vs < place.1)
 }
 
-// Appends a code, if it is not before the place.
-fn put(
-    from: (usize, usize),
+/// Returns the place of the first code of a piece, or one behind it where it has none.
+pub fn first_spot(bytes: &[u8], piece: Piece) -> Spot
+    ensures stands { IsSpot bytes.now result }
+    ensures left { piece_codes (codes_of bytes.now) piece ≡ codes_left bytes.now piece (spot_place result) }
+    ensures started { result.index < length bytes.now → is_spot_before result piece.start ≡ false }
+{
+    let mut spot = Spot {
+        index: line_start(bytes, piece.start.0),
+        vs: 0,
+        phase: 0,
+    };
+    while spot.index < bytes.len() {
+        if !is_before(spot, piece.start) {
+            return spot;
+        }
+        let (_, behind) = read(bytes, spot);
+        spot = behind;
+    }
+    spot
+}
+
+/// Returns the place behind those bytes above 13 that stand at a place of a piece, which may be none: each is a code.
+pub fn past_plain(bytes: &[u8], piece: Piece, spot: Spot) -> Spot
+    requires is_spot { IsSpot bytes.now spot }
+    requires begins { spot.index < length bytes.now }
+    requires started { is_spot_before spot piece.start ≡ false }
+    requires before_end { is_spot_before spot piece.end ≡ true }
+    ensures { IsPlainRun bytes.now piece spot result }
+{
+    let stop = piece.end.0.min(bytes.len());
+    let index = plain_end(bytes, spot.index, stop, &ByteSet::new(&NO_BYTES));
+    Spot {
+        index,
+        vs: spot.vs,
+        phase: (spot.phase + (index - spot.index) % 4) % 4,
+    }
+}
+
+// Appends codes that stand at a place of a piece, one at least, and returns the place behind them.
+fn push_codes(
+    bytes: &[u8],
+    piece: Piece,
     spot: Spot,
-    value: u8,
     values: &mut Vec<u8>,
     firsts: &mut Vec<bool>,
-) -> Result<(), AllocError>
-    ensures { IfOk result (λ _. IsPut from spot value values.old.items firsts.old.items values.new.items firsts.new.items) }
+) -> Result<Spot, AllocError>
+    requires is_spot { IsSpot bytes.now spot }
+    requires begins { spot.index < length bytes.now }
+    requires started { is_spot_before spot piece.start ≡ false }
+    requires before_end { is_spot_before spot piece.end ≡ true }
+    ensures { IfOk result (λ behind. IsCopied bytes.now piece spot behind values.old.items firsts.old.items values.new.items firsts.new.items) }
 {
-    if is_before(spot, from) {
-        return Ok(());
+    let behind = past_plain(bytes, piece, spot);
+    if behind.index > spot.index {
+        values.extend_from_slice(&bytes[spot.index..behind.index])?;
+        firsts.resize(firsts.len() + (behind.index - spot.index), true)?;
+        return Ok(behind);
     }
+    let (value, behind) = read(bytes, spot);
     values.push(value)?;
     firsts.push(spot.vs == 0)?;
-    Ok(())
+    Ok(behind)
 }
 
 // Appends the codes of a piece.
@@ -149,18 +197,12 @@ fn push_piece(
 ) -> Result<(), AllocError>
     ensures { IfOk result (λ _. IsLonger values.old.items firsts.old.items values.new.items firsts.new.items (piece_codes (codes_of bytes.now) piece)) }
 {
-    let mut spot = Spot {
-        index: line_start(bytes, piece.start.0),
-        vs: 0,
-        phase: 0,
-    };
+    let mut spot = first_spot(bytes, piece);
     while spot.index < bytes.len() {
         if !is_before(spot, piece.end) {
             return Ok(());
         }
-        let (value, behind) = read(bytes, spot);
-        put(piece.start, spot, value, values, firsts)?;
-        spot = behind;
+        spot = push_codes(bytes, piece, spot, values, firsts)?;
     }
     Ok(())
 }
@@ -169,22 +211,15 @@ fn push_piece(
 pub(crate) fn first_value(bytes: &[u8], piece: Piece) -> Option<u8>
     ensures { MatchOption result (piece_codes (codes_of bytes.now) piece ≡ []) (λ v. next_is (is_value v) (piece_codes (codes_of bytes.now) piece) ≡ true) }
 {
-    let mut spot = Spot {
-        index: line_start(bytes, piece.start.0),
-        vs: 0,
-        phase: 0,
-    };
-    while spot.index < bytes.len() {
-        let (value, behind) = read(bytes, spot);
-        if !is_before(spot, piece.start) {
-            if !is_before(spot, piece.end) {
-                return None;
-            }
-            return Some(value);
-        }
-        spot = behind;
+    let spot = first_spot(bytes, piece);
+    if spot.index >= bytes.len() {
+        return None;
     }
-    None
+    if !is_before(spot, piece.end) {
+        return None;
+    }
+    let (value, _) = read(bytes, spot);
+    Some(value)
 }
 
 // Appends the codes of a text: their values, and which of them are no later columns of a tab. The only error is that memory was refused.

@@ -1,14 +1,18 @@
 -- Lines of HTML, code by code.
-use Rattle.std.proofs.Common.{◌≡◌, ℕ, refl, sym, ap, ◌∙◌, Bool, true, false, not, ◌&&◌, ◌||◌, nat_lt, if◌then◌else◌, List, [], ◌∷◌, ◌++◌, length, get_or, drop, append_assoc, append-nil, arith, ◌<◌, ◌+◌}
-use Rattle.std.specs.Prelude.{slice_range}
+use Rattle.std.proofs.Common.{◌≡◌, ℕ, zero, suc, ◌-◌, ◌<◌, refl, sym, ap, ◌∙◌, Bool, true, false, not, ◌&&◌, ◌||◌, nat_lt, if◌then◌else◌, List, [], ◌∷◌, ◌++◌, length, get_or, drop, append_assoc, append-nil, arith, ◌<◌, ◌+◌}
+use Rattle.std.specs.Prelude.{replicate, slice_range}
+use Rattle.std.specs.List.{list_all}
+use Rattle.std.proofs.lemmas.Bool.Decides.{nat_tests}
 use Rattle.markdown_event.specs.declared.event.Point.{Point}
 use Rattle.markdown_content.specs.Codes.{Code, is_line_ending, is_line_ending_byte, line_ending_len}
+use Rattle.markdown_content.specs.declared.parser.Piece.{Piece}
 use Rattle.markdown_content.proofs.DocumentCodes.{code_here}
 use Rattle.markdown_content.proofs.DocumentPlaces.{next, IsNextPlace}
 use Rattle.markdown_model.specs.CodeTests.{values_of}
 use Rattle.markdown_model.specs.Grammar.{span}
 use Rattle.markdown_block_line.proofs.RestValues.{by_bool}
-use Rattle.markdown_block_definitions.specs.TextCopies.{IsSpot, IsRead, point_of}
+use Rattle.markdown_block_definitions.specs.TextReadings.{is_first, firsts_of}
+use Rattle.markdown_block_definitions.specs.TextCopies.{IsSpot, IsRead, IsPlainRun, codes_left, point_of, spot_place}
 use Rattle.markdown_block_definitions.specs.declared.copy.Spot.{Spot}
 use Rattle.markdown_block_model.specs.LineRests.{lines_of, onto_line}
 use Rattle.markdown_html_model.specs.Escaped.{escaped}
@@ -18,6 +22,23 @@ use Rattle.markdown_page.specs.CodeLines.{text_as, kept}
 use Rattle.markdown_page.specs.LinesByCode.{lines_from}
 use Rattle.markdown_page.specs.declared.html.Line.{Line}
 use Rattle.markdown_page.proofs.LineTexts.{text_as-append, text-later, text-first, keeps, drops, span-pass, span-stop, plain-value}
+
+-- Marks.
+
+head-of : (a b : Bool) (xs ys : List Bool) → a ∷ xs ≡ b ∷ ys → a ≡ b
+head-of a b xs ys e = cc
+
+tail-of : (a b : Bool) (xs ys : List Bool) → a ∷ xs ≡ b ∷ ys → xs ≡ ys
+tail-of a b xs ys e = cc
+
+some-of : (a : Bool) (xs : List Bool) → a ∷ xs ≡ [] → ⊥
+some-of a xs e = omega (arith, ap length e)
+
+first-above : (c : Code) (cs : List Code) → list_all (λ d. nat_lt 13 d.value) (c ∷ cs) ≡ true → nat_lt 13 c.value ≡ true
+first-above c cs e = grind (arith, e)
+
+rest-above : (c : Code) (cs : List Code) → list_all (λ d. nat_lt 13 d.value) (c ∷ cs) ≡ true → list_all (λ d. nat_lt 13 d.value) cs ≡ true
+rest-above c cs e = grind (arith, e)
 
 -- A line that is not ended.
 
@@ -222,3 +243,49 @@ module _ (p : Page) (raw : Bool) where
       ∙ ap (λ (v : ℕ). before ++ ((if line.is_leading || not (nat_lt 0 s.vs) then text_as raw (v ∷ []) else []) ++ lines_from p raw (record { has_begun = true; is_leading = line.is_leading && nat_lt 0 s.vs }) cs)) (sym r.values)
       ∙ ap (λ (d : Bool). before ++ ((if line.is_leading || not d then text_as raw (r.code.value ∷ []) else []) ++ lines_from p raw (record { has_begun = true; is_leading = line.is_leading && d }) cs)) (sym later)
       ∙ ap (λ (x : List ℕ). before ++ x) (sym (from-other line r.code cs plain))
+
+  -- codes above 13 that are no later columns of a tab
+  abbrev in-text : Line
+  in-text = record { has_begun = true; is_leading = false }
+
+  one-plain : (line : Line) (c : Code) (cs : List Code) → nat_lt 13 c.value ≡ true → is_first c ≡ true → lines_from p raw line (c ∷ cs) ≡ text_as raw (c.value ∷ []) ++ lines_from p raw in-text cs
+  one-plain line c cs big f =
+      let other : is_line_ending c ≡ false = grind (arith, nat_tests, big) in
+      let first : is_later_column c ≡ false = grind (arith, nat_tests, f) in
+      from-other line c cs other
+      ∙ ap (λ (b : Bool). (if line.is_leading || not b then text_as raw (c.value ∷ []) else []) ++ lines_from p raw (record { has_begun = true; is_leading = line.is_leading && b }) cs) first
+      ∙ whole line.is_leading
+    where
+      whole : (b : Bool) → (if b || true then text_as raw (c.value ∷ []) else []) ++ lines_from p raw (record { has_begun = true; is_leading = b && false }) cs ≡ text_as raw (c.value ∷ []) ++ lines_from p raw in-text cs
+      whole true = refl
+      whole false = refl
+
+  step-plain : (line : Line) (c : Code) (codes : List Code) (n : ℕ) (cs : List Code) → list_all (λ c. nat_lt 13 c.value) (c ∷ codes) ≡ true → firsts_of (c ∷ codes) ≡ replicate (suc n) true
+      → lines_from p raw in-text (codes ++ cs) ≡ text_as raw (values_of codes) ++ lines_from p raw in-text cs
+      → lines_from p raw line (c ∷ codes ++ cs) ≡ text_as raw (values_of (c ∷ codes)) ++ lines_from p raw in-text cs
+  step-plain line c codes n cs a f e =
+      one-plain line c (codes ++ cs) (first-above c codes a) (head-of (is_first c) true (firsts_of codes) (replicate n true) f) ∙ ap (λ (x : List ℕ). text_as raw (c.value ∷ []) ++ x) e
+      ∙ sym (append_assoc (text_as raw (c.value ∷ [])) (text_as raw (values_of codes)) (lines_from p raw in-text cs))
+      ∙ ap (λ (x : List ℕ). x ++ lines_from p raw in-text cs) (sym (text_as-append raw (c.value ∷ []) (values_of codes)))
+
+  more-plain : (codes : List Code) (n : ℕ) (cs : List Code) → list_all (λ c. nat_lt 13 c.value) codes ≡ true → firsts_of codes ≡ replicate n true
+      → lines_from p raw in-text (codes ++ cs) ≡ text_as raw (values_of codes) ++ lines_from p raw in-text cs
+  more-plain [] n cs a f = ap (λ (x : List ℕ). x ++ lines_from p raw in-text cs) (sym (nothing-as raw))
+  more-plain (c ∷ codes) zero cs a f = absurd (some-of (is_first c) (firsts_of codes) f)
+  more-plain (c ∷ codes) (suc n) cs a f = step-plain in-text c codes n cs a f (more-plain codes n cs (rest-above c codes a) (tail-of (is_first c) true (firsts_of codes) (replicate n true) f))
+
+  pub plain-written : (bytes : List ℕ) (piece : Piece) (s t : Spot) (line : Line) (cs : List Code) (before after : List ℕ) → (r : IsPlainRun bytes piece s t) → s.index < t.index
+      → after ≡ before ++ text_as raw (slice_range bytes s.index t.index)
+      → after ++ lines_from p raw in-text (codes_left bytes piece (spot_place t) ++ cs) ≡ before ++ lines_from p raw line (codes_left bytes piece (spot_place s) ++ cs)
+  plain-written bytes piece s t line cs before after r l w =
+      let rest : List Code = codes_left bytes piece (spot_place t) ++ cs in
+      ap (λ (x : List ℕ). x ++ lines_from p raw in-text rest) (w ∙ ap (λ (x : List ℕ). before ++ text_as raw x) (sym r.values))
+      ∙ append_assoc before (text_as raw (values_of r.codes)) (lines_from p raw in-text rest)
+      ∙ ap (λ (x : List ℕ). before ++ x) (sym (run r.codes (t.index - s.index) r.above r.firsts (omega (arith, l))))
+      ∙ ap (λ (x : List Code). before ++ lines_from p raw line x) (sym (append_assoc r.codes (codes_left bytes piece (spot_place t)) cs) ∙ ap (λ (x : List Code). x ++ cs) (sym r.left))
+    where
+      run : (codes : List Code) (n : ℕ) → list_all (λ c. nat_lt 13 c.value) codes ≡ true → firsts_of codes ≡ replicate n true → 0 < n
+          → lines_from p raw line (codes ++ (codes_left bytes piece (spot_place t) ++ cs)) ≡ text_as raw (values_of codes) ++ lines_from p raw in-text (codes_left bytes piece (spot_place t) ++ cs)
+      run codes zero a f l = absurd (omega (arith, l))
+      run [] (suc n) a f l = absurd (some-of true (replicate n true) (sym f))
+      run (c ∷ codes) (suc n) a f l = step-plain line c codes n _ a f (more-plain codes n _ (rest-above c codes a) (tail-of (is_first c) true (firsts_of codes) (replicate n true) f))

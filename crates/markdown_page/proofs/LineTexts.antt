@@ -1,10 +1,10 @@
 -- The codes of a line from byte to byte.
-use Rattle.std.proofs.Common.{◌≡◌, ℕ, zero, suc, ◌+◌, ◌-◌, ◌*◌, ◌≤◌, ◌<◌, refl, ap, ◌∙◌, sym, subst, List, [], ◌∷◌, ◌++◌, length, take, drop, get_or, filter, Bool, true, false, ◌&&◌, ◌||◌, not, nat_lt, ◌==◌, if◌then◌else◌, arith, append_assoc, append-nil, drop-cons, add-one}
+use Rattle.std.proofs.Common.{◌≡◌, ℕ, zero, suc, ◌+◌, ◌-◌, ◌≤◌, ◌<◌, refl, ap, ◌∙◌, sym, subst, List, [], ◌∷◌, ◌++◌, length, take, drop, get_or, filter, Bool, true, false, ◌&&◌, ◌||◌, not, nat_lt, ◌==◌, if◌then◌else◌, arith, append_assoc, append-nil, drop-cons, add-one}
 use Rattle.std.specs.Prelude.{slice_range}
 use Rattle.std.proofs.lemmas.Bool.Decides.{nat_tests}
 use Rattle.std.proofs.lemmas.Grind.{flat_map-append}
 use Rattle.markdown_event.specs.declared.event.Point.{Point}
-use Rattle.markdown_content.specs.Codes.{Code, codes_of, place_of, next_column, is_line_ending, is_line_ending_byte, line_ending_len, is_code_before}
+use Rattle.markdown_content.specs.Codes.{Code, codes_of, place_of, next_column, is_line_ending, is_line_ending_byte, line_ending_len}
 use Rattle.markdown_content.specs.Content.{is_in_piece, piece_codes}
 use Rattle.markdown_content.specs.DocumentWalk.{IsPoint, codes_after}
 use Rattle.markdown_content.specs.declared.parser.Piece.{Piece}
@@ -15,14 +15,13 @@ use Rattle.markdown_content.proofs.DocumentPlaces.{next, IsNextPlace, stands-poi
 use Rattle.markdown_model.specs.CodeTests.{values_of}
 use Rattle.markdown_model.specs.Grammar.{span}
 use Rattle.markdown_block_line.proofs.RestValues.{by_bool}
-use Rattle.markdown_block_definitions.specs.TextCopies.{IsSpot, IsRead, point_of, spot_place, is_spot_before}
+use Rattle.markdown_block_definitions.specs.TextCopies.{IsSpot, IsRead, codes_left, point_of, spot_place, is_spot_before}
 use Rattle.markdown_block_definitions.specs.declared.copy.Spot.{Spot}
-use Rattle.markdown_block_definitions.proofs.SpotReads.{spot-small}
-use Rattle.markdown_block_definitions.proofs.TextPushes.{keep, leave, inside, nothing-behind}
+use Rattle.markdown_block_definitions.proofs.TextPushes.{keep, leave, inside, nothing-behind, left-more, still-behind}
 use Rattle.markdown_html_model.specs.Escaped.{escaped, escaped_byte}
 use Rattle.markdown_html_model.specs.Html.{Page, line_ending}
 use Rattle.markdown_page_model.specs.PageTexts.{text_of, is_later_column, ending, own_ending, line_html}
-use Rattle.markdown_page.specs.CodeLines.{text_as, codes_left, before_ending, from_ending, kept, begins_before, BeginsAtByte, IsPastColumns, text_behind}
+use Rattle.markdown_page.specs.CodeLines.{text_as, before_ending, from_ending, kept, begins_before, BeginsAtByte, IsPastColumns, text_behind}
 
 -- Texts.
 
@@ -92,22 +91,8 @@ module _ (c : Code) (cs : List Code) where
 
 -- Codes left of a piece.
 
-module _ (bytes : List ℕ) (piece : Piece) (s t : Spot) (value : ℕ) (r : IsRead bytes s value t) where
-  at-place : (at : ℕ × ℕ) → is_code_before at r.code ≡ is_spot_before s at
-  at-place at = ap (λ (x : ℕ × ℕ). is_before x at) r.starts
-
-  pub left-more : is_spot_before s piece.start ≡ false → is_spot_before s piece.end ≡ true → codes_left bytes piece (spot_place s) ≡ r.code ∷ codes_left bytes piece (spot_place t)
-  left-more e f = ap (filter (is_in_piece piece)) r.codes
-      ∙ keep (is_in_piece piece) r.code (codes_after bytes (spot_place t)) (inside piece r.code (at-place piece.start ∙ e) (at-place piece.end ∙ f))
-
-  pub left-later : is_later_column r.code ≡ nat_lt 0 s.vs
-  left-later = ap (λ (x : ℕ × ℕ). nat_lt 0 x.1) r.starts
-
-  pub still-behind : (at : ℕ × ℕ) → is_spot_before s at ≡ false → is_spot_before t at ≡ false
-  still-behind at e = let k : t.vs ≤ 3 = (spot-small bytes t r.stands).0 in numbers s.index s.vs t.index t.vs at.0 at.1 e k r.later
-    where
-      numbers : (a b c d e f : ℕ) → is_before (a, b) (e, f) ≡ false → d ≤ 3 → 4 * a + b + 1 ≤ 4 * c + d → is_before (c, d) (e, f) ≡ false
-      numbers a b c d e f h k l = grind (arith, nat_tests)
+pub left-later : (bytes : List ℕ) (s t : Spot) (value : ℕ) (r : IsRead bytes s value t) → is_later_column r.code ≡ nat_lt 0 s.vs
+left-later bytes s t value r = ap (λ (x : ℕ × ℕ). nat_lt 0 x.1) r.starts
 
 pub spot-in : (bytes : List ℕ) (s : Spot) → IsSpot bytes s → 0 < s.vs → s.index < length bytes
 spot-in bytes s h l = ((stands-point bytes (point_of s h.line h.column) h.is_point).in_tab l).0
@@ -325,7 +310,7 @@ column-written bytes piece raw s t value h l r on before-end before after e =
     let rest : List Code = codes_left bytes piece (spot_place t) in
     let first : codes_left bytes piece (spot_place s) ≡ r.code ∷ rest = left-more bytes piece s t value r on before-end in
     let space : is_line_ending r.code ≡ false = column-space bytes s t value h l r in
-    let later : is_later_column r.code ≡ true = left-later bytes piece s t value r ∙ is-more s.vs l in
+    let later : is_later_column r.code ≡ true = left-later bytes s t value r ∙ is-more s.vs l in
     let text : text_of (before_ending (codes_left bytes piece (spot_place s))) ≡ value ∷ text_of (before_ending rest) =
     ap (λ (cs : List Code). text_of (before_ending cs)) first ∙ later-text r.code rest space later ∙ ap (λ (n : ℕ). n ∷ text_of (before_ending rest)) r.values in (
       ap (λ (xs : List ℕ). xs ++ text_as raw (text_of (before_ending rest))) e ∙ append_assoc before (text_as raw (value ∷ [])) (text_as raw (text_of (before_ending rest)))
@@ -448,7 +433,7 @@ code-written bytes piece s t value r on before-end leading more before after m e
     let rest : List Code = codes_left bytes piece (spot_place t) in
     ap (λ (xs : List ℕ). xs ++ text_behind more rest) e ∙ append_assoc before (if more || not (nat_lt 0 s.vs) then value ∷ [] else []) (text_behind more rest)
     ∙ ap (λ (xs : List ℕ). before ++ xs) (
-    by-column leading more (nat_lt 0 s.vs) value r.code rest m (left-later bytes piece s t value r) r.values
+    by-column leading more (nat_lt 0 s.vs) value r.code rest m (left-later bytes s t value r) r.values
     ∙ ap (text_behind leading) (sym (left-more bytes piece s t value r on before-end))
     )
   where

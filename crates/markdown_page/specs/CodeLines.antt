@@ -2,12 +2,13 @@
 use Rattle.std.specs.Prelude.{◌≡◌, ℕ, ◌<◌, Bool, false, not, ◌&&◌, ◌||◌, ◌==◌, nat_lt, if◌then◌else◌, List, ◌++◌, filter, length, map}
 use Rattle.markdown_event.specs.declared.event.Point.{Point}
 use Rattle.markdown_content.specs.Codes.{Code, codes_of, is_line_ending, place_of}
-use Rattle.markdown_content.specs.Content.{is_in_piece, piece_codes}
-use Rattle.markdown_content.specs.DocumentWalk.{IsPoint, codes_after}
+use Rattle.markdown_content.specs.Content.{piece_codes}
+use Rattle.markdown_content.specs.DocumentWalk.{IsPoint}
 use Rattle.markdown_content.specs.declared.parser.Piece.{Piece}
 use Rattle.markdown_model.specs.CodeTests.{values_of}
 use Rattle.markdown_model.specs.Grammar.{span}
 use Rattle.markdown_html_model.specs.Escaped.{escaped}
+use Rattle.markdown_block_definitions.specs.TextCopies.{codes_left}
 use Rattle.markdown_page_model.specs.PageTexts.{text_of, is_later_column}
 
 -- a text as it is, or escaped
@@ -17,10 +18,6 @@ text_as raw text = if raw then text else escaped text
 -- the lines that these pieces are
 abbrev pub lines_in : List ℕ → List Piece → List (List Code)
 lines_in bytes pieces = map (piece_codes (codes_of bytes)) pieces
-
--- the codes of a piece from a place on
-abbrev pub codes_left : List ℕ → Piece → ℕ × ℕ → List Code
-codes_left bytes piece at = filter (is_in_piece piece) (codes_after bytes at)
 
 -- a line before its ending, and from it on
 abbrev pub before_ending : List Code → List Code

@@ -1,9 +1,9 @@
 //! HTML (CommonMark 4.6).
 
-ghost use Rattle.std.specs.Prelude.{◌≡◌, ◌<◌, ◌++◌, ◌∷◌, [], ◌||◌, not, nat_lt, List, OnOk, IfOk, length, if◌then◌else◌};
+ghost use Rattle.std.specs.Prelude.{◌≡◌, ◌<◌, ◌≤◌, ◌+◌, ◌*◌, ◌++◌, ◌∷◌, [], ◌||◌, not, nat_lt, List, OnOk, IfOk, length, true, false, if◌then◌else◌};
 ghost use Rattle.markdown_content.specs.Codes.{Code, codes_of};
 ghost use Rattle.markdown_content.specs.Content.{content_of, piece_codes};
-ghost use Rattle.markdown_block_definitions.specs.TextCopies.{IsSpot, IsRead};
+ghost use Rattle.markdown_block_definitions.specs.TextCopies.{IsSpot, IsRead, codes_left, is_spot_before, spot_place};
 ghost use Rattle.markdown_block_definitions.specs.declared.copy.Spot as copy;
 ghost use Rattle.markdown_block_model.specs.LineRests.{lines_of};
 ghost use Rattle.markdown_html_model.specs.Html.{raw_html};
@@ -14,9 +14,11 @@ ghost use Rattle.markdown_page.specs.GivenPage.{bytes_of, page_of};
 ghost use Rattle.markdown_page.specs.LinesByCode.{lines_from};
 
 use crate::given::Given;
-use crate::lines::{first_spot, is_leading, push_as, push_ending_at};
+use crate::lines::{is_leading, push_as, push_ending_at};
 use crate::tags::push_line_start;
-use markdown_block_definitions::copy::{Spot, is_before, is_line_ending, read};
+use markdown_block_definitions::copy::{
+    Spot, first_spot, is_before, is_line_ending, past_plain, read,
+};
 use markdown_content::parser::Piece;
 use std::alloc::AllocError;
 
@@ -32,6 +34,12 @@ struct Line {
 const NO_LINE: Line = Line {
     has_begun: false,
     is_leading: true,
+};
+
+// A line whose last code is a byte above 13.
+const TEXT_LINE: Line = Line {
+    has_begun: true,
+    is_leading: false,
 };
 
 // Appends the value of a code, unless it is a later column of a tab behind another code.
@@ -76,6 +84,39 @@ fn push_code(
     })
 }
 
+// Appends codes that stand at a place of a piece, one at least, and returns the line with them and the place behind them.
+fn push_codes(
+    given: &Given,
+    out: &mut Vec<u8>,
+    bytes: &[u8],
+    line: Line,
+    piece: Piece,
+    spot: Spot,
+) -> Result<(Line, Spot), AllocError>
+    requires same { bytes.now ≡ bytes_of given.now }
+    requires is_spot { IsSpot bytes.now spot }
+    requires begins { spot.index < length bytes.now }
+    requires started { is_spot_before spot piece.start ≡ false }
+    requires before_end { is_spot_before spot piece.end ≡ true }
+    ensures text { let g = given.now in let raw = g.options.raw_html in IfOk result (λ next. (cs : List Code) → out.new.items ++ lines_from (page_of g) raw next.0 (codes_left bytes.now piece (spot_place next.1) ++ cs) ≡ out.old.items ++ lines_from (page_of g) raw line (codes_left bytes.now piece (spot_place spot) ++ cs)) }
+    ensures stands { IfOk result (λ next. IsSpot bytes.now next.1) }
+    ensures started { IfOk result (λ next. is_spot_before next.1 piece.start ≡ false) }
+    ensures later { IfOk result (λ next. 4 * spot.index + spot.vs + 1 ≤ 4 * next.1.index + next.1.vs) }
+{
+    let behind = past_plain(bytes, piece, spot);
+    if behind.index > spot.index {
+        push_as(
+            out,
+            given.options.raw_html,
+            &bytes[spot.index..behind.index],
+        )?;
+        return Ok((TEXT_LINE, behind));
+    }
+    let (value, behind) = read(bytes, spot);
+    let line = push_code(given, out, bytes, line, spot, value)?;
+    Ok((line, behind))
+}
+
 // Appends the codes of a piece, and returns the line behind them.
 fn push_piece(
     given: &Given,
@@ -92,8 +133,8 @@ fn push_piece(
         if !is_before(spot, piece.end) {
             return Ok(line);
         }
-        let (value, behind) = read(bytes, spot);
-        line = push_code(given, out, bytes, line, spot, value)?;
+        let (next, behind) = push_codes(given, out, bytes, line, piece, spot)?;
+        line = next;
         spot = behind;
     }
     Ok(line)

@@ -3,17 +3,19 @@
 ghost use Rattle.std.specs.Prelude.{◌≡◌, ◌≤◌, ◌<◌, ◌+◌, ◌++◌, ◌∷◌, [], ◌&&◌, ◌||◌, not, ℕ, OnOk, IfOk, length, slice_range, slice_index, drop, true, false, nat_lt, if◌then◌else◌};
 ghost use Rattle.markdown_content.specs.Codes.{codes_of, is_line_ending_byte, line_ending_len};
 ghost use Rattle.markdown_content.specs.Content.{piece_codes};
-ghost use Rattle.markdown_block_definitions.specs.TextCopies.{IsSpot, is_spot_before, spot_place};
+ghost use Rattle.markdown_block_definitions.specs.TextCopies.{IsSpot, codes_left, is_spot_before, spot_place};
 ghost use Rattle.markdown_html_model.specs.Html.{line_ending};
 ghost use Rattle.markdown_page_model.specs.PageTexts.{line_html, lines_html, own_ending, text_of};
-ghost use Rattle.markdown_page.specs.CodeLines.{text_as, lines_in, codes_left, begins_before, IsPastColumns};
+ghost use Rattle.markdown_page.specs.CodeLines.{text_as, lines_in, begins_before, IsPastColumns};
 ghost use Rattle.markdown_page.specs.GivenPage.{bytes_of, page_of};
 
 use crate::given::Given;
 use crate::tags::push_ending;
 use markdown_block_definitions::copy::{
-    Spot, is_before, is_line_ending, line_ending_len, line_start, read,
+    Spot, first_spot, is_before, is_line_ending, line_ending_len, read,
 };
+use markdown_content::bytes::{ByteSet, NO_BYTES};
+use markdown_content::cursor::plain_end;
 use markdown_content::parser::Piece;
 use markdown_html_model::escape::{push_escaped, push_escaped_between};
 use markdown_html_model::options::LineEnds;
@@ -27,27 +29,6 @@ pub(crate) fn push_as(out: &mut Vec<u8>, raw: bool, text: &[u8]) -> Result<(), A
         return out.extend_from_slice(text);
     }
     push_escaped(out, text)
-}
-
-// The place of the first code of a piece, or one behind it where it has none.
-pub(crate) fn first_spot(bytes: &[u8], piece: Piece) -> Spot
-    ensures stands { IsSpot bytes.now result }
-    ensures left { piece_codes (codes_of bytes.now) piece ≡ codes_left bytes.now piece (spot_place result) }
-    ensures started { result.index < length bytes.now → is_spot_before result piece.start ≡ false }
-{
-    let mut spot = Spot {
-        index: line_start(bytes, piece.start.0),
-        vs: 0,
-        phase: 0,
-    };
-    while spot.index < bytes.len() {
-        if !is_before(spot, piece.start) {
-            return spot;
-        }
-        let (_, behind) = read(bytes, spot);
-        spot = behind;
-    }
-    spot
 }
 
 // Appends the codes of a piece that are columns of a tab at a place, and returns the index of the byte behind them.
@@ -95,9 +76,11 @@ fn text_end(bytes: &[u8], from: usize, stop: usize) -> usize
     ensures plain { (i : ℕ) → from ≤ i → i < result → is_line_ending_byte (slice_index bytes.now i) ≡ false }
     ensures ending { result < stop → is_line_ending_byte (slice_index bytes.now result) ≡ true }
 {
+    let set = ByteSet::new(&NO_BYTES);
     let mut to = from;
     while to < stop {
-        if is_line_ending(bytes[to]) {
+        to = plain_end(bytes, to, stop, &set);
+        if to == stop || is_line_ending(bytes[to]) {
             return to;
         }
         to += 1;

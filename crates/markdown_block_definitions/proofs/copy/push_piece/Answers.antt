@@ -4,15 +4,13 @@ use Rattle.markdown_block_definitions.proofs.TextPushes.{pushed-start, pushed-be
 use Rattle.markdown_block_definitions.proofs.copy.push_piece.Goals as goal
 
 pub loop-spot-init : goal.loop-spot-init
-loop-spot-init c = record { pushed = pushed-start c.args.bytes.now c.args.piece _ _ c.line_start.result c.line_start.ensures.before c.line_start.ensures.spot }
+loop-spot-init c = record { pushed = pushed-start c.args.bytes.now c.args.piece _ _ _ c.first_spot-spot.ensures.stands c.first_spot-spot.ensures.left c.first_spot-spot.ensures.started }
 
 pub loop-spot-preserved : goal.loop-spot-preserved
-loop-spot-preserved c = record {
-  pushed = pushed-more c.args.bytes.now c.args.piece _ _ _ _ c.loop-spot.spot c.loop-spot.invariant.pushed c.read-value.result.0 c.read-value.result.1 _ _ (sym c.is_before.ensures ∙ c.if-not-is_before.false) c.read-value.ensures c.in_ok-put.ensures;
-}
+loop-spot-preserved c = record { pushed = pushed-more c.args.bytes.now c.args.piece _ _ _ _ c.loop-spot.spot c.loop-spot.invariant.pushed _ _ _ c.in_ok-spot.ensures }
 
 pub loop-spot-smaller : goal.loop-spot-smaller
-loop-spot-smaller c = omega (arith, c.read-value.ensures.later, c.loop-spot-test.true, (spot-small c.args.bytes.now c.loop-spot.spot c.loop-spot.invariant.pushed.stands).0)
+loop-spot-smaller c = omega (arith, c.in_ok-spot.ensures.later, c.loop-spot-test.true, (spot-small c.args.bytes.now c.loop-spot.spot c.loop-spot.invariant.pushed.stands).0)
 
 pub returns-then-not-is_before : goal.returns-then-not-is_before
 returns-then-not-is_before c = pushed-behind c.args.bytes.now c.args.piece _ _ _ _ c.loop-spot.spot c.loop-spot.invariant.pushed (sym c.is_before.ensures ∙ c.if-not-is_before.true)

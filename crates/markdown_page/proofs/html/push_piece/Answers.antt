@@ -1,13 +1,10 @@
 use Rattle.std.proofs.Common.{◌≡◌, ◌∙◌, ◌++◌, sym, ap, arith, List, ℕ}
 use Rattle.markdown_content.specs.Codes.{Code, codes_of}
 use Rattle.markdown_content.specs.Content.{piece_codes}
-use Rattle.markdown_block_definitions.specs.TextCopies.{spot_place}
 use Rattle.markdown_block_definitions.proofs.SpotReads.{spot-small}
 use Rattle.markdown_block_definitions.proofs.TextPushes.{nothing-behind, nothing-left}
-use Rattle.markdown_page.specs.CodeLines.{codes_left}
 use Rattle.markdown_page.specs.GivenPage.{page_of, bytes_of}
 use Rattle.markdown_page.specs.LinesByCode.{lines_from}
-use Rattle.markdown_page.proofs.LineTexts.{still-behind, left-more}
 use Rattle.markdown_page.proofs.html.push_piece.Goals as goal
 
 pub loop-spot-init : goal.loop-spot-init
@@ -28,22 +25,14 @@ returns-then-not-is_before c = λ cs.
     ∙ c.loop-spot.invariant.text cs
 
 pub loop-spot-smaller : goal.loop-spot-smaller
-loop-spot-smaller c = omega (arith, c.read-value.ensures.later, c.loop-spot-test.true, (spot-small _ c.loop-spot.spot c.loop-spot.invariant.stands).0)
+loop-spot-smaller c = omega (arith, c.in_ok-next.ensures.later, c.loop-spot-test.true, (spot-small _ c.loop-spot.spot c.loop-spot.invariant.stands).0)
 
 pub loop-spot-preserved : goal.loop-spot-preserved
-loop-spot-preserved c =
-    let l = c.loop-spot in
-    let bytes = c.parse_state.result.now.bytes.now in
-    let r = c.read-value.ensures in
-    let on = l.invariant.started c.loop-spot-test.true in
-    record {
-      stands = r.stands;
-      started = λ k. still-behind bytes c.args.piece l.spot c.read-value.result.1 c.read-value.result.0 r c.args.piece.start on;
-      text = λ cs. c.in_ok-line.ensures c.read-value.result.1 r (codes_left bytes c.args.piece (spot_place c.read-value.result.1) ++ cs)
-          ∙ ap (λ (xs : List Code). l.out.items ++ lines_from (page_of c.args.given.now) c.args.given.now.options.raw_html l.line (xs ++ cs))
-          (sym (left-more bytes c.args.piece l.spot c.read-value.result.1 c.read-value.result.0 r on (sym c.is_before.ensures ∙ c.if-not-is_before.false)))
-          ∙ l.invariant.text cs;
-    }
+loop-spot-preserved c = record {
+  stands = c.in_ok-next.ensures.stands;
+  started = λ k. c.in_ok-next.ensures.started;
+  text = λ cs. c.in_ok-next.ensures.text cs ∙ c.loop-spot.invariant.text cs;
+}
 
 pub returns : goal.returns
 returns c = λ cs.

@@ -1,8 +1,7 @@
 use Rattle.std.proofs.Common.{◌≡◌, ◌<◌, ◌+◌, ◌-◌, ◌*◌, ◌++◌, List, length, false}
 use Rattle.markdown_content.specs.Codes.{Code, codes_of}
 use Rattle.markdown_content.specs.Content.{piece_codes}
-use Rattle.markdown_block_definitions.specs.TextCopies.{IsSpot, is_spot_before, spot_place}
-use Rattle.markdown_page.specs.CodeLines.{codes_left}
+use Rattle.markdown_block_definitions.specs.TextCopies.{IsSpot, is_spot_before, spot_place, codes_left}
 use Rattle.markdown_page.specs.GivenPage.{page_of, bytes_of}
 use Rattle.markdown_page.specs.LinesByCode.{lines_from}
 use Rattle.markdown_page.proofs.html.push_piece.Given as goal

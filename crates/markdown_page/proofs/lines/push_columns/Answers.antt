@@ -1,6 +1,7 @@
 use Rattle.std.proofs.Common.{◌∙◌, sym, arith}
 use Rattle.markdown_block_definitions.proofs.SpotReads.{spot-small}
-use Rattle.markdown_page.proofs.LineTexts.{spot-in, still-behind, column-written, column-passed, columns-done}
+use Rattle.markdown_block_definitions.proofs.TextPushes.{still-behind}
+use Rattle.markdown_page.proofs.LineTexts.{spot-in, column-written, column-passed, columns-done}
 use Rattle.markdown_page.proofs.lines.push_columns.Goals as goal
 
 pub read-value-requires-clause-begins : goal.read-value-requires-clause-begins

@@ -1,7 +1,7 @@
 use Rattle.std.proofs.Common.{◌≡◌, ◌<◌, ◌+◌, ◌-◌, ◌*◌, ◌++◌, length, false}
-use Rattle.markdown_block_definitions.specs.TextCopies.{IsSpot, is_spot_before, spot_place}
+use Rattle.markdown_block_definitions.specs.TextCopies.{IsSpot, is_spot_before, spot_place, codes_left}
 use Rattle.markdown_page_model.specs.PageTexts.{text_of}
-use Rattle.markdown_page.specs.CodeLines.{text_as, codes_left, before_ending, from_ending}
+use Rattle.markdown_page.specs.CodeLines.{text_as, before_ending, from_ending}
 use Rattle.markdown_page.proofs.lines.push_columns.Given as goal
 
 abbrev pub invariant-loop-spot : goal.invariant-loop-spot

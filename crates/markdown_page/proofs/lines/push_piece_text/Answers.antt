@@ -1,8 +1,8 @@
 use Rattle.std.proofs.Common.{◌∙◌, ◌++◌, sym, ap, arith}
 use Rattle.markdown_block_definitions.proofs.SpotReads.{spot-small}
-use Rattle.markdown_block_definitions.proofs.TextPushes.{nothing-behind, nothing-left}
+use Rattle.markdown_block_definitions.proofs.TextPushes.{nothing-behind, nothing-left, still-behind}
 use Rattle.markdown_page_model.specs.PageTexts.{text_of}
-use Rattle.markdown_page.proofs.LineTexts.{still-behind, code-written, text-over}
+use Rattle.markdown_page.proofs.LineTexts.{code-written, text-over}
 use Rattle.markdown_page.proofs.lines.push_piece_text.Goals as goal
 
 pub loop-spot-init : goal.loop-spot-init

@@ -1,9 +1,9 @@
 use Rattle.std.proofs.Common.{◌≡◌, ◌<◌, ◌+◌, ◌-◌, ◌*◌, ◌++◌, length, false}
 use Rattle.markdown_content.specs.Codes.{codes_of}
 use Rattle.markdown_content.specs.Content.{piece_codes}
-use Rattle.markdown_block_definitions.specs.TextCopies.{IsSpot, is_spot_before, spot_place}
+use Rattle.markdown_block_definitions.specs.TextCopies.{IsSpot, is_spot_before, spot_place, codes_left}
 use Rattle.markdown_page_model.specs.PageTexts.{text_of}
-use Rattle.markdown_page.specs.CodeLines.{codes_left, text_behind}
+use Rattle.markdown_page.specs.CodeLines.{text_behind}
 use Rattle.markdown_page.proofs.lines.push_piece_text.Given as goal
 
 abbrev pub invariant-loop-spot : goal.invariant-loop-spot
