@@ -420,6 +420,8 @@ typedef struct markdown_inline_outcome {
  *   piece of HTML without bytes is no line.
  * - `depth` is how many quotes and items stand round it.
  * - `number` is the level of a heading, 1 to 6; the number of an item of an ordered list; the kind of HTML, 1 to 7 (CommonMark 4.6); else 0.
+ * - `line` is the number of the line on which it begins, from 1: of a text that has definitions at its front, the line of the first of these; of fenced code
+ *   that of its fence. It is never lower than that of the block before.
  * - `marker` is the byte of an item's marker, which is '-', '+' or '*', or '.' or ')' behind a number; of fenced code that of its fence, '`' or '~'; else 0.
  * - `list` has the bits MARKDOWN_INLINE_BEGINS_LIST, MARKDOWN_INLINE_ENDS_LIST and MARKDOWN_INLINE_LOOSE_LIST, of an item; else it is 0.
  *
@@ -427,7 +429,7 @@ typedef struct markdown_inline_outcome {
  * so many spaces. Tabs end at each fourth column of a line of the document. */
 typedef struct markdown_inline_block {
     markdown_inline_range pieces;
-    size_t depth, number;
+    size_t depth, number, line;
     uint8_t kind, marker, list, reserved;
     uint32_t reserved_too;
 } markdown_inline_block;
@@ -446,7 +448,7 @@ typedef struct markdown_inline_definitions_count {
 typedef char markdown_inline_checks_sizes[sizeof(size_t) == 8 && sizeof(void *) == 8 && sizeof(markdown_inline_piece) == 32
     && sizeof(markdown_inline_range) == 16 && sizeof(markdown_inline_input) == 88 && sizeof(markdown_inline_event) == 56 && sizeof(markdown_inline_leaf) == 96
     && sizeof(markdown_inline_target) == 40 && sizeof(markdown_inline_content) == 24 && sizeof(markdown_inline_short_event) == 16 && sizeof(markdown_inline_outcome) == 24
-    && sizeof(markdown_inline_block) == 40 && sizeof(markdown_inline_blocks_count) == 16 && sizeof(markdown_inline_definitions_count) == 16
+    && sizeof(markdown_inline_block) == 48 && sizeof(markdown_inline_blocks_count) == 16 && sizeof(markdown_inline_definitions_count) == 16
     && offsetof(markdown_inline_input, options) == 80 && offsetof(markdown_inline_event, line) == 8 ? 1 : -1];
 
 /* The version of the library. */

@@ -611,14 +611,14 @@ static void test_document_limit(void) {
 /* A document has blocks with the pieces of their texts, which are handed out where both have room: an example with a block of each kind. */
 static void test_blocks(void) {
     static const char text[] = "# a\n\n> b\nc\n- d\n\n  e\n7) f\n---\n\n    g\n\n~~~ h\ni\n~~~\n<!-- j\n-->\nk\n=\n[l]: m";
-    static const markdown_inline_block blocks[] = {{{0, 1}, 0, 1, MARKDOWN_INLINE_BLOCK_HEADING, 0, 0, 0, 0}, {{1, 1}, 0, 0, MARKDOWN_INLINE_BLOCK_BLANK_LINE, 0, 0, 0, 0},
-        {{1, 1}, 0, 0, MARKDOWN_INLINE_BLOCK_QUOTE, 0, 0, 0, 0}, {{1, 3}, 1, 0, MARKDOWN_INLINE_BLOCK_PARAGRAPH, 0, 0, 0, 0},
-        {{3, 3}, 0, 0, MARKDOWN_INLINE_BLOCK_ITEM, '-', MARKDOWN_INLINE_BEGINS_LIST | MARKDOWN_INLINE_ENDS_LIST | MARKDOWN_INLINE_LOOSE_LIST, 0, 0},
-        {{3, 4}, 1, 0, MARKDOWN_INLINE_BLOCK_PARAGRAPH, 0, 0, 0, 0}, {{4, 4}, 1, 0, MARKDOWN_INLINE_BLOCK_BLANK_LINE, 0, 0, 0, 0}, {{4, 5}, 1, 0, MARKDOWN_INLINE_BLOCK_PARAGRAPH, 0, 0, 0, 0},
-        {{5, 5}, 0, 7, MARKDOWN_INLINE_BLOCK_ITEM, ')', MARKDOWN_INLINE_BEGINS_LIST | MARKDOWN_INLINE_ENDS_LIST, 0, 0}, {{5, 6}, 1, 0, MARKDOWN_INLINE_BLOCK_PARAGRAPH, 0, 0, 0, 0},
-        {{6, 6}, 0, 0, MARKDOWN_INLINE_BLOCK_THEMATIC_BREAK, 0, 0, 0, 0}, {{6, 6}, 0, 0, MARKDOWN_INLINE_BLOCK_BLANK_LINE, 0, 0, 0, 0},
-        {{6, 8}, 0, 0, MARKDOWN_INLINE_BLOCK_INDENTED_CODE, 0, 0, 0, 0}, {{8, 10}, 0, 0, MARKDOWN_INLINE_BLOCK_FENCED_CODE, '~', 0, 0, 0},
-        {{10, 12}, 0, 2, MARKDOWN_INLINE_BLOCK_HTML, 0, 0, 0, 0}, {{12, 13}, 0, 1, MARKDOWN_INLINE_BLOCK_HEADING, 0, 0, 0, 0}, {{13, 13}, 0, 0, MARKDOWN_INLINE_BLOCK_PARAGRAPH, 0, 0, 0, 0}};
+    static const markdown_inline_block blocks[] = {{{0, 1}, 0, 1, 1, MARKDOWN_INLINE_BLOCK_HEADING, 0, 0, 0, 0}, {{1, 1}, 0, 0, 2, MARKDOWN_INLINE_BLOCK_BLANK_LINE, 0, 0, 0, 0},
+        {{1, 1}, 0, 0, 3, MARKDOWN_INLINE_BLOCK_QUOTE, 0, 0, 0, 0}, {{1, 3}, 1, 0, 3, MARKDOWN_INLINE_BLOCK_PARAGRAPH, 0, 0, 0, 0},
+        {{3, 3}, 0, 0, 5, MARKDOWN_INLINE_BLOCK_ITEM, '-', MARKDOWN_INLINE_BEGINS_LIST | MARKDOWN_INLINE_ENDS_LIST | MARKDOWN_INLINE_LOOSE_LIST, 0, 0},
+        {{3, 4}, 1, 0, 5, MARKDOWN_INLINE_BLOCK_PARAGRAPH, 0, 0, 0, 0}, {{4, 4}, 1, 0, 6, MARKDOWN_INLINE_BLOCK_BLANK_LINE, 0, 0, 0, 0}, {{4, 5}, 1, 0, 7, MARKDOWN_INLINE_BLOCK_PARAGRAPH, 0, 0, 0, 0},
+        {{5, 5}, 0, 7, 8, MARKDOWN_INLINE_BLOCK_ITEM, ')', MARKDOWN_INLINE_BEGINS_LIST | MARKDOWN_INLINE_ENDS_LIST, 0, 0}, {{5, 6}, 1, 0, 8, MARKDOWN_INLINE_BLOCK_PARAGRAPH, 0, 0, 0, 0},
+        {{6, 6}, 0, 0, 9, MARKDOWN_INLINE_BLOCK_THEMATIC_BREAK, 0, 0, 0, 0}, {{6, 6}, 0, 0, 10, MARKDOWN_INLINE_BLOCK_BLANK_LINE, 0, 0, 0, 0},
+        {{6, 8}, 0, 0, 11, MARKDOWN_INLINE_BLOCK_INDENTED_CODE, 0, 0, 0, 0}, {{8, 10}, 0, 0, 13, MARKDOWN_INLINE_BLOCK_FENCED_CODE, '~', 0, 0, 0},
+        {{10, 12}, 0, 2, 16, MARKDOWN_INLINE_BLOCK_HTML, 0, 0, 0, 0}, {{12, 13}, 0, 1, 18, MARKDOWN_INLINE_BLOCK_HEADING, 0, 0, 0, 0}, {{13, 13}, 0, 0, 20, MARKDOWN_INLINE_BLOCK_PARAGRAPH, 0, 0, 0, 0}};
     static const markdown_inline_piece pieces[] = {{2, 0, 3, 0}, {7, 0, 9, 0}, {9, 0, 10, 0}, {13, 0, 14, 0}, {18, 0, 19, 0}, {23, 0, 24, 0}, {34, 0, 36, 0}, {36, 0, 37, 0}, {41, 0, 42, 0},
         {43, 0, 45, 0}, {49, 0, 56, 0}, {56, 0, 60, 0}, {60, 0, 61, 0}};
     enum { MANY = sizeof blocks / sizeof *blocks, MANY_PIECES = sizeof pieces / sizeof *pieces };

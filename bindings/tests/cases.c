@@ -204,7 +204,7 @@ static size_t contents_of(const markdown_inline_block *blocks, size_t many, mark
 
 /* Prints a block: its numbers, its pieces, and the HTML of its text if it has one. */
 static void print_block(const markdown_inline_block *it, const markdown_inline_piece *pieces, const uint8_t *html, const size_t *ends, size_t *number) {
-    printf(" |%u:%zu:%zu:%u:%u", it->kind, it->depth, it->number, it->marker, it->list);
+    printf(" |%u:%zu:%zu:%zu:%u:%u", it->kind, it->depth, it->number, it->line, it->marker, it->list);
     for (size_t at = it->pieces.start; at < it->pieces.end; at++) printf(" %zu.%zu-%zu.%zu", pieces[at].start, pieces[at].start_vs, pieces[at].end, pieces[at].end_vs);
     if (it->kind != MARKDOWN_INLINE_BLOCK_PARAGRAPH && it->kind != MARKDOWN_INLINE_BLOCK_HEADING) return;
     size_t start = *number > 0 ? ends[*number - 1] : 0, end = ends[(*number)++];

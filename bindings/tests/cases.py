@@ -92,7 +92,7 @@ def shown_block(block):
     flags = block.begins_list | block.ends_list << 1 | block.is_loose << 2
     pieces = ''.join(' %d.%d-%d.%d' % (it.start, it.start_vs, it.end, it.end_vs) for it in block.pieces)
     words = '' if block.content is None else ' =' + block.html.encode().hex()
-    return ' |%d:%d:%d:%d:%d' % (block.kind, block.depth, block.number, ord(block.marker or '\0'), flags) + pieces + words
+    return ' |%d:%d:%d:%d:%d:%d' % (block.kind, block.depth, block.number, block.line, ord(block.marker or '\0'), flags) + pieces + words
 
 
 def all_blocks(found):

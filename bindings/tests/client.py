@@ -26,7 +26,7 @@ def many(document: bytes) -> int:
     return found[0][0].index + sum(number for content in found.flat() for event in content for number in event) + (definition or 0)
 
 
-def headings(document: str) -> List[Tuple[int, Optional[int], str]]:
+def headings(document: str) -> List[Tuple[int, int, str]]:
     found: Blocks = blocks(document, gfm=True, columns='utf-16', reference_limit=0)
     defined: List[Definition] = found.definitions
     places: List[int] = [event.line for block in found for event in block.events] + [it.line for it in found.links]

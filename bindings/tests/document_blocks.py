@@ -36,13 +36,13 @@ m
 '''
 # Of each block its kind, depth and number, its marker, whether it begins and ends its list, whether that is loose, its line, and its lines.
 ROWS = [
-    ('Heading', 0, 1, None, False, False, False, 1, ['é *a*']), ('BlankLine', 0, 0, None, False, False, False, None, []),
-    ('Quote', 0, 0, None, False, False, False, None, []), ('Item', 1, 3, ')', True, False, True, None, []),
-    ('Paragraph', 2, 0, None, False, False, False, 3, ['[b][B] ![c](/d)\n', '`e`']), ('BlankLine', 2, 0, None, False, False, False, None, []),
-    ('Item', 1, 4, ')', False, True, True, None, []), ('FencedCode', 2, 0, '~', False, False, False, 6, ['\th\n']),
-    ('BlankLine', 0, 0, None, False, False, False, None, []), ('ThematicBreak', 0, 0, None, False, False, False, None, []),
-    ('Item', 0, 0, '-', True, False, False, None, []), ('Paragraph', 1, 0, None, False, False, False, 11, ['i']),
-    ('Item', 0, 0, '-', False, True, False, None, []), ('Paragraph', 1, 0, None, False, False, False, 12, ['[x] <jj:k>']),
+    ('Heading', 0, 1, None, False, False, False, 1, ['é *a*']), ('BlankLine', 0, 0, None, False, False, False, 2, []),
+    ('Quote', 0, 0, None, False, False, False, 3, []), ('Item', 1, 3, ')', True, False, True, 3, []),
+    ('Paragraph', 2, 0, None, False, False, False, 3, ['[b][B] ![c](/d)\n', '`e`']), ('BlankLine', 2, 0, None, False, False, False, 5, []),
+    ('Item', 1, 4, ')', False, True, True, 6, []), ('FencedCode', 2, 0, '~', False, False, False, 6, ['\th\n']),
+    ('BlankLine', 0, 0, None, False, False, False, 9, []), ('ThematicBreak', 0, 0, None, False, False, False, 10, []),
+    ('Item', 0, 0, '-', True, False, False, 11, []), ('Paragraph', 1, 0, None, False, False, False, 11, ['i']),
+    ('Item', 0, 0, '-', False, True, False, 12, []), ('Paragraph', 1, 0, None, False, False, False, 12, ['[x] <jj:k>']),
     ('Html', 0, 2, None, False, False, False, 13, ['<!-- l\n', '\n', 'm\n', '=\n', '[b]: </n> "o"\n']),
 ]
 # What drawn documents are made of.
@@ -137,6 +137,7 @@ class Blocks(unittest.TestCase):
             self.assertEqual(found, ROWS)
         self.assertEqual([it.info for it in blocks(DOCUMENT) if it.kind == BlockKind.FencedCode], ['f&g'])
         self.assertEqual(blocks('# é *a*')[0].pieces, [Piece(2, 8)])
+        self.assertEqual([(it.line, it.lines) for it in blocks('\r[a]: b\r\nc\n=')], [(1, []), (2, ['c'])])
 
     def test_kinds(self):
         self.assertEqual([''.join(map(str.capitalize, it.split('_'))) for it in _tables.BLOCKS], [str(it) for it in BlockKind])
@@ -209,7 +210,7 @@ class Blocks(unittest.TestCase):
         with mock.patch.object(_library, 'LIBRARY', Counted()):
             for block in found:
                 for _ in block.events:
-                    self.assertIsNotNone(block.line)
+                    self.assertGreater(block.line, 0)
             self.assertEqual(calls, ['markdown_inline_definitions', 'markdown_inline_texts'])
             self.assertEqual(sum(len(block.html) + len(block.links) for block in found), sum(map(len, found.htmls)) + 50)
             self.assertEqual(calls[2:], ['markdown_inline_htmls', 'markdown_inline_short_texts', 'markdown_inline_strings'])
@@ -220,7 +221,7 @@ class Blocks(unittest.TestCase):
         self.assertEqual((found[4] in found, found.index(found[4]), len({*found, *found})), (True, 4, len(ROWS)))
         self.assertNotEqual(found[0], found[1])
         self.assertNotEqual(found[0], blocks(DOCUMENT)[0])
-        self.assertEqual(repr(found[:2]), '[Block(Heading, depth=0, number=1, line=1), Block(BlankLine, depth=0, number=0, line=None)]')
+        self.assertEqual(repr(found[:2]), '[Block(Heading, depth=0, number=1, line=1), Block(BlankLine, depth=0, number=0, line=2)]')
         for at in (len(ROWS), -len(ROWS) - 1):
             self.assertRaises(IndexError, lambda: found[at])
         self.assertRaises(AttributeError, lambda: setattr(found[0], 'other', 1))
@@ -268,7 +269,7 @@ class Blocks(unittest.TestCase):
         def seconds(count):
             begun, found = time.process_time(), blocks('é [a](b)\n\n-\t\tc\n\n' * count)
             self.assertEqual(sum(len(block.links) + len(block.lines) for block in found), 4 * count)
-            self.assertEqual(max(block.line or 0 for block in found), 4 * count - 1)
+            self.assertEqual(max(block.line for block in found), 4 * count - 1)
             return time.process_time() - begun
 
         self.assertLess(min(seconds(8000) for _ in range(3)), 24 * min(seconds(1000) for _ in range(5)))

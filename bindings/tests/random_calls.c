@@ -1194,9 +1194,16 @@ static uint32_t called_blocks(size_t room, size_t room_of_pieces, markdown_inlin
     return status;
 }
 
-/* Blocks stand one deeper behind what holds them, their pieces follow one another, and texts are texts. */
+/* How many lines end from a byte to another. */
+static size_t ends_from(size_t byte, size_t end) {
+    size_t ends = 0;
+    for (; byte < end; byte++) ends += input->bytes[byte] == '\n' || (input->bytes[byte] == '\r' && !(byte + 1 < input->bytes_len && input->bytes[byte + 1] == '\n'));
+    return ends;
+}
+
+/* Blocks stand one deeper behind what holds them, begin on a line and not before the block before them, their pieces follow one another, and texts are texts. */
 static void look_at_blocks(markdown_inline_blocks_count all) {
-    size_t deepest = 0, pieces = 0;
+    size_t deepest = 0, pieces = 0, line = 1, byte = 0, line_of_byte = 1;
     for (size_t at = 0; at < all.blocks; at++) {
         const markdown_inline_block *it = &found_blocks[at];
         int is_heading = it->kind == MARKDOWN_INLINE_BLOCK_HEADING, is_item = it->kind == MARKDOWN_INLINE_BLOCK_ITEM, is_code = it->kind == MARKDOWN_INLINE_BLOCK_FENCED_CODE;
@@ -1209,12 +1216,20 @@ static void look_at_blocks(markdown_inline_blocks_count all) {
         want("the marker of a block", is_item ? strchr("-+*.)", it->marker) != NULL : is_code ? it->marker == '`' || it->marker == '~' : it->marker == 0);
         want("an item stands in a list", is_item ? it->list < 8 : it->list == 0);
         want("code has an info string", !is_code || it->pieces.end > it->pieces.start);
+        want("the line of a block", at == 0 ? it->line == 1 : it->line >= line);
         if (faults > 0) return;
         want("a text of a document", !is_text || markdown_inline_is_text(input->bytes, input->bytes_len, found_pieces + pieces, it->pieces.end - pieces) == MARKDOWN_INLINE_DONE);
+        if (it->pieces.end > pieces) {
+            line_of_byte += ends_from(byte, found_pieces[pieces].start);
+            byte = found_pieces[pieces].start;
+            want("a text begins on its line, or behind it where definitions begin it", is_text ? line_of_byte >= it->line : line_of_byte == it->line);
+        }
+        line = it->line;
         deepest = it->depth + (it->kind >= MARKDOWN_INLINE_BLOCK_QUOTE);
         pieces = it->pieces.end;
     }
     want("each piece is of a block", pieces == all.pieces);
+    want("no block begins behind the last line", all.blocks == 0 || line <= 1 + ends_from(0, input->bytes_len));
 }
 
 /* The blocks of a case, with any room. */

@@ -2,7 +2,7 @@
 import { countUpTo, lineStarts } from './links.js';
 import { Events, ShortEvents } from './rows.js';
 
-export const BLOCK = 40;
+export const BLOCK = 48;
 export const PIECE = 32;
 /** What a block is, by the numbers of markdown_inline.h. */
 const KINDS = ['BlankLine', 'ThematicBreak', 'Heading', 'Paragraph', 'IndentedCode', 'FencedCode', 'Html', 'Quote', 'Item'];
@@ -18,13 +18,14 @@ class Block {
   #after;
 
   constructor(blocks, words, at, content) {
-    const what = words[at + 8], kind = what & 255, marker = what >> 8 & 255, list = what >> 16 & 255;
+    const what = words[at + 10], kind = what & 255, marker = what >> 8 & 255, list = what >> 16 & 255;
     this.#blocks = blocks;
     this.#first = words[at];
     this.#after = words[at + 2];
     this.kind = KINDS[kind];
     this.depth = words[at + 4];
     this.number = words[at + 6];
+    this.line = words[at + 8];
     this.marker = marker === 0 ? null : String.fromCharCode(marker);
     this.beginsList = (list & BEGINS_LIST) !== 0;
     this.endsList = (list & ENDS_LIST) !== 0;
@@ -33,8 +34,6 @@ class Block {
   }
 
   get pieces() { return Array.from({ length: this.#after - this.#first }, (_, at) => this.#blocks.piece(this.#first + at)); }
-
-  get line() { return this.#first < this.#after ? this.#blocks.lineOf(this.#blocks.piece(this.#first)[0]) : null; }
 
   get lines() {
     const first = this.#first + Number(this.kind === KINDS[FENCED_CODE]);
@@ -60,7 +59,7 @@ function contentsIn(words) {
   const rows = [], numbers = [];
   let firstIn = -1;
   for (let at = 0; at < words.length; at += BLOCK / 4) {
-    const kind = words[at + 8] & 255, depth = words[at + 4], isParagraph = kind === PARAGRAPH;
+    const kind = words[at + 10] & 255, depth = words[at + 4], isParagraph = kind === PARAGRAPH;
     if (kind === ITEM) {
       firstIn = depth + 1;
       continue;

@@ -196,8 +196,8 @@ export interface Block {
   readonly content: number | null;
   /** The pieces of a heading's or a paragraph's text; of code and HTML its lines, one piece each. Of fenced code the first piece is the info string. */
   readonly pieces: [start: number, end: number, startVs: number, endVs: number][];
-  /** The line on which its first piece begins, from 1; null where it has no pieces. Fenced code begins with its fence. */
-  readonly line: number | null;
+  /** The line on which it begins, from 1. Fenced code begins with its fence, and a text with the definitions at its front. */
+  readonly line: number;
   /** The lines of a text, of code or of HTML, each with its line ending, if it has one. Of a tab that a container cuts, the columns that are left are spaces. The
    * blank lines behind indented code are among them, which HTML leaves out. */
   readonly lines: string[];

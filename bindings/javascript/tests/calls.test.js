@@ -230,11 +230,11 @@ const DOCUMENT = '# é *a*\n\n> 3) [b][B] ![c](/d)\n>    `e`\n>\n> 4) ~~~ f&amp;
 
 test('blocks are told', () => {
   const rows = [
-    ['Heading', 0, 1, null, false, false, false, 1, ['é *a*']], ['BlankLine', 0, 0, null, false, false, false, null, []], ['Quote', 0, 0, null, false, false, false, null, []],
-    ['Item', 1, 3, ')', true, false, true, null, []], ['Paragraph', 2, 0, null, false, false, false, 3, ['[b][B] ![c](/d)\n', '`e`']], ['BlankLine', 2, 0, null, false, false, false, null, []],
-    ['Item', 1, 4, ')', false, true, true, null, []], ['FencedCode', 2, 0, '~', false, false, false, 6, ['\th\n']], ['BlankLine', 0, 0, null, false, false, false, null, []],
-    ['ThematicBreak', 0, 0, null, false, false, false, null, []], ['Item', 0, 0, '-', true, false, false, null, []], ['Paragraph', 1, 0, null, false, false, false, 11, ['😀i']],
-    ['Item', 0, 0, '-', false, true, false, null, []], ['Paragraph', 1, 0, null, false, false, false, 12, ['[x] <jj:k>']],
+    ['Heading', 0, 1, null, false, false, false, 1, ['é *a*']], ['BlankLine', 0, 0, null, false, false, false, 2, []], ['Quote', 0, 0, null, false, false, false, 3, []],
+    ['Item', 1, 3, ')', true, false, true, 3, []], ['Paragraph', 2, 0, null, false, false, false, 3, ['[b][B] ![c](/d)\n', '`e`']], ['BlankLine', 2, 0, null, false, false, false, 5, []],
+    ['Item', 1, 4, ')', false, true, true, 6, []], ['FencedCode', 2, 0, '~', false, false, false, 6, ['\th\n']], ['BlankLine', 0, 0, null, false, false, false, 9, []],
+    ['ThematicBreak', 0, 0, null, false, false, false, 10, []], ['Item', 0, 0, '-', true, false, false, 11, []], ['Paragraph', 1, 0, null, false, false, false, 11, ['😀i']],
+    ['Item', 0, 0, '-', false, true, false, 12, []], ['Paragraph', 1, 0, null, false, false, false, 12, ['[x] <jj:k>']],
     ['Html', 0, 2, null, false, false, false, 13, ['<!-- l\n', '\n', 'm\n', '=\n', '[b]: </n> "o"\n']],
   ];
   for (const given of [DOCUMENT, bytesOf(DOCUMENT)]) {

@@ -70,7 +70,7 @@ function shownBlock(block, places) {
   const bytes = places ? new Map(Array.from(places.units, ([byte, unit]) => [unit, byte])) : null, byteOf = (at) => bytes ? bytes.get(at) : at;
   const flags = Number(block.beginsList) | Number(block.endsList) << 1 | Number(block.isLoose) << 2;
   const pieces = block.pieces.map(([start, end, startVs, endVs]) => ` ${byteOf(start)}.${startVs}-${byteOf(end)}.${endVs}`).join('');
-  const head = [KINDS.indexOf(block.kind), block.depth, block.number, block.marker === null ? 0 : block.marker.charCodeAt(0), flags].join(':');
+  const head = [KINDS.indexOf(block.kind), block.depth, block.number, block.line, block.marker === null ? 0 : block.marker.charCodeAt(0), flags].join(':');
   return ` |${head}${pieces}${block.content === null ? '' : ' =' + hex(block.html)}`;
 }
 

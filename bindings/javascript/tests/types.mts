@@ -23,7 +23,7 @@ const eight: number | undefined = piecesOf([{ type: 'inline', tag: '', markup: '
 const nine: string[] = htmls('> a', piecesOfLines('> a', [[1]]).map((pieces) => ({ pieces })));
 const ten: string = documentHtml('# a', { rawHtml: true }) + documentHtml(new Uint8Array());
 for (const block of blocks('# [a]\n\n[a]: b', { gfm: true, rawHtml: true, footnotes: ['c'], referenceLimit: 9 })) {
-  const kind: BlockKind = block.kind, line: number | null = block.line;
+  const kind: BlockKind = block.kind, line: number = block.line;
   for (const event of block.events) console.log(kind, line, event.line, event.column, event.offset, block.html, block.links[0]?.column, block.lines.length);
 }
 const found: Block | undefined = blocks(new Uint8Array()).at(0), title: string | null | undefined = blocks('').definitions[0]?.title;

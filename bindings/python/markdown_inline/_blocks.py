@@ -11,7 +11,7 @@ from ._events import Characters, Events, ShortEvents, ShortTexts, Texts
 from ._links import Address
 from ._names import BlockKind
 
-_BLOCK = struct.Struct('=4Q3B5x')
+_BLOCK = struct.Struct('=5Q3B5x')
 _CONTENT = struct.Struct('=2QI4x')
 _TARGET = struct.Struct('=4QI4x')
 _KINDS = tuple(BlockKind)
@@ -49,13 +49,15 @@ class Definition(NamedTuple):
 class Block:
     """A block of a document. `depth` is how many containers stand round it: what a quote or an item holds stands behind it, one deeper.
 
+    `line` is the line on which it begins, from 1: fenced code begins with its fence, and a text with the definitions at its front.
     `number` is the level of a heading, the number of an item of an ordered list, or the kind of HTML, and else 0. `marker` is the sign of an item's marker, of a
     fence, or None. Of an item, `begins_list` and `ends_list` say where it stands in its list, and `is_loose` whether that is loose. `content` is the number of the
     block's text among those of `Blocks.texts`, or None: headings and paragraphs have a text, of which a paragraph of definitions alone has nothing."""
-    __slots__ = ('kind', 'depth', 'number', 'marker', 'begins_list', 'ends_list', 'is_loose', 'content', '_blocks', '_at', '_first', '_after')
+    __slots__ = ('kind', 'depth', 'number', 'line', 'marker', 'begins_list', 'ends_list', 'is_loose', 'content', '_blocks', '_at', '_first', '_after')
     kind: BlockKind
     depth: int
     number: int
+    line: int
     marker: Optional[str]
     begins_list: bool
     ends_list: bool
@@ -64,7 +66,7 @@ class Block:
 
     def __init__(self, blocks: 'Blocks', at: int, row: Tuple[int, ...], content: Optional[int]) -> None:
         self._blocks, self._at, self.content = blocks, at, content
-        self._first, self._after, self.depth, self.number, kind, marker, flags = row
+        self._first, self._after, self.depth, self.number, self.line, kind, marker, flags = row
         self.kind, self.marker = _KINDS[kind], chr(marker) if marker else None
         self.begins_list, self.ends_list, self.is_loose = flags & _BEGINS_LIST > 0, flags & _ENDS_LIST > 0, flags & _IS_LOOSE > 0
 
@@ -72,11 +74,6 @@ class Block:
     def pieces(self) -> List[Piece]:
         """The pieces of a heading's or a paragraph's text; of code and HTML its lines, one piece each. Of fenced code the first piece is the info string."""
         return [self._blocks._piece(at) for at in range(self._first, self._after)]
-
-    @property
-    def line(self) -> Optional[int]:
-        """The line on which its first piece begins, from 1; None where it has no pieces. Fenced code begins with its fence."""
-        return self._blocks._line(self._blocks._piece(self._first).start) if self._first < self._after else None
 
     @property
     def lines(self) -> List[str]:
@@ -121,7 +118,7 @@ class Block:
         return hash((id(self._blocks), self._at))
 
     def __repr__(self) -> str:
-        return 'Block(%s, depth=%d, number=%d, line=%s)' % (self.kind, self.depth, self.number, self.line)
+        return 'Block(%s, depth=%d, number=%d, line=%d)' % (self.kind, self.depth, self.number, self.line)
 
 
 class Asked(NamedTuple):
@@ -296,7 +293,7 @@ def _contents_of(raw: _Raw) -> Tuple[bytes, 'array[int]']:
     """The texts of headings and paragraphs as contents, as they cross, and the numbers of the blocks that have them. A paragraph is the first of an item where
     before it in the item stand only blank lines and definitions."""
     contents, numbers, first_in = [], array('Q'), -1
-    for at, (first, after, depth, _, kind, _, _) in enumerate(_BLOCK.iter_unpack(raw)):
+    for at, (first, after, depth, _, _, kind, _, _) in enumerate(_BLOCK.iter_unpack(raw)):
         if kind == _ITEM:
             first_in = depth + 1
             continue

@@ -13,7 +13,7 @@ DONE, TOO_SMALL = 0, 6
 #: The number of nothing.
 NONE = 2 ** 64 - 1
 EVENT_SIZE, SHORT_SIZE, LEAF_SIZE = EVENT.size, SHORT.size, LEAF.size
-_BLOCK_SIZE, _PIECE_SIZE, _RANGE_SIZE, _TARGET_SIZE = 40, 32, 16, 40
+_BLOCK_SIZE, _PIECE_SIZE, _RANGE_SIZE, _TARGET_SIZE = 48, 32, 16, 40
 # No name of a module, which one that ends in `.so` would be.
 SHARED = 'libmarkdown_inline.so.1'
 #: How many bytes an array has that is lent again, and how many such arrays are kept for all threads together.

@@ -153,8 +153,8 @@ fn shown_block(block: Block, htmls: &Htmls) -> String {
         " =".to_string() + &hexadecimal(it.as_bytes())
     });
     format!(
-        " |{}:{}:{}:{marker}:{flags}{pieces}{html}",
-        block.kind as u8, block.depth, block.number
+        " |{}:{}:{}:{}:{marker}:{flags}{pieces}{html}",
+        block.kind as u8, block.depth, block.number, block.line
     )
 }
 

@@ -56,6 +56,8 @@ pub struct Block<'b> {
     pub depth: usize,
     /// The level of a heading, the number of an item of an ordered list, or the kind of HTML; else 0.
     pub number: usize,
+    /// The line on which it begins, from 1. Fenced code begins with its fence, and a text with the definitions at its front.
+    pub line: usize,
     /// The sign of an item's marker or of a fence.
     pub marker: Option<char>,
     /// Whether an item begins its list.
@@ -112,8 +114,8 @@ pub struct Blocks<'a> {
 /// let found = blocks("# *a*\n\n- [b]\n\n[b]: /c")?;
 /// let htmls = found.input().htmls(found.contents(), HtmlOptions::default())?;
 /// let headings = found.iter().filter(|block| block.kind == BlockKind::Heading);
-/// let toc: Vec<_> = headings.map(|block| (block.number, block.line(), block.content.and_then(|number| htmls.get(number)))).collect();
-/// assert_eq!(toc, [(1, Some(1), Some("<em>a</em>"))]);
+/// let toc: Vec<_> = headings.map(|block| (block.number, block.line, block.content.and_then(|number| htmls.get(number)))).collect();
+/// assert_eq!(toc, [(1, 1, Some("<em>a</em>"))]);
 /// let links = found.input().links(found.contents())?;
 /// assert_eq!((links[0].start.line, links[0].start.column, links[0].destination.as_str()), (3, 3, "/c"));
 /// # Ok(())
@@ -274,12 +276,6 @@ impl RawBlock {
 }
 
 impl<'b> Block<'b> {
-    /// The line on which its first piece begins, from 1; none where it has no pieces. Fenced code begins with its fence.
-    #[must_use]
-    pub fn line(&self) -> Option<usize> {
-        Some(self.line_of(self.pieces.first()?.start))
-    }
-
     /// The lines of a text, of code or of HTML, each with its line ending, if it has one. Of a tab that a container cuts, the columns that are left are spaces.
     /// The blank lines behind indented code are among them, which HTML leaves out.
     ///
@@ -361,6 +357,7 @@ impl<'a> Blocks<'a> {
             kind: row.kind(),
             depth: row.depth,
             number: row.number,
+            line: row.line,
             marker: Some(char::from(row.marker)).filter(|_| row.marker > 0),
             begins_list: row.list & 1 > 0,
             ends_list: row.list & 2 > 0,
@@ -453,7 +450,7 @@ impl fmt::Debug for Block<'_> {
             .field("kind", &self.kind)
             .field("depth", &self.depth)
             .field("number", &self.number)
-            .field("line", &self.line())
+            .field("line", &self.line)
             .finish_non_exhaustive()
     }
 }

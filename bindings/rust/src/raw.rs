@@ -125,6 +125,7 @@ pub(crate) struct RawBlock {
     pub(crate) pieces: RawRange,
     pub(crate) depth: usize,
     pub(crate) number: usize,
+    pub(crate) line: usize,
     pub(crate) kind: u8,
     pub(crate) marker: u8,
     pub(crate) list: u8,
@@ -161,7 +162,7 @@ const _: () = assert!(size_of::<usize>() == 8 && size_of::<Piece>() == 32);
 const _: () = assert!(size_of::<RawInput>() == 88 && size_of::<RawEvent>() == 56);
 const _: () = assert!(size_of::<RawLeaf>() == 96 && size_of::<RawTarget>() == 40);
 const _: () = assert!(size_of::<RawContent>() == 24 && size_of::<RawOutcome>() == 24);
-const _: () = assert!(size_of::<RawShortEvent>() == 16 && size_of::<RawBlock>() == 40);
+const _: () = assert!(size_of::<RawShortEvent>() == 16 && size_of::<RawBlock>() == 48);
 
 /// A call that fills an array by what is found in an input.
 pub(crate) type Call<T> = unsafe extern "C" fn(*const RawInput, *mut T, usize, *mut usize) -> u32;

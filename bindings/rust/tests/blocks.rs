@@ -15,28 +15,28 @@ fn each_block_is_told() {
         .iter()
         .map(|it| {
             let list = [it.begins_list, it.ends_list, it.is_loose];
-            (it.kind, it.depth, it.number, it.marker, list, it.line())
+            (it.kind, it.depth, it.number, it.marker, list, it.line)
         })
         .collect();
     let none = [false; 3];
     assert_eq!(
         rows,
         [
-            (Heading, 0, 1, None, none, Some(1)),
-            (BlankLine, 0, 0, None, none, None),
-            (Quote, 0, 0, None, none, None),
-            (Item, 1, 3, Some(')'), [true, false, true], None),
-            (Paragraph, 2, 0, None, none, Some(3)),
-            (BlankLine, 2, 0, None, none, None),
-            (Item, 1, 4, Some(')'), [false, true, true], None),
-            (FencedCode, 2, 0, Some('~'), none, Some(6)),
-            (BlankLine, 0, 0, None, none, None),
-            (ThematicBreak, 0, 0, None, none, None),
-            (Item, 0, 0, Some('-'), [true, false, false], None),
-            (Paragraph, 1, 0, None, none, Some(11)),
-            (Item, 0, 0, Some('-'), [false, true, false], None),
-            (Paragraph, 1, 0, None, none, Some(12)),
-            (Html, 0, 2, None, none, Some(13)),
+            (Heading, 0, 1, None, none, 1),
+            (BlankLine, 0, 0, None, none, 2),
+            (Quote, 0, 0, None, none, 3),
+            (Item, 1, 3, Some(')'), [true, false, true], 3),
+            (Paragraph, 2, 0, None, none, 3),
+            (BlankLine, 2, 0, None, none, 5),
+            (Item, 1, 4, Some(')'), [false, true, true], 6),
+            (FencedCode, 2, 0, Some('~'), none, 6),
+            (BlankLine, 0, 0, None, none, 9),
+            (ThematicBreak, 0, 0, None, none, 10),
+            (Item, 0, 0, Some('-'), [true, false, false], 11),
+            (Paragraph, 1, 0, None, none, 11),
+            (Item, 0, 0, Some('-'), [false, true, false], 12),
+            (Paragraph, 1, 0, None, none, 12),
+            (Html, 0, 2, None, none, 13),
         ]
     );
     assert_eq!(found.get(0).unwrap().pieces, [Piece::from(2..8)]);
@@ -45,13 +45,13 @@ fn each_block_is_told() {
     assert_eq!(code.info().unwrap().as_deref(), Some("f&g"));
     assert_eq!(found.get(0).unwrap().info(), Ok(None));
     assert_eq!((found.len(), found.get(15).is_none()), (15, true));
-    let numbers = |it: markdown_inline::Block| (it.kind, it.line());
+    let numbers = |it: markdown_inline::Block| (it.kind, it.line);
     let mut both = found.iter().map(numbers).collect::<Vec<_>>();
     both.reverse();
     assert!(found.iter().rev().map(numbers).eq(both));
     assert!(blocks("").unwrap().is_empty());
     let shown = format!("{:?}", blocks("# a").unwrap());
-    let wanted = "[Block { kind: Heading, depth: 0, number: 1, line: Some(1), .. }]";
+    let wanted = "[Block { kind: Heading, depth: 0, number: 1, line: 1, .. }]";
     assert_eq!(shown, wanted);
 }
 

@@ -1,5 +1,5 @@
 -- Blocks and pieces that are written one after another.
-use Rattle.std.proofs.Common.{◌≡◌, ◌∙◌, sym, ap, ℕ, ◌+◌, ◌<◌, List, [], ◌∷◌, ◌++◌, length, map, take, drop, get_or, append_assoc, add-one, drop-cons}
+use Rattle.std.proofs.Common.{◌≡◌, ◌∙◌, sym, ap, subst, ℕ, ◌+◌, ◌<◌, List, [], ◌∷◌, ◌++◌, length, map, take, drop, get_or, append_assoc, add-one, drop-cons}
 use Rattle.std.specs.Prelude.{flat_map}
 use Rattle.std.proofs.lemmas.List.{length-append, length-map, map-append, take_more}
 use Rattle.markdown_blocks.specs.declared.block.Row.{Row}
@@ -22,18 +22,24 @@ one-more-piece old found more pieces i d lt so_far e =
 pub first-behind : {A : Type 0} (xs : List A) (n : ℕ) (d : A) → n < length xs → drop n xs ≡ get_or xs n d ∷ drop (n + 1) xs
 first-behind xs n d lt = drop-cons xs n d lt ∙ ap (λ (k : ℕ). get_or xs n d ∷ drop k xs) (sym (add-one n))
 
-pub one-more-block : (all blocks blocks' : List FlatBlock) (pieces pieces' : List FlatPiece) (r : Row) (rows : List Row) (p : Place) (places : List Place)
-    → blocks' ≡ blocks ++ flat_blocks (length pieces) (r ∷ []) (p ∷ []) → pieces' ≡ pieces ++ map flat_piece (pieces_of_row r)
-    → blocks ++ flat_blocks (length pieces) (r ∷ rows) (p ∷ places) ≡ all → blocks' ++ flat_blocks (length pieces') rows places ≡ all
-one-more-block all blocks blocks' pieces pieces' r rows p places one more rest =
-    let first = flat_blocks (length pieces) (r ∷ []) (p ∷ []) in
+pub one-more-block : (all blocks blocks' : List FlatBlock) (pieces pieces' : List FlatPiece) (r : Row) (rs rows : List Row) (p : Place) (ps places : List Place) (l : ℕ) (ls lines : List ℕ)
+    → blocks' ≡ blocks ++ flat_blocks (length pieces) (r ∷ []) (p ∷ []) (l ∷ []) → pieces' ≡ pieces ++ map flat_piece (pieces_of_row r)
+    → rs ≡ r ∷ rows → ps ≡ p ∷ places → ls ≡ l ∷ lines → blocks ++ flat_blocks (length pieces) rs ps ls ≡ all
+    → blocks' ++ flat_blocks (length pieces') rows places lines ≡ all
+one-more-block all blocks blocks' pieces pieces' r rs rows p ps places l ls lines one more row place line rest =
+    let first = flat_blocks (length pieces) (r ∷ []) (p ∷ []) (l ∷ []) in
     let behind : length pieces' ≡ length pieces + length (pieces_of_row r) =
     ap length more ∙ length-append pieces (map flat_piece (pieces_of_row r)) ∙ ap (λ k. length pieces + k) (length-map (pieces_of_row r) flat_piece)
     in
-    ap (λ (bs : List FlatBlock). bs ++ flat_blocks (length pieces') rows places) one
-    ∙ ap (λ (k : ℕ). (blocks ++ first) ++ flat_blocks k rows places) behind
-    ∙ append_assoc blocks first (flat_blocks (length pieces + length (pieces_of_row r)) rows places)
-    ∙ rest
+    let so_far : blocks ++ flat_blocks (length pieces) (r ∷ rows) (p ∷ places) (l ∷ lines) ≡ all =
+    subst (λ (ks : List ℕ). blocks ++ flat_blocks (length pieces) (r ∷ rows) (p ∷ places) ks ≡ all) line
+    (subst (λ (ks : List Place). blocks ++ flat_blocks (length pieces) (r ∷ rows) ks ls ≡ all) place
+    (subst (λ (ks : List Row). blocks ++ flat_blocks (length pieces) ks ps ls ≡ all) row rest))
+    in
+    ap (λ (bs : List FlatBlock). bs ++ flat_blocks (length pieces') rows places lines) one
+    ∙ ap (λ (k : ℕ). (blocks ++ first) ++ flat_blocks k rows places lines) behind
+    ∙ append_assoc blocks first (flat_blocks (length pieces + length (pieces_of_row r)) rows places lines)
+    ∙ so_far
 
 pub one-more-row : (all pieces pieces' : List FlatPiece) (r : Row) (rows : List Row)
     → pieces' ≡ pieces ++ map flat_piece (pieces_of_row r) → pieces ++ flat_pieces (r ∷ rows) ≡ all → pieces' ++ flat_pieces rows ≡ all

@@ -4,8 +4,9 @@ use Rattle.markdown_block_definitions.specs.ResolvedRows.{IsTextRow}
 use Rattle.markdown_block_line.specs.declared.containers.Container.{Container}
 use Rattle.markdown_block_line.specs.declared.containers.Container.TheVariants.{Quote, Item}
 use Rattle.markdown_block_line.specs.declared.containers.Marker.TheVariants.{Bullet, Ordered}
+use Rattle.markdown_block_model.specs.BlockLines.{begins_of}
 use Rattle.markdown_block_model.specs.BlockTree.{nothing}
-use Rattle.markdown_block_model.specs.LinkDefinitions.{document_tree}
+use Rattle.markdown_block_model.specs.LinkDefinitions.{document_tree, has_text}
 use Rattle.markdown_blocks.specs.BlockRows.{rows_from}
 use Rattle.markdown_blocks.specs.NestedRows.{AreNested}
 use Rattle.markdown_blocks.specs.declared.block.Leaf.{Leaf}
@@ -42,9 +43,9 @@ block_kind_number BlockKind.Item = 8
 abbrev pub list_bits : Place → ℕ
 list_bits p = (if p.begins then 1 else 0) + (if p.ends then 2 else 0) + (if p.is_loose then 4 else 0)
 
--- a block that has no number and no marker
+-- a block that has no number and no marker, before its line is known
 abbrev pub plain_block : BlockKind → (depth : ℕ) (pieces : Range) → FlatBlock
-plain_block kind depth pieces = record { pieces = pieces; depth = depth; number = 0; kind = block_kind_number kind; marker = 0; list = 0; reserved = 0; reserved_too = 0 }
+plain_block kind depth pieces = record { pieces = pieces; depth = depth; number = 0; line = 0; kind = block_kind_number kind; marker = 0; list = 0; reserved = 0; reserved_too = 0 }
 
 abbrev pub flat_leaf : (depth : ℕ) → Leaf → (pieces : Range) → FlatBlock
 flat_leaf depth Blank pieces = plain_block BlockKind.BlankLine depth pieces
@@ -84,25 +85,26 @@ pieces_of_row (ContainerAt depth container) = []
 
 -- The blocks of a document.
 
--- rows, each with its place; so many pieces stand before those of the first
-abbrev pub flat_blocks : ℕ → List Row → List Place → List FlatBlock
-flat_blocks before [] places = []
-flat_blocks before (r ∷ rows) [] = []
-flat_blocks before (r ∷ rows) (place ∷ places) =
+-- rows, each with its place and with the line on which it begins; so many pieces stand before those of the first
+abbrev pub flat_blocks : ℕ → List Row → List Place → (lines : List ℕ) → List FlatBlock
+flat_blocks before [] places lines = []
+flat_blocks before (r ∷ rows) [] lines = []
+flat_blocks before (r ∷ rows) (place ∷ places) [] = []
+flat_blocks before (r ∷ rows) (place ∷ places) (line ∷ lines) =
     let behind = before + length (pieces_of_row r) in
-    flat_block r place (record { start = before; end = behind }) ∷ flat_blocks behind rows places
+    record (flat_block r place (record { start = before; end = behind })) { line = line } ∷ flat_blocks behind rows places lines
 
 abbrev pub flat_pieces : List Row → List FlatPiece
 flat_pieces rows = map flat_piece (flat_map pieces_of_row rows)
 
--- Of a document these are the blocks, with where each item stands in its list, and the pieces. The rows that they are made of have its tree, each text of theirs is a text
--- content, and each row stands at most one deeper than the container before it.
+-- Of a document these are the blocks, with where each item stands in its list and on which line each block begins, and the pieces. The rows that they are
+-- made of have its tree, each text of theirs is a text content, and each row stands at most one deeper than the container before it.
 pub record AreBlocks (bytes : List ℕ) (blocks : List FlatBlock) (pieces : List FlatPiece) : Type 0 where
   pub rows : List Row
   pub tree : rows_from bytes nothing rows ≡ document_tree bytes
   pub nested : AreNested 0 rows
   pub texts : All (IsTextRow bytes) rows
-  pub blocks_are : blocks ≡ flat_blocks 0 rows (places_in None (document_tree bytes))
+  pub blocks_are : blocks ≡ flat_blocks 0 rows (places_in None (document_tree bytes)) (begins_of has_text bytes)
   pub pieces_are : pieces ≡ flat_pieces rows
 
 -- What the call leaves.

@@ -65,7 +65,7 @@ fn list_bits(place: Place) -> u8
     u8::from(place.begins) + 2 * u8::from(place.ends) + 4 * u8::from(place.is_loose)
 }
 
-// A block that has no number and no marker.
+// A block that has no number and no marker, before its line is known.
 fn plain_block(kind: BlockKind, depth: usize, pieces: Range) -> FlatBlock
     ensures { result ≡ plain_block kind depth pieces }
 {
@@ -73,6 +73,7 @@ fn plain_block(kind: BlockKind, depth: usize, pieces: Range) -> FlatBlock
         pieces,
         depth,
         number: 0,
+        line: 0,
         kind: block_kind_number(kind),
         marker: 0,
         list: 0,
@@ -165,26 +166,34 @@ fn push_leaf(found: &mut Vec<FlatPiece>, leaf: &Leaf) -> Result<(), AllocError>
 }
 
 impl FoundBlocks {
-    // Appends a block, and its pieces.
-    fn push(&mut self, row: &Row, place: Place) -> Result<(), AllocError>
+    // Appends a block that begins on this line, and its pieces.
+    fn push(&mut self, row: &Row, place: Place, line: usize) -> Result<(), AllocError>
         ensures pieces { OnOk result (self.new.pieces.items ≡ self.old.pieces.items ++ map flat_piece (pieces_of_row row.now)) }
-        ensures blocks { OnOk result (self.new.blocks.items ≡ self.old.blocks.items ++ flat_blocks (length self.old.pieces.items) (row.now ∷ []) (place ∷ [])) }
+        ensures blocks { OnOk result (self.new.blocks.items ≡ self.old.blocks.items ++ flat_blocks (length self.old.pieces.items) (row.now ∷ []) (place ∷ []) (line ∷ [])) }
     {
         let start = self.pieces.len();
         if let Row::LeafAt(_, leaf) = row {
             push_leaf(&mut self.pieces, leaf)?;
         }
         let end = self.pieces.len();
-        self.blocks
-            .push(flat_block(row, place, Range { start, end }))?;
+        self.blocks.push(FlatBlock {
+            line,
+            ..flat_block(row, place, Range { start, end })
+        })?;
         Ok(())
     }
 }
 
-// The blocks of rows with these places, and their pieces.
-fn flat_rows(alloc: Global, rows: &[Row], places: &[Place]) -> Result<FoundBlocks, AllocError>
-    requires { length places.now ≡ length rows.now }
-    ensures blocks { IfOk result (λ found. found.blocks.items ≡ flat_blocks 0 rows.now places.now) }
+// The blocks of rows with these places, which begin on these lines, and their pieces.
+fn flat_rows(
+    alloc: Global,
+    rows: &[Row],
+    places: &[Place],
+    lines: &[usize],
+) -> Result<FoundBlocks, AllocError>
+    requires places { length places.now ≡ length rows.now }
+    requires lines { length lines.now ≡ length rows.now }
+    ensures blocks { IfOk result (λ found. found.blocks.items ≡ flat_blocks 0 rows.now places.now lines.now) }
     ensures pieces { IfOk result (λ found. found.pieces.items ≡ flat_pieces rows.now) }
 {
     let mut found = FoundBlocks {
@@ -192,7 +201,7 @@ fn flat_rows(alloc: Global, rows: &[Row], places: &[Place]) -> Result<FoundBlock
         pieces: Vec::new(alloc),
     };
     for (index, row) in rows.iter().enumerate() {
-        found.push(row, places[index])?;
+        found.push(row, places[index], lines[index])?;
     }
     Ok(found)
 }
@@ -209,7 +218,8 @@ pub fn found_blocks(alloc: Global, bytes: &[u8]) -> Result<FoundBlocks, Fault>
     let found = read(alloc, bytes)?;
     let rows = found.blocks.rows.as_slice();
     let places = places(alloc, bytes, rows)?;
-    let blocks = flat_rows(alloc, rows, places.as_slice())?;
+    let lines = found.blocks.lines.as_slice();
+    let blocks = flat_rows(alloc, rows, places.as_slice(), lines)?;
     Ok(blocks)
 }
 

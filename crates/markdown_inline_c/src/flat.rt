@@ -164,6 +164,8 @@ pub struct FlatBlock {
     pub depth: usize,
     /// The level of a heading, the number of an item of an ordered list, or the kind of HTML, from 1; else 0.
     pub number: usize,
+    /// The number of the line on which it begins, from 1.
+    pub line: usize,
     /// The number of its kind, in the order of `BlockKind`.
     pub kind: u8,
     /// The byte of the marker of an item, or of a fence; else 0.

@@ -1,16 +1,21 @@
-use Rattle.std.proofs.Common.{◌≡◌, ◌∙◌, ap, None}
+use Rattle.std.proofs.Common.{◌≡◌, ◌∙◌, ap, List, None}
 use Rattle.markdown_block_model.specs.BlockTree.{nothing}
+use Rattle.markdown_block_model.specs.LinkDefinitions.{document_tree}
 use Rattle.markdown_blocks.specs.BlockRows.{rows_from}
 use Rattle.markdown_blocks.specs.NestedRows.{AreNested}
 use Rattle.markdown_inline_c.specs.FlatBlocks.{flat_blocks}
 use Rattle.markdown_page.specs.ListPlaces.{places_in}
+use Rattle.markdown_page.specs.declared.lists.Place.{Place}
 use Rattle.markdown_page.proofs.PlacedRows.{count-places}
 use Rattle.markdown_inline_c.proofs.blocks.found_blocks.Goals as goal
 
 pub flat_rows-requires : goal.flat_rows-requires
 flat_rows-requires c =
     let nested : AreNested 0 c.as_slice-rows.result.now = rw c.as_slice-rows.ensures.value c.in_ok-found.ensures.nested in
-    rw c.as_slice.ensures.value (count-places c.args.bytes.now c.as_slice-rows.result.now c.in_ok-places.places.items nested c.in_ok-places.ensures)
+    record {
+      places = rw c.as_slice.ensures.value (count-places c.args.bytes.now c.as_slice-rows.result.now c.in_ok-places.places.items nested c.in_ok-places.ensures);
+      lines = rw (c.as_slice-lines.ensures.value, c.as_slice-rows.ensures.value) c.in_ok-found.ensures.lined;
+    }
 
 pub returns-clause-blocks : goal.returns-clause-blocks
 returns-clause-blocks c =
@@ -23,6 +28,9 @@ returns-clause-blocks c =
       tree = tree;
       nested = rw same c.in_ok-found.ensures.nested;
       texts = rw same (c.in_ok-found.ensures.texts c.in_default.ensures.ok.0);
-      blocks_are = c.in_ok-blocks.ensures.blocks ∙ ap (flat_blocks 0 rows) (c.as_slice.ensures.value ∙ c.in_ok-places.ensures ∙ ap (places_in None) tree);
+      blocks_are =
+          c.in_ok-blocks.ensures.blocks
+          ∙ ap (λ (ps : List Place). flat_blocks 0 rows ps c.as_slice-lines.result.now) (c.as_slice.ensures.value ∙ c.in_ok-places.ensures ∙ ap (places_in None) tree)
+          ∙ ap (flat_blocks 0 rows (places_in None (document_tree bytes))) (c.as_slice-lines.ensures.value ∙ c.in_ok-found.ensures.begins);
       pieces_are = c.in_ok-blocks.ensures.pieces;
     }
