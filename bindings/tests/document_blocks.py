@@ -4,6 +4,8 @@ import os
 import pickle
 import random
 import re
+import shutil
+import subprocess
 import sys
 import time
 import unittest
@@ -128,6 +130,23 @@ class Rendered(unittest.TestCase):
             document = ''.join(draw.choice(PARTS) for _ in range(draw.choice([3, 10, 30])))
             for asked in ({}, {'raw_html': True, 'any_link': True}):
                 self.assertEqual(Writer(bool(asked)).write(blocks(document, **asked)), document_html(document, **asked), document)
+
+
+class Lines(unittest.TestCase):
+    @unittest.skipUnless(shutil.which('cmark'), 'cmark is not there')
+    def test_lines_of_cmark(self):
+        """The blocks of the repository's pages begin on the lines that cmark tells."""
+        names = {'thematic_break', 'heading', 'paragraph', 'code_block', 'html_block', 'block_quote', 'item'}
+        root = os.path.join(os.path.dirname(os.path.abspath(__file__)), '../..')
+        pages = [os.path.join(folder, name) for folder in (root, os.path.join(root, 'docs')) for name in sorted(os.listdir(folder)) if name.endswith('.md')]
+        self.assertGreater(len(pages), 10)
+        for page in pages:
+            with open(page, 'rb') as file:
+                document = file.read()
+            told = subprocess.run(['cmark', '-t', 'xml', '--sourcepos'], input=document, stdout=subprocess.PIPE, check=True).stdout.decode()
+            lines = [int(line) for name, line in re.findall(r'^ *<(\w+) sourcepos="(\d+):', told, re.M) if name in names]
+            found = [it.line for it in blocks(document) if it.kind != BlockKind.BlankLine and (it.kind != BlockKind.Paragraph or it.pieces)]
+            self.assertEqual(found, lines, page)
 
 
 class Blocks(unittest.TestCase):
