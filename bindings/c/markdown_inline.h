@@ -11,9 +11,9 @@
  *   checked below, at compile time. Numbers of names, bits of options and statuses do not change within a version; new ones come at the end.
  * - An array is a pointer and a length in elements. Where the length is 0 the pointer may be null. Pointers to single values are never null.
  * - Text is UTF-8. Indexes and ranges count bytes, from 0; lines and columns count from 1.
- * - Every input is taken, and a call always returns. Only pointers and lengths have to be those of arrays, and what a call writes to may overlap
- *   nothing else that the call is given.
- * - A document that is not UTF-8 is refused whole, and calls for many contents tell the first byte that is wrong. A copy of the same length with a NUL
+ * - Every input is taken, and a call always returns. The caller's one duty is that pointers and lengths are those of arrays, and that what a call writes to
+ *   overlaps nothing else that the call is given: a pointer or a length that lies is undefined behavior, as everywhere in C.
+ * - A document that is not UTF-8 is rejected as a whole, and calls with an outcome tell the first byte that is wrong. A copy of the same length with a NUL
  *   for each wrong byte is read, and places in it are those of the document: CommonMark reads NUL as U+FFFD.
  * - No pointer is kept after a call, and nothing has to be freed. There is no state, so several threads may call at once.
  * - Memory comes from malloc, and is freed before the call ends. If malloc fails, the call returns MARKDOWN_INLINE_NO_MEMORY.
@@ -44,7 +44,7 @@ extern "C" {
 #endif
 
 /* Statuses, with what each says. A call returns that of the first thing that is wrong, in the order 2, 9, 3, 7, 4, 8 unless the call says otherwise;
- * NO_MEMORY may come at any time. With a status other than DONE and TOO_SMALL nothing is written, except by calls for many, which have an outcome. */
+ * NO_MEMORY may come at any time. With a status other than DONE and TOO_SMALL nothing is written, except by calls that have an outcome. */
 #define MARKDOWN_INLINE_EACH_STATUS(X) \
     X(DONE, 0, "done") \
     X(UNKNOWN_OPTION, 2, "unknown option") \
@@ -303,13 +303,18 @@ enum { MARKDOWN_INLINE_ENTER = 0, MARKDOWN_INLINE_EXIT = 1 };
 /* Whether what an event names is read a second time: not at all, as a string, or as a text. */
 enum { MARKDOWN_INLINE_UNLINKED = 0, MARKDOWN_INLINE_LINKED_STRING = 1, MARKDOWN_INLINE_LINKED_TEXT = 2 };
 
-/* What HTML may hold, each by a bit: raw HTML as it stands, and not as text; links that lead wherever they say, and not to listed schemes alone. */
-enum { MARKDOWN_INLINE_HTML_RAW = 0x1, MARKDOWN_INLINE_HTML_ANY_LINK = 0x2 };
+/* What HTML may contain and how it is written, each by a bit. Without RAW and ANY_LINK nothing of the input becomes markup, and no link leads to a script.
+ * RAW:      raw HTML is written as it is, and not as text.
+ * ANY_LINK: links and images lead wherever they say, and not only to relative addresses and to listed schemes.
+ * LF, CRLF: each line ending of the input is written as a line feed, or as a carriage return and a line feed, and so are those that a page adds. Without
+ *           either, line endings stay as they are, and a page adds line feeds. The two together are rejected.
+ * Any other bit returns UNKNOWN_OPTION. */
+enum { MARKDOWN_INLINE_HTML_RAW = 0x1, MARKDOWN_INLINE_HTML_ANY_LINK = 0x2, MARKDOWN_INLINE_HTML_LF = 0x20, MARKDOWN_INLINE_HTML_CRLF = 0x40 };
 
 /* How texts of strings are written, each by a bit: with a line feed for each line ending (CommonMark 2.1), and with U+FFFD for NUL (CommonMark 2.3). */
 enum { MARKDOWN_INLINE_STRING_LINE_FEEDS = 0x1, MARKDOWN_INLINE_STRING_REPLACED_NUL = 0x2 };
 
-/* The number of no event, and of no content, no string, no definition and no byte that is refused. */
+/* The number of no event, and of no content, no string, no definition and no byte that is rejected. As a limit it is no limit. */
 #define MARKDOWN_INLINE_NONE SIZE_MAX
 
 /* The number of no definition and the code point of no character, in a short event. */
@@ -406,18 +411,35 @@ typedef struct markdown_inline_content {
     uint32_t first_of_item, reserved;
 } markdown_inline_content;
 
-/* How far a call for many comes. `done` is how many contents, strings or pieces are written, from the first on. `count` is how many elements those have
- * that are read. `blamed` is the number of what is refused, or MARKDOWN_INLINE_NONE. */
+/* How far a call comes. `done` is how many contents, strings or pieces are written, from the first on, or 1 for a document that is written. `count` is how many
+ * elements those have that are read. `blamed` is the number of what is rejected, or MARKDOWN_INLINE_NONE. */
 typedef struct markdown_inline_outcome {
     size_t done, count, blamed;
 } markdown_inline_outcome;
+
+/* How a document is read and written. All zero, as by `= {0}` in C and `= {}` in C++, is CommonMark, safe HTML and the default limit.
+ *
+ * - `options` are those of an input, and 0 is MARKDOWN_INLINE_COMMONMARK. To add a construct of GitHub's, join its bit to that set. A document itself knows
+ *   which text is the first of a list item, and footnotes of documents are not there yet: MARKDOWN_INLINE_OPTION_FIRST_OF_ITEM and
+ *   MARKDOWN_INLINE_OPTION_GFM_LABEL_START_FOOTNOTE return UNKNOWN_OPTION, and so does MARKDOWN_INLINE_GFM, which has the latter.
+ * - `html` is what HTML may contain and how it is written, by the bits above.
+ * - `limit` is how many bytes references to definitions may expand to. Each link and each image that refers to a definition counts the bytes of its destination
+ *   and of its title: n references to a definition of n bytes expand to n * n bytes. These are bytes of the text, before they are escaped: of each of them HTML
+ *   may have up to 9. 0 is the default, which is cmark's: the larger of 100000 and the length of the document. MARKDOWN_INLINE_NONE is no limit.
+ *
+ * The other fields are reserved and have to be 0, else the call returns UNKNOWN_OPTION. */
+typedef struct markdown_inline_document_options {
+    uint32_t options, html;
+    uint32_t reserved[2];
+    size_t limit;
+    size_t reserved_words[13];
+} markdown_inline_document_options;
 
 /* A block of a document. Its kind is one of MARKDOWN_INLINE_EACH_BLOCK. A quote or an item stands before what it holds.
  *
  * - `pieces` are the numbers of its pieces, which stand behind those of the block before. The pieces of a heading or a paragraph are a text of the document,
  *   as markdown_inline_texts takes it: none of a paragraph that had definitions alone. Those of code and of HTML are its lines, each with its line ending; of
- *   fenced code the first piece is the info string, which may be empty. Blank lines behind indented code are among its lines, and are left out of a page. A
- *   piece of HTML without bytes is no line.
+ *   fenced code the first piece is the info string, which may be empty. Blank lines behind indented code are among its lines, and are left out of a page.
  * - `depth` is how many quotes and items stand round it.
  * - `number` is the level of a heading, 1 to 6; the number of an item of an ordered list; the kind of HTML, 1 to 7 (CommonMark 4.6); else 0.
  * - `line` is the number of the line on which it begins, from 1: of a text that has definitions at its front, the line of the first of these; of fenced code
@@ -426,7 +448,10 @@ typedef struct markdown_inline_outcome {
  * - `list` has the bits MARKDOWN_INLINE_BEGINS_LIST, MARKDOWN_INLINE_ENDS_LIST and MARKDOWN_INLINE_LOOSE_LIST, of an item; else it is 0.
  *
  * A line of code or HTML may begin inside a tab: then `start_vs` of its piece is how many columns of that tab come before it, and it has the other columns as
- * so many spaces. Tabs end at each fourth column of a line of the document. */
+ * so many spaces. Tabs end at each fourth column of a line of the document.
+ *
+ * Each piece is of one line. One that has bytes or columns starts and ends where these do. A byte order mark at the front of the document is in no piece, but
+ * positions and columns count it. */
 typedef struct markdown_inline_block {
     markdown_inline_range pieces;
     size_t depth, number, line;
@@ -449,21 +474,24 @@ typedef char markdown_inline_checks_sizes[sizeof(size_t) == 8 && sizeof(void *) 
     && sizeof(markdown_inline_range) == 16 && sizeof(markdown_inline_input) == 88 && sizeof(markdown_inline_event) == 56 && sizeof(markdown_inline_leaf) == 96
     && sizeof(markdown_inline_target) == 40 && sizeof(markdown_inline_content) == 24 && sizeof(markdown_inline_short_event) == 16 && sizeof(markdown_inline_outcome) == 24
     && sizeof(markdown_inline_block) == 48 && sizeof(markdown_inline_blocks_count) == 16 && sizeof(markdown_inline_definitions_count) == 16
+    && sizeof(markdown_inline_document_options) == 128 && offsetof(markdown_inline_document_options, html) == 4
+    && offsetof(markdown_inline_document_options, limit) == 16 && offsetof(markdown_inline_document_options, reserved_words) == 24
     && offsetof(markdown_inline_input, options) == 80 && offsetof(markdown_inline_event, line) == 8 ? 1 : -1];
 
 /* The version of the library. */
 MARKDOWN_INLINE_API uint32_t markdown_inline_version(void);
 
-/* Writes the HTML of a document, in UTF-8: of its blocks and of the text inside them, as CommonMark 0.31.2 says. The document's own definitions count, and
- * the call takes no others. `html_options` has the bits MARKDOWN_INLINE_HTML_RAW and MARKDOWN_INLINE_HTML_ANY_LINK. Without them raw HTML is written as text,
- * and no link leads to a script. Line endings of the document stay; those that the page itself brings are line feeds.
- * A definition brings the bytes of its destination and of its title to each link and image that refers to it: n references to a definition of n bytes bring
- * n * n bytes. `limit` says how many bytes all definitions may bring together; 0 is no limit. cmark takes the document's length, but at least 100,000.
- * Of most documents the HTML is less than twice as long as the document. Lend that much room, since a call with too little does all the work and writes nothing.
- * DONE: the HTML stands at the front of the array, and `*count` is how many bytes it has. TOO_SMALL: `*count` is how many it has, and the array is as before;
- * call again with room for them. UNKNOWN_OPTION, TOO_LONG, NOT_UTF8, NO_MEMORY: nothing is written. REFERENCES: definitions bring more than the limit, and
- * nothing is written. */
-MARKDOWN_INLINE_API uint32_t markdown_inline_document_html(const uint8_t *bytes, size_t bytes_len, uint32_t html_options, size_t limit, uint8_t *html, size_t html_len, size_t *count);
+/* Renders a document to HTML, in UTF-8: its blocks and the text inside them, following CommonMark 0.31.2. The document's own definitions count, and the call
+ * takes no others. A byte order mark at the front is no part of its text.
+ * The HTML of most documents is less than twice as long as the document. Pass an array of that size, since a call with too small an array does all the work and
+ * writes nothing.
+ * DONE: the HTML is at the front of the array; `count` of the outcome is its length in bytes, and `done` is 1.
+ * TOO_SMALL: `count` is the length of the HTML, `done` is 0, and the array is as before; call again with an array of that length.
+ * UNKNOWN_OPTION, TOO_LONG, NOT_UTF8, REFERENCES, NO_MEMORY: nothing is written but the outcome, of which `done` and `count` are 0. The first four are found in
+ * this order. REFERENCES: references expand to more bytes than the limit. With NOT_UTF8, `blamed` is the index of the first byte that is not UTF-8; all before
+ * it is UTF-8. With every other status it is MARKDOWN_INLINE_NONE. */
+MARKDOWN_INLINE_API uint32_t markdown_inline_document_html(const uint8_t *bytes, size_t bytes_len, const markdown_inline_document_options *options,
+    uint8_t *html, size_t html_len, markdown_inline_outcome *outcome);
 
 /* Finds the blocks of a document, in its order, with the pieces of their texts, as CommonMark 0.31.2 says: for a caller who renders a document himself, or
  * checks it. Of "# a\n\n> b" the blocks are a heading with the piece `a`, a blank line, a quote, and one deeper a paragraph with the piece `b`.
@@ -558,13 +586,10 @@ MARKDOWN_INLINE_API uint32_t markdown_inline_short_texts(const markdown_inline_i
 
 /* Writes the HTML of the input's pieces as a text, in UTF-8. Each call tests the whole document, passes all that stands before the pieces, and sorts the
  * definitions, so a call for each paragraph of a document takes quadratic time: for many contents call markdown_inline_htmls, which numbers footnotes
- * through all of them. There is one target for each definition, in the same order, which says where it leads. `options` has the bits
- * MARKDOWN_INLINE_HTML_RAW and MARKDOWN_INLINE_HTML_ANY_LINK. Without them raw HTML is written as text, and no link leads to a script. Each call numbers
- * footnotes from 1 on, and line endings stay.
- * A definition brings the bytes of its destination and of its title, as its target has them, to each link and image that refers to it, so not to one with
- * a resource, as `[a](b)`. `limit` is how many bytes definitions may bring, and 0 is no limit. Without one, n references to a definition of n bytes write
- * n * n bytes; for text that is not trusted take the larger of 100000 and the document's length, as cmark does. REFERENCES: definitions bring more than the
- * limit. DONE: the HTML stands at the front of the array, and `*count` is how many bytes it has. DEFINITION: a label or a target is no text of the labels, or
+ * through all of them. There is one target for each definition, in the same order, which says where it leads. `options` are the bits of HTML, such as
+ * MARKDOWN_INLINE_HTML_RAW. Each call numbers footnotes from 1 on.
+ * `limit` is that of markdown_inline_document_options, for the length of the input's document. The bytes that count are those that the target has. A link or an
+ * image with a resource, as `[a](b)`, refers to no definition. REFERENCES: references expand to more bytes than the limit. DONE: the HTML stands at the front of the array, and `*count` is how many bytes it has. DEFINITION: a label or a target is no text of the labels, or
  * there is not one target for each definition. The rest is as for events. */
 MARKDOWN_INLINE_API uint32_t markdown_inline_html(const markdown_inline_input *input, const markdown_inline_target *targets, size_t targets_len, uint32_t options,
     size_t limit, uint8_t *html, size_t html_len, size_t *count);
@@ -578,7 +603,7 @@ MARKDOWN_INLINE_API uint32_t markdown_inline_html_of(const uint8_t *bytes, size_
  * Contents are those of markdown_inline_texts, and targets and `options` those of markdown_inline_html. Footnotes are numbered through all contents,
  * and a second call of a footnote has another id than the first. Ids are made of labels, so two footnotes may share one: the second call of `a` has the id
  * of the first call of `a-2`, and `a b` has that of `a%20b`.
- * `limit` is that of markdown_inline_html, for what definitions bring to all contents together.
+ * `limit` is that of markdown_inline_html, for the references of all contents together.
  * The HTML is written as calls for many write. If footnotes are called, a call after TOO_SMALL is for all contents again, with room for `count` bytes, since
  * footnotes are numbered through the contents of one call. Of what is wrong the order is 2, 9, 3, 8; then 7, 4 or 11 for the first content that is no
  * text, or at which definitions have brought more than the limit. With 8 the definition is refused whose label or target is no text of the labels; if there

@@ -131,6 +131,9 @@ class Arguments(unittest.TestCase):
         self.assertEqual(text('*a*', options=0), text('*a*', options=BITS & ~1))
 
     def test_switches(self):
+        for name in ('strikethrough', 'bare_urls', 'tasks', 'math'):
+            for given, error in (('yes', TypeError), (None, TypeError), (1.0, TypeError), (2, ValueError)):
+                self.refused(error, name + ' is True or False', lambda: document_html('a', **{name: given}))
         for name in ('gfm', 'math', 'task', 'raw_html', 'any_link'):
             calls = [html] + [blocks] * (name != 'task') + ([document_html] if name in ('raw_html', 'any_link') else [text, leaves])
             calls += [lambda it, **asked: texts(it, [], **asked)] * (name in ('gfm', 'math'))

@@ -103,10 +103,10 @@ static int read_texts(page *page) {
     page->ends = (size_t *)room(page->count.blocks, sizeof *page->ends);
     for (size_t at = 0; at < page->count.blocks; at++)
         if (is_text(&page->blocks[at])) page->contents[texts++].pieces = page->blocks[at].pieces;
-    markdown_inline_htmls(&page->input, page->targets, page->input.definitions_len, page->contents, texts, page->options, 0, NULL, 0, NULL, 0, &outcome);
+    markdown_inline_htmls(&page->input, page->targets, page->input.definitions_len, page->contents, texts, page->options, MARKDOWN_INLINE_NONE, NULL, 0, NULL, 0, &outcome);
     page->html = (uint8_t *)room(outcome.count, 1);
     return is_done(
-        markdown_inline_htmls(&page->input, page->targets, page->input.definitions_len, page->contents, texts, page->options, 0, page->html, outcome.count, page->ends, texts, &outcome));
+        markdown_inline_htmls(&page->input, page->targets, page->input.definitions_len, page->contents, texts, page->options, MARKDOWN_INLINE_NONE, page->html, outcome.count, page->ends, texts, &outcome));
 }
 
 /* Lines. */
@@ -136,14 +136,22 @@ static size_t line_of(page *page, markdown_inline_piece piece, size_t *from, tex
     return end < *from ? *from : end;
 }
 
-/* A line of code or of HTML, with its line ending: where the document ends without one, a line feed. */
+/* Raw HTML, with U+FFFD for NUL. */
+static void put_raw(text *out, const uint8_t *bytes, size_t len) {
+    for (size_t at = 0; at < len; at++) {
+        if (bytes[at]) put(out, bytes + at, 1);
+        else say(out, "\xEF\xBF\xBD");
+    }
+}
+
+/* A line of code or of HTML, with its line ending: a line feed where the document ends without one, and for a carriage return alone, which would join with a line
+ * feed after it. */
 static void write_line(page *page, markdown_inline_piece piece, int is_raw) {
     text line = {NULL, 0, 0};
     size_t from, to = line_of(page, piece, &from, &line);
-    if (is_raw) put(&page->out, line.bytes, line.len);
+    if (is_raw) put_raw(&page->out, line.bytes, line.len);
     else put_escaped(&page->out, line.bytes, line.len);
-    if (to < piece.end) put(&page->out, page->input.bytes + to, piece.end - to);
-    else say(&page->out, "\n");
+    say(&page->out, to + 1 < piece.end ? "\r\n" : "\n");
     free(line.bytes);
 }
 
@@ -293,9 +301,15 @@ static int is_same(const uint8_t *bytes, size_t len, uint32_t options) {
     page.options = options;
     int same = read_blocks(&page) && read_definitions(&page) && read_texts(&page);
     if (same) write_blocks(&page);
-    markdown_inline_document_html(bytes, len, options, 0, NULL, 0, &wanted.len);
+    markdown_inline_document_options asked;
+    markdown_inline_outcome outcome = {0, 0, 0};
+    memset(&asked, 0, sizeof asked);
+    asked.html = options;
+    asked.limit = MARKDOWN_INLINE_NONE;
+    markdown_inline_document_html(bytes, len, &asked, NULL, 0, &outcome);
+    wanted.len = outcome.count;
     wanted.bytes = (uint8_t *)room(wanted.len, 1);
-    same = same && is_done(markdown_inline_document_html(bytes, len, options, 0, wanted.bytes, wanted.len, &wanted.len)) && page.out.len == wanted.len
+    same = same && is_done(markdown_inline_document_html(bytes, len, &asked, wanted.bytes, wanted.len, &outcome)) && page.out.len == wanted.len
         && (wanted.len == 0 || !memcmp(page.out.bytes, wanted.bytes, wanted.len));
     if (!same) printf("blocks: with options %u:\n%.*s---\n%.*s---\n", options, (int)page.out.len, (const char *)page.out.bytes, (int)wanted.len, (const char *)wanted.bytes);
     free((void *)page.input.pieces);

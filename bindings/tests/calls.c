@@ -486,6 +486,9 @@ static void test_html(void) {
     /* Either bit asks for one thing alone. */
     want_html("<b>[a](javascript:b)", MARKDOWN_INLINE_HTML_RAW, "<b><a href=\"\">a</a>");
     want_html("<b>[a](javascript:b)", MARKDOWN_INLINE_HTML_ANY_LINK, "&lt;b&gt;<a href=\"javascript:b\">a</a>");
+    want_html("a\rb\r\nc", 0, "a\rb\r\nc");
+    want_html("a\rb\r\nc", MARKDOWN_INLINE_HTML_LF, "a\nb\nc");
+    want_html("a\rb\nc", MARKDOWN_INLINE_HTML_CRLF, "a\r\nb\r\nc");
     markdown_inline_piece piece = whole("[a]"), past = {0, 0, 9, 0};
     markdown_inline_range label = {1, 2}, bad = {0, 9};
     markdown_inline_target targets[] = {{{1, 2}, {0, 9}, 1, 0}, {{0, 9}, {0, 0}, 0, 0}, {{1, 0}, {0, 0}, 0, 0}, {{1, 2}, {0, 9}, 0, 0}}, two_bytes = {{1, 3}, {0, 0}, 0, 0};
@@ -500,6 +503,7 @@ static void test_html(void) {
         want("a target past the labels", markdown_inline_html(&input, targets + at, 1, 0, 0, found, 64, &count) == MARKDOWN_INLINE_DEFINITION && count == 77);
     want("a definition without a target", markdown_inline_html(&input, targets + 3, 0, 0, 0, found, 64, &count) == MARKDOWN_INLINE_DEFINITION);
     want("an unknown option of HTML", markdown_inline_html(&input, targets + 3, 1, 4, 0, found, 64, &count) == MARKDOWN_INLINE_UNKNOWN_OPTION);
+    want("two line endings of HTML", markdown_inline_html(&input, targets + 3, 1, MARKDOWN_INLINE_HTML_LF | MARKDOWN_INLINE_HTML_CRLF, 0, found, 64, &count) == MARKDOWN_INLINE_UNKNOWN_OPTION);
     input.pieces = &past;
     want("HTML of no content", markdown_inline_html(&input, targets, 1, 0, 0, found, 64, &count) == MARKDOWN_INLINE_NO_CONTENT && count == 77);
     input.pieces = &piece;
@@ -544,6 +548,24 @@ static void test_html_of(void) {
     want("nothing alone", markdown_inline_html_of(NULL, 0, 0, 0, NULL, 0, &count) == MARKDOWN_INLINE_DONE && count == 0);
 }
 
+/* Options of a document that ask for this alone. */
+static markdown_inline_document_options asked_for(uint32_t options, uint32_t html, size_t limit) {
+    markdown_inline_document_options asked;
+    memset(&asked, 0, sizeof asked);
+    asked.options = options;
+    asked.html = html;
+    asked.limit = limit;
+    return asked;
+}
+
+/* Calls for the HTML of a document, with an outcome that is filled beforehand. */
+static markdown_inline_outcome told;
+
+static uint32_t document_html(const char *bytes, size_t len, markdown_inline_document_options asked, uint8_t *html, size_t room) {
+    told.done = told.count = told.blamed = 77;
+    return markdown_inline_document_html((const uint8_t *)bytes, len, &asked, html, room, &told);
+}
+
 /* A document has the HTML of its blocks, which is handed out where there is room: examples of CommonMark 0.31.2 (2.2, 4.6, 4.7, 5.1, 5.3), and what the options
  * change. */
 static void test_document_html(void) {
@@ -555,34 +577,98 @@ static void test_document_html(void) {
         {"[foo]: /url \"title\"\n\n[foo]\n", "<p><a href=\"/url\" title=\"title\">foo</a></p>\n", 0},
         {"> # Foo\n> bar\n> baz\n", "<blockquote>\n<h1>Foo</h1>\n<p>bar\nbaz</p>\n</blockquote>\n", 0}, {"- foo\n- bar\n+ baz\n", "<ul>\n<li>foo</li>\n<li>bar</li>\n</ul>\n<ul>\n<li>baz</li>\n</ul>\n", 0},
         {"<div id=\"foo\"\n  class=\"bar\">\n</div>\n", "<div id=\"foo\"\n  class=\"bar\">\n</div>\n", all}, {"", "", 0}, {"<b>\n\n[a](b:c)\n", "&lt;b&gt;\n<p><a href=\"\">a</a></p>\n", 0},
-        {"<b>\n\n[a](b:c)\n", "<b>\n<p><a href=\"\">a</a></p>\n", MARKDOWN_INLINE_HTML_RAW}, {"<b>\n\n[a](b:c)\n", "&lt;b&gt;\n<p><a href=\"b:c\">a</a></p>\n", MARKDOWN_INLINE_HTML_ANY_LINK}};
-    static const struct {
-        const char *bytes;
-        size_t len;
-        uint32_t options, status;
-    } refused[] = {{"a", 1, 4, MARKDOWN_INLINE_UNKNOWN_OPTION}, {"\xff", 1, 1u << 31, MARKDOWN_INLINE_UNKNOWN_OPTION}, {"\xff", (SIZE_MAX >> 3) + 1, 4, MARKDOWN_INLINE_UNKNOWN_OPTION},
-        {"\xff", (SIZE_MAX >> 3) + 1, 0, MARKDOWN_INLINE_TOO_LONG}, {"a\xff", 2, 0, MARKDOWN_INLINE_NOT_UTF8}};
+        {"<b>\n\n[a](b:c)\n", "<b>\n<p><a href=\"\">a</a></p>\n", MARKDOWN_INLINE_HTML_RAW}, {"<b>\n\n[a](b:c)\n", "&lt;b&gt;\n<p><a href=\"b:c\">a</a></p>\n", MARKDOWN_INLINE_HTML_ANY_LINK},
+        {"\xef\xbb\xbf# a", "<h1>a</h1>\n", 0}, {"\xef\xbb\xbf", "", 0}, {"\xef\xbb\xbf[a]: b\n\n[a]", "<p><a href=\"b\">a</a></p>\n", 0},
+        {"\xef\xbb\xbf\xef\xbb\xbf# a", "<p>\xef\xbb\xbf# a</p>\n", 0}, {"a\rb\r\n# c", "<p>a\rb</p>\n<h1>c</h1>\n", 0}, {"a\rb\r\n# c", "<p>a\nb</p>\n<h1>c</h1>\n", MARKDOWN_INLINE_HTML_LF},
+        {"a\rb\n# c", "<p>a\r\nb</p>\r\n<h1>c</h1>\r\n", MARKDOWN_INLINE_HTML_CRLF}};
     uint8_t found[128], before[128];
-    size_t count;
     memset(before, 1, sizeof before);
     for (size_t at = 0; at < sizeof cases / sizeof *cases; at++) {
-        const uint8_t *bytes = (const uint8_t *)cases[at].document;
         size_t len = strlen(cases[at].html);
         for (size_t room = 0; room <= len + 2; room++) {
             size_t written = room < len ? 0 : len;
             uint32_t wanted = room < len ? MARKDOWN_INLINE_TOO_SMALL : MARKDOWN_INLINE_DONE;
             memset(found, 1, sizeof found);
-            want("a status of a document", markdown_inline_document_html(bytes, strlen(cases[at].document), cases[at].options, 0, found, room, &count) == wanted);
-            want("the HTML of a document", count == len && !memcmp(found, cases[at].html, written) && !memcmp(found + written, before, sizeof found - written));
+            want("a status of a document", document_html(cases[at].document, strlen(cases[at].document), asked_for(0, cases[at].options, 0), found, room) == wanted);
+            want("the outcome of a document", is_outcome(&told, wanted == MARKDOWN_INLINE_DONE, len, MARKDOWN_INLINE_NONE));
+            want("the HTML of a document", !memcmp(found, cases[at].html, written) && !memcmp(found + written, before, sizeof found - written));
         }
     }
+    want("no document", document_html(NULL, 0, asked_for(0, 0, 1), NULL, 0) == MARKDOWN_INLINE_DONE && is_outcome(&told, 1, 0, MARKDOWN_INLINE_NONE));
+}
+
+/* Calls for a document that is rejected: then nothing is written but the outcome. */
+static void want_rejected(const char *what, const char *bytes, size_t len, markdown_inline_document_options asked, uint32_t wanted, size_t blamed) {
+    uint8_t found[128], before[128];
+    memset(before, 1, sizeof before);
     memset(found, 1, sizeof found);
-    for (size_t at = 0; at < sizeof refused / sizeof *refused; at++) {
-        count = 77;
-        want("a document is refused", markdown_inline_document_html((const uint8_t *)refused[at].bytes, refused[at].len, refused[at].options, 1, found, 128, &count) == refused[at].status);
-        want("nothing is written of what is refused", count == 77 && !memcmp(found, before, sizeof found));
+    uint32_t status = document_html(bytes, len, asked, found, sizeof found);
+    if (status != wanted) printf("calls: %s: status %u\n", what, status);
+    want(what, status == wanted && is_outcome(&told, 0, 0, blamed) && !memcmp(found, before, sizeof found));
+}
+
+/* Each bit and each word of the options that is not known is rejected, alone and beside others; and what comes first is told. */
+static void test_document_rejected(void) {
+    static const uint32_t html_bits = MARKDOWN_INLINE_HTML_RAW | MARKDOWN_INLINE_HTML_ANY_LINK | MARKDOWN_INLINE_HTML_LF | MARKDOWN_INLINE_HTML_CRLF;
+    static const uint32_t no_options = MARKDOWN_INLINE_OPTION_FIRST_OF_ITEM | MARKDOWN_INLINE_OPTION_GFM_LABEL_START_FOOTNOTE;
+    static const struct {
+        const char *bytes;
+        size_t len, blamed;
+    } wrong[] = {{"\xff", 1, 0}, {"a\xff", 2, 1}, {"a\n\n> b \xc3", 8, 7}, {"\xc3\xa9\xed\xa0\x80", 5, 2}, {"[a]: \x80\n\n[a]\xff", 12, 5}, {"a\0\xc3(", 4, 2}, {"\xef\xbb\xbf# \xf8", 6, 5}};
+    const size_t too_long = (SIZE_MAX >> 3) + 1;
+    uint8_t found[8];
+    for (unsigned bit = 0; bit < 32; bit++) {
+        uint32_t mask = UINT32_C(1) << bit;
+        int is_option = mask < 0x800000 && !(mask & no_options), is_html = (mask & html_bits) != 0;
+        if (is_option) want("an option of a document", document_html("a", 1, asked_for(mask, 0, 0), found, 8) != MARKDOWN_INLINE_UNKNOWN_OPTION);
+        if (is_html) want("an option of HTML", document_html("a", 1, asked_for(0, mask, 0), found, 8) != MARKDOWN_INLINE_UNKNOWN_OPTION);
+        if (!is_option) want_rejected("no option of a document", "a", 1, asked_for(mask, 0, 0), MARKDOWN_INLINE_UNKNOWN_OPTION, MARKDOWN_INLINE_NONE);
+        if (!is_option) want_rejected("no option beside CommonMark", "a", 1, asked_for(MARKDOWN_INLINE_COMMONMARK | mask, 0, 0), MARKDOWN_INLINE_UNKNOWN_OPTION, MARKDOWN_INLINE_NONE);
+        if (!is_html) want_rejected("no option of HTML", "a", 1, asked_for(0, mask, 0), MARKDOWN_INLINE_UNKNOWN_OPTION, MARKDOWN_INLINE_NONE);
+        if (!is_html) want_rejected("no option beside raw HTML", "a", 1, asked_for(0, MARKDOWN_INLINE_HTML_RAW | mask, 0), MARKDOWN_INLINE_UNKNOWN_OPTION, MARKDOWN_INLINE_NONE);
     }
-    want("no document", markdown_inline_document_html(NULL, 0, 0, 1, NULL, 0, &count) == MARKDOWN_INLINE_DONE && count == 0);
+    want_rejected("two line endings", "a", 1, asked_for(0, MARKDOWN_INLINE_HTML_LF | MARKDOWN_INLINE_HTML_CRLF, 0), MARKDOWN_INLINE_UNKNOWN_OPTION, MARKDOWN_INLINE_NONE);
+    want_rejected("footnotes of a document", "a", 1, asked_for(MARKDOWN_INLINE_COMMONMARK | MARKDOWN_INLINE_GFM, 0, 0), MARKDOWN_INLINE_UNKNOWN_OPTION, MARKDOWN_INLINE_NONE);
+    for (size_t word = 0; word < 15; word++) {
+        markdown_inline_document_options asked = asked_for(0, 0, 0);
+        if (word < 2) asked.reserved[word] = word == 0 ? 1 : UINT32_C(1) << 31;
+        else asked.reserved_words[word - 2] = word % 2 ? 1 : (size_t)1 << 63;
+        want_rejected("a reserved word of a document", "a", 1, asked, MARKDOWN_INLINE_UNKNOWN_OPTION, MARKDOWN_INLINE_NONE);
+    }
+    for (size_t at = 0; at < sizeof wrong / sizeof *wrong; at++) {
+        want_rejected("a document that is not UTF-8", wrong[at].bytes, wrong[at].len, asked_for(0, 0, 0), MARKDOWN_INLINE_NOT_UTF8, wrong[at].blamed);
+        want_rejected("an unknown option comes first", wrong[at].bytes, wrong[at].len, asked_for(0, 4, 0), MARKDOWN_INLINE_UNKNOWN_OPTION, MARKDOWN_INLINE_NONE);
+    }
+    want_rejected("a document too long", "\xff", too_long, asked_for(0, 0, 1), MARKDOWN_INLINE_TOO_LONG, MARKDOWN_INLINE_NONE);
+    want_rejected("an unknown option of a document too long", "\xff", too_long, asked_for(0, 4, 1), MARKDOWN_INLINE_UNKNOWN_OPTION, MARKDOWN_INLINE_NONE);
+    want_rejected("a limit after UTF-8", "[a]: bc\n\n[a]\xff", 13, asked_for(0, 0, 1), MARKDOWN_INLINE_NOT_UTF8, 12);
+}
+
+/* The constructs of GitHub one by one, each with and without its bit (GFM 0.29: 5.3, 6.5, 6.9), and math; and the rules of the crate. */
+static void test_document_options(void) {
+    static const struct {
+        const char *document, *without, *html;
+        uint32_t bit;
+    } cases[] = {{"~~a~~ ~b~\n", "<p>~~a~~ ~b~</p>\n", "<p><del>a</del> <del>b</del></p>\n", MARKDOWN_INLINE_OPTION_GFM_STRIKETHROUGH},
+        {"# https://a.b\n", "<h1>https://a.b</h1>\n", "<h1><a href=\"https://a.b\">https://a.b</a></h1>\n", MARKDOWN_INLINE_OPTION_GFM_AUTOLINK_LITERAL},
+        {"> www.a.b\n", "<blockquote>\n<p>www.a.b</p>\n</blockquote>\n", "<blockquote>\n<p><a href=\"http://www.a.b\">www.a.b</a></p>\n</blockquote>\n", MARKDOWN_INLINE_OPTION_GFM_AUTOLINK_LITERAL},
+        {"c@d.e\n", "<p>c@d.e</p>\n", "<p><a href=\"mailto:c@d.e\">c@d.e</a></p>\n", MARKDOWN_INLINE_OPTION_GFM_AUTOLINK_LITERAL},
+        {"- [ ] foo\n- [x] bar\n", "<ul>\n<li>[ ] foo</li>\n<li>[x] bar</li>\n</ul>\n",
+            "<ul>\n<li><input type=\"checkbox\" disabled=\"\" /> foo</li>\n<li><input type=\"checkbox\" disabled=\"\" checked=\"\" /> bar</li>\n</ul>\n", MARKDOWN_INLINE_OPTION_GFM_TASK_LIST_ITEM},
+        {"[x] a\n\n- # [x] b\n", "<p>[x] a</p>\n<ul>\n<li>\n<h1>[x] b</h1>\n</li>\n</ul>\n", "<p>[x] a</p>\n<ul>\n<li>\n<h1>[x] b</h1>\n</li>\n</ul>\n", MARKDOWN_INLINE_OPTION_GFM_TASK_LIST_ITEM},
+        {"$a$\n", "<p>$a$</p>\n", "<p><code class=\"language-math math-inline\">a</code></p>\n", MARKDOWN_INLINE_MATH}};
+    static const uint32_t others = MARKDOWN_INLINE_OPTION_GFM_STRIKETHROUGH | MARKDOWN_INLINE_OPTION_GFM_AUTOLINK_LITERAL | MARKDOWN_INLINE_OPTION_GFM_TASK_LIST_ITEM | MARKDOWN_INLINE_MATH;
+    uint8_t found[256];
+    for (size_t at = 0; at < sizeof cases / sizeof *cases; at++)
+        for (int turn = 0; turn < 4; turn++) {
+            const uint32_t options = turn == 0 ? 0 : turn == 1 ? MARKDOWN_INLINE_COMMONMARK : turn == 2 ? MARKDOWN_INLINE_COMMONMARK | (others & ~cases[at].bit) : MARKDOWN_INLINE_COMMONMARK | cases[at].bit;
+            const char *html = turn < 3 ? cases[at].without : cases[at].html;
+            uint32_t status = document_html(cases[at].document, strlen(cases[at].document), asked_for(options, 0, 0), found, sizeof found);
+            if (status != MARKDOWN_INLINE_DONE || told.count != strlen(html) || memcmp(found, html, told.count)) printf("calls: of %s: %.*s", cases[at].document, (int)told.count, (const char *)found);
+            want("what GitHub adds to a document", status == MARKDOWN_INLINE_DONE && told.count == strlen(html) && !memcmp(found, html, told.count));
+        }
+    want("a document by CommonMark's names", document_html("&check;", 7, asked_for(0, 0, 0), found, 256) == MARKDOWN_INLINE_DONE && told.count == 11 && !memcmp(found, "<p>\xe2\x9c\x93</p>\n", 11));
+    want("a document by the crate's rules", document_html("&check;", 7, asked_for(MARKDOWN_INLINE_CRATE, 0, 0), found, 256) == MARKDOWN_INLINE_DONE && told.count == 19 && !memcmp(found, "<p>&amp;check;</p>\n", 19));
 }
 
 /* A limit on what definitions bring to a document: three links and images in three blocks, to each of which one brings three bytes. The room is found out behind
@@ -591,21 +677,55 @@ static void test_document_limit(void) {
     static const char document[] = "# [a]\n\n- ![a]\n\n> [b][a] [c](d)\n\n[a]: /b \"c\"\n[A]: /longer\n";
     static const char html[] = "<h1><a href=\"/b\" title=\"c\">a</a></h1>\n<ul>\n<li><img src=\"/b\" alt=\"a\" title=\"c\" /></li>\n</ul>\n"
         "<blockquote>\n<p><a href=\"/b\" title=\"c\">b</a> <a href=\"d\">c</a></p>\n</blockquote>\n";
-    const uint8_t *bytes = (const uint8_t *)document;
     uint8_t found[256], before[256];
-    size_t count, len = sizeof document - 1;
+    size_t len = sizeof document - 1;
     memset(before, 1, sizeof before);
-    for (size_t limit = 0; limit < 12; limit++) {
+    for (size_t turn = 0; turn < 13; turn++) {
+        size_t limit = turn < 12 ? turn : MARKDOWN_INLINE_NONE;
         int is_within = limit == 0 || limit >= 9;
         memset(found, 1, sizeof found);
-        count = 77;
-        want("a limit of a document without room", markdown_inline_document_html(bytes, len, 0, limit, NULL, 0, &count) == (is_within ? MARKDOWN_INLINE_TOO_SMALL : MARKDOWN_INLINE_REFERENCES));
-        want("what has no room is counted", count == (is_within ? sizeof html - 1 : 77));
-        want("a limit of a document", markdown_inline_document_html(bytes, len, 0, limit, found, sizeof found, &count) == (is_within ? MARKDOWN_INLINE_DONE : MARKDOWN_INLINE_REFERENCES));
-        want("a document is written within its limit", !memcmp(found, is_within ? (const uint8_t *)html : before, sizeof html - 1));
+        want("a limit of a document without room", document_html(document, len, asked_for(0, 0, limit), NULL, 0) == (is_within ? MARKDOWN_INLINE_TOO_SMALL : MARKDOWN_INLINE_REFERENCES));
+        want("what has no room is counted", is_outcome(&told, 0, is_within ? sizeof html - 1 : 0, MARKDOWN_INLINE_NONE));
+        want("a limit of a document", document_html(document, len, asked_for(0, 0, limit), found, sizeof found) == (is_within ? MARKDOWN_INLINE_DONE : MARKDOWN_INLINE_REFERENCES));
+        want("a document is written within its limit", is_outcome(&told, is_within, is_within ? sizeof html - 1 : 0, MARKDOWN_INLINE_NONE));
+        want("a document beyond its limit is not written", !memcmp(found, is_within ? (const uint8_t *)html : before, sizeof html - 1));
     }
-    want("a limit behind the options", markdown_inline_document_html(bytes, len, 4, 1, found, sizeof found, &count) == MARKDOWN_INLINE_UNKNOWN_OPTION);
-    want("a limit without definitions", markdown_inline_document_html((const uint8_t *)"[a](b)", 6, 0, 1, found, sizeof found, &count) == MARKDOWN_INLINE_DONE);
+    want("a limit after the options", document_html(document, len, asked_for(0, 4, 1), found, sizeof found) == MARKDOWN_INLINE_UNKNOWN_OPTION);
+    want("a limit without definitions", document_html("[a](b)", 6, asked_for(0, 0, 1), found, sizeof found) == MARKDOWN_INLINE_DONE);
+    want("a limit of bare URLs", document_html(document, len, asked_for(MARKDOWN_INLINE_COMMONMARK | MARKDOWN_INLINE_OPTION_GFM_AUTOLINK_LITERAL, 0, 8), found, sizeof found) == MARKDOWN_INLINE_REFERENCES);
+}
+
+/* The limit by default is the larger of 100000 and the length of the document, for a document, for one content of it and for many: a definition of 1000 bytes is
+ * referred to by 100 links, or by 101, in documents of these lengths. */
+static void test_default_limit(void) {
+    static const struct {
+        size_t links, len, limit;
+        int is_within;
+    } cases[] = {{100, 2000, 0, 1}, {101, 2000, 0, 0}, {101, 2000, MARKDOWN_INLINE_NONE, 1}, {101, 2000, 101000, 1}, {101, 2000, 100999, 0}, {101, 100999, 0, 0}, {101, 101000, 0, 1}, {100, 101000, 99999, 0}};
+    enum { MOST = 101000, LEAD = 5, DESTINATION = 1000 };
+    char *text = (char *)malloc(MOST);
+    uint8_t *html = (uint8_t *)malloc(2 * MOST + 4096);
+    if (!text || !html) exit(1);
+    for (size_t at = 0; at < sizeof cases / sizeof *cases; at++) {
+        const size_t len = cases[at].len, limit = cases[at].limit, front = LEAD + DESTINATION + 2, room = 2 * MOST + 4096;
+        const uint32_t wanted = cases[at].is_within ? MARKDOWN_INLINE_DONE : MARKDOWN_INLINE_REFERENCES;
+        markdown_inline_range label = {1, 2};
+        markdown_inline_target target = {{LEAD, LEAD + DESTINATION}, {0, 0}, 0, 0};
+        markdown_inline_piece piece = {front, 0, len, 0};
+        markdown_inline_content content = {{0, 1}, 0, 0};
+        markdown_inline_outcome outcome;
+        size_t count, end;
+        memset(text, 'x', len);
+        memcpy(text, "[a]: ", LEAD);
+        memcpy(text + LEAD + DESTINATION, "\n\n", 2);
+        for (size_t link = 0; link < cases[at].links; link++) memcpy(text + front + 4 * link, "[a] ", 4);
+        markdown_inline_input input = {(const uint8_t *)text, len, &piece, 1, (const uint8_t *)text, len, &label, 1, NULL, 0, MARKDOWN_INLINE_COMMONMARK, 0};
+        want("the limit of a document by default", document_html(text, len, asked_for(0, 0, limit), html, room) == wanted);
+        want("the limit of a content by default", markdown_inline_html(&input, &target, 1, 0, limit, html, room, &count) == wanted);
+        want("the limit of contents by default", markdown_inline_htmls(&input, &target, 1, &content, 1, 0, limit, html, room, &end, 1, &outcome) == wanted);
+    }
+    free(text);
+    free(html);
 }
 
 /* A document has blocks with the pieces of their texts, which are handed out where both have room: an example with a block of each kind. */
@@ -1066,7 +1186,7 @@ static int call_once(const char *call) {
     if (!strcmp(call, "short_texts")) return (int)markdown_inline_short_texts(&input, contents, 2, short_events, 256, ends, 2, &outcome);
     if (!strcmp(call, "html")) return (int)markdown_inline_html(&input, &target, 1, 0, 0, bytes, 512, &count);
     if (!strcmp(call, "html_of")) return (int)markdown_inline_html_of((const uint8_t *)"a *b* [c](/d)", 13, input.options, 0, bytes, 512, &count);
-    if (!strcmp(call, "document_html")) return (int)markdown_inline_document_html((const uint8_t *)"# a\n\n> - *b* [c]\n\n[c]: /d\n", 27, 0, 2, bytes, 512, &count);
+    if (!strcmp(call, "document_html")) return (int)document_html("# a\n\n> - *b* [c]\n\n[c]: /d\n", 27, asked_for(0, 0, 2), bytes, 512);
     if (!strcmp(call, "blocks")) {
         markdown_inline_block blocks[8];
         markdown_inline_blocks_count blocks_count;
@@ -1110,7 +1230,10 @@ int main(int argc, char **argv) {
     test_html();
     test_html_of();
     test_document_html();
+    test_document_rejected();
+    test_document_options();
     test_document_limit();
+    test_default_limit();
     test_blocks();
     test_definitions();
     test_htmls();

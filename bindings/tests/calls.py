@@ -1,5 +1,6 @@
 """What the calls answer, and their statuses; and the tests of the modules that are named at the end."""
 import doctest
+import math
 import os
 import sys
 import unittest
@@ -231,7 +232,7 @@ class Calls(unittest.TestCase):
         document = '[a] ' * 101
         self.assertRaises(References, htmls, document, one, definitions=defined)
         self.assertRaises(References, htmls, document, one, definitions=defined, reference_limit=100_999)
-        for asked in ({'reference_limit': 101_000}, {'reference_limit': 0}):
+        for asked in ({'reference_limit': 101_000}, {'reference_limit': math.inf}):
             self.assertEqual(htmls(document, one, definitions=defined, **asked), [html(document, definitions=defined, **asked)])
         self.assertEqual(len(htmls(document + '\n\n' + 'x' * 100_594, one, definitions=defined)), 1)
         for wrong, error in ((-1, OverflowError), (2 ** 64, OverflowError), (True, TypeError), ('1', TypeError)):
@@ -243,7 +244,7 @@ class Calls(unittest.TestCase):
         self.assertRaises(References, html, document, **asked)
         self.assertRaises(References, html, document, reference_limit=100_000, **asked)
         for task in (False, True):
-            found = html(document, task=task, reference_limit=0, **asked)
+            found = html(document, task=task, reference_limit=math.inf, **asked)
             self.assertEqual(found, html(document, task=task, reference_limit=100_001, **asked))
             self.assertEqual('checkbox' in found, task)
         # Where no references can bring more than the limit, and where they could, the same is wrong.

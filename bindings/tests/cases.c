@@ -131,17 +131,21 @@ static uint32_t answer_html(markdown_inline_input *input, char **words) {
 }
 
 static uint32_t answer_document(const markdown_inline_input *input, char **words) {
-    size_t count = 0, limit = strtoul(words[1], NULL, 10);
+    markdown_inline_document_options options;
+    markdown_inline_outcome outcome = {0, 0, 0};
     uint8_t *html = NULL;
-    uint32_t options = (uint32_t)strtoul(words[0], NULL, 10);
-    uint32_t status = markdown_inline_document_html(input->bytes, input->bytes_len, options, limit, NULL, 0, &count);
+    memset(&options, 0, sizeof options);
+    options.options = input->options;
+    options.html = (uint32_t)strtoul(words[0], NULL, 10);
+    options.limit = strtoul(words[1], NULL, 10);
+    uint32_t status = markdown_inline_document_html(input->bytes, input->bytes_len, &options, NULL, 0, &outcome);
     if (status == MARKDOWN_INLINE_TOO_SMALL) {
-        html = (uint8_t *)room(count, 1);
-        status = markdown_inline_document_html(input->bytes, input->bytes_len, options, limit, html, count, &count);
+        html = (uint8_t *)room(outcome.count, 1);
+        status = markdown_inline_document_html(input->bytes, input->bytes_len, &options, html, outcome.count, &outcome);
     }
     if (status == MARKDOWN_INLINE_DONE) {
         printf(" ");
-        print_bytes(html, count);
+        print_bytes(html, outcome.count);
     }
     free(html);
     return status;

@@ -10,6 +10,7 @@ from itertools import accumulate
 
 from markdown_inline import COMMONMARK, CRATE, GFM, MATH, OPTIONS, Content, Error, Kind, Piece, blocks, document_html, html, htmls, leaves, short_texts, string, text, texts
 
+OF_DOCUMENTS = {'strikethrough': 'gfm_strikethrough', 'bare_urls': 'gfm_autolink_literal', 'tasks': 'gfm_task_list_item', 'math': 'math_text'}
 SWITCHES, SETS = {'gfm': GFM, 'math': MATH, 'task': OPTIONS['first_of_item']}, {'commonmark': COMMONMARK, 'crate': CRATE}
 # How many cases come at least in all, of each kind, and by words. A file has kinds of one of these rows.
 LEAST, KINDS = 600, ({'text': 400, 'string': 40}, {'leaves': 300, 'html': 300, 'texts': 60, 'shorts': 60, 'htmls': 60, 'document': 60, 'blocks': 60})
@@ -84,8 +85,9 @@ def asked(bits, how):
 
 
 def held(bits):
-    """What HTML may hold."""
-    return {'raw_html': bool(int(bits) & 1), 'any_link': bool(int(bits) & 2)}
+    """What HTML may contain, and how its line endings are written."""
+    bits = int(bits)
+    return {'raw_html': bool(bits & 1), 'any_link': bool(bits & 2), 'line_ends': '\n' if bits & 0x20 else '\r\n' if bits & 0x40 else None}
 
 
 def shown_block(block):
@@ -100,7 +102,7 @@ def all_blocks(found):
     return ''.join(map(shown_block, found)) + ''.join(defined)
 
 
-def found(how, document, spans, given, places, labels, rest):
+def found(how, bits, document, spans, given, places, labels, rest):
     if how == 'string':
         return all_shown(string(document, spans, options=given['options']), places)
     if how == 'text':
@@ -111,12 +113,13 @@ def found(how, document, spans, given, places, labels, rest):
         defined = dict(zip(labels, map(target, listed(rest[1]))))
         return ' ' + html(document, spans, definitions=defined, **held(rest[0]), **given).encode().hex()
     if how == 'document':
-        return ' ' + document_html(document, **held(rest[0]), reference_limit=int(rest[1])).encode().hex()
+        added = {word: bool(bits & OPTIONS[name]) for word, name in OF_DOCUMENTS.items()}
+        return ' ' + document_html(document, **added, **held(rest[0]), reference_limit=int(rest[1]) or None).encode().hex()
     if how == 'blocks':
-        return all_blocks(blocks(document, **held(rest[0]), reference_limit=int(rest[1]), **given))
+        return all_blocks(blocks(document, **held(rest[0]), reference_limit=int(rest[1]) or None, **given))
     if how == 'htmls':
         defined, contents = dict(zip(labels, map(target, listed(rest[1])))), [content(it, spans) for it in listed(rest[2])]
-        written = htmls(document, contents, definitions=defined, **held(rest[0]), reference_limit=int(rest[3]), **given)
+        written = htmls(document, contents, definitions=defined, **held(rest[0]), reference_limit=int(rest[3]) or None, **given)
         return ''.join(' |' + it.encode().hex() for it in written)
     contents = [content(it, spans) for it in listed(rest[0])]
     if how == 'shorts':
@@ -132,7 +135,7 @@ def answer(number, line):
     defined, noted = ([bytes.fromhex(it) for it in listed(word)] for word in (labels, notes))
     given, places = {**asked(int(bits), how), 'footnotes': noted}, Places(document, number % 2)
     try:
-        return how + found(how, document.decode() if number % 2 else document, spans, given, places, defined, rest)
+        return how + found(how, int(bits), document.decode() if number % 2 else document, spans, given, places, defined, rest)
     except Error as error:
         blamed = '' if error.at is None else ' %d' % error.at
         return how + {'string': ' no content', 'text': ' no text'}.get(how, blamed + ': ' + str(error))

@@ -1,4 +1,5 @@
 """A small client, which typed.py hands to mypy."""
+from math import inf
 from typing import Dict, List, Optional, Tuple
 
 from markdown_inline import (
@@ -27,7 +28,7 @@ def many(document: bytes) -> int:
 
 
 def headings(document: str) -> List[Tuple[int, int, str]]:
-    found: Blocks = blocks(document, gfm=True, columns='utf-16', reference_limit=0)
+    found: Blocks = blocks(document, gfm=True, columns='utf-16', line_ends='\n', reference_limit=1000)
     defined: List[Definition] = found.definitions
     places: List[int] = [event.line for block in found for event in block.events] + [it.line for it in found.links]
     some: List[Block] = [it for it in found[:9] if it.kind == BlockKind.Heading and len(defined) + len(places) + len(it.pieces) > 0]
@@ -40,7 +41,7 @@ def words(document: str, defined: Dict[str, str]) -> List[str]:
     root: Tree = tree(document)
     nodes: List[Node] = [it for it in root.find(Name.Link, Name.Image) for it in it.children]
     try:
-        found = [html(document, definitions=defined), document_html(document, raw_html=True), *htmls(document, [], definitions=titled), *strings(document, [[(0, 1)]], rules='crate')]
+        found = [html(document, definitions=defined), document_html(document, raw_html=True, strikethrough=True, tasks=True, line_ends='\n', reference_limit=inf), *htmls(document, [], definitions=titled), *strings(document, [[(0, 1)]], rules='crate')]
     except Error as error:
         found = ['%d %s' % (error.status, error.at)]
     return found + [it.text for it in nodes] + [it.title or it.destination for it in addresses] + [identifier('A'), reference('&amp;'), str(is_text('a')), __version__]

@@ -1,5 +1,6 @@
 """The blocks of documents, and what stands in their texts. A renderer made of them writes the HTML that `document_html` writes."""
 import copy
+import math
 import os
 import pickle
 import random
@@ -102,7 +103,7 @@ class Writer:
             return '<p>%s</p>\n' % block.html
         lines = block.lines
         if block.kind == BlockKind.Html:
-            return ''.join(it if self.raw_html else escaped(it) for it in ended(lines))
+            return ''.join(it.replace('\0', '\ufffd') if self.raw_html else escaped(it) for it in ended(lines))
         while block.kind == BlockKind.IndentedCode and not lines[-1].strip(' \t\r\n'):
             lines.pop()
         language = next(filter(None, re.split('[ \t\n\f\r]', block.info or '')), '')
@@ -110,8 +111,8 @@ class Writer:
 
 
 def ended(lines):
-    """Lines with their line endings, and one where the document ends without."""
-    return (it if it.endswith(('\n', '\r')) else it + '\n' for it in lines)
+    """Lines with their line endings: a line feed where the document ends without one, and for a carriage return alone, which would join with a line feed after it."""
+    return (it if it.endswith('\n') else it.rstrip('\r') + '\n' for it in lines)
 
 
 class Rendered(unittest.TestCase):
@@ -121,8 +122,8 @@ class Rendered(unittest.TestCase):
         for _, document, _ in rows:
             for asked in ({}, {'raw_html': True, 'any_link': True}):
                 for given in (document, document.encode()):
-                    found = blocks(given, reference_limit=0, **asked)
-                    self.assertEqual(Writer(bool(asked)).write(found), document_html(given, reference_limit=0, **asked), document)
+                    found = blocks(given, reference_limit=math.inf, **asked)
+                    self.assertEqual(Writer(bool(asked)).write(found), document_html(given, reference_limit=math.inf, **asked), document)
 
     def test_drawn(self):
         draw = random.Random(1)

@@ -8,14 +8,14 @@ the pieces, the labels of definitions and of footnotes, the document; texts in h
 calls that the program does not make, which the callers compare among each other: a text's leaves; its HTML, with two words more, the bits of what it
 may hold, and the destination of each definition behind a `=`, with a title behind a colon where it has one; the texts of several contents, also in short
 events, with one word more, each content's first and last piece, and whether it begins a list item; and the HTML of a document, and its blocks, with two words
-more, the bits of what the HTML may hold, and how many bytes definitions may bring."""
+more, the bits of what the HTML may hold, and how many bytes definitions may bring, where 0 is the default."""
 import os
 import random
 import re
 import sys
 
 sys.path.insert(0, os.path.join(os.path.dirname(os.path.abspath(__file__)), '..', 'python', 'markdown_inline'))
-from _tables import CRATE, GFM, MATH, OPTIONS  # noqa: E402
+from _tables import COMMONMARK, CRATE, GFM, MATH, OPTIONS  # noqa: E402
 
 # What the program calls the options.
 CONSTRUCTS = ['commonmark' if name == 'standard_rules' else name for name in OPTIONS]
@@ -23,6 +23,10 @@ FIRST_OF_ITEM = OPTIONS['first_of_item']
 # Drawn as often as not; and what says a part of the last of them, drawn in a quarter of the cases.
 RARE = FIRST_OF_ITEM | OPTIONS['standard_rules']
 PARTS_OF_RULES = sum(OPTIONS[name] for name in ('attention_first_lengths', 'label_shortcut_before_bracket', 'html_references'))
+# What a document may be read with, beside CommonMark.
+OF_DOCUMENTS = [OPTIONS[name] for name in ('gfm_strikethrough', 'gfm_autolink_literal', 'gfm_task_list_item', 'math_text')]
+# The bits of HTML by which line endings are written.
+LINE_ENDS = [0, 0, 0x20, 0x40]
 PARTS = ['a', 'bc', 'é', '漢', '😀', ' ', '  ', '\t', '*', '**', '_', '~', '~~', '`', '``', '$', '$$', '[', ']', '![', '](', ')', '(', '<', '>', '"', "'",
          '\\', '&', ';', '!', '#', '@', ':', '.', '/', '[x] ', '[a]', '[^n]', '[b c][]', '[d](e "f")', '![g](<h i>)', '&amp;', '&#65;', '&#x1f4a9;', '&copy;',
          '&nosuch;', '&check;', '<https://j.k>', '<l@m.n>', 'https://o.p/q', 'www.r.s', 't@u.v', '<w x="y">', '</z>', '<!-- c -->', '<?p?>', '\\*', '\\\n', '  \n', '\n',
@@ -31,7 +35,7 @@ PREFIXES = ['', '> ', '>', '   ', '- ', '\t', ' \t', '>\t', '1. ']
 LABELS = ['a', 'b c', 'd', 'é', 'word', 'x']
 NOTES = ['n', 'a', '*b*']
 TARGETS = ['', '/u', 'http://v.w', 'javascript:x', ' y:z', '"&<>', 'é?a=b&c', 'mailto:d@e']
-BLOCKS = ['', '', '# ', '    ', '- ', '3) ', '> ', '~~~ é\n', '<div>\n', '[a]: /u "f"\n', '[A]: v\n\n[a] ![b][a]\n', '***\n', '-\t\t', '>\t\t']
+BLOCKS = ['', '', '# ', '    ', '- ', '- [ ] ', '3) ', '> ', '~~~ é\n', '<div>\n', '[a]: /u "f"\n', '[A]: v\n\n[a] ![b][a]\n', '***\n', '-\t\t', '>\t\t']
 TITLES = [None, '', 'f', 'g "h" <i>', "&amp;'"]
 ESCAPES = {'\\': '\\\\', '\n': '\\n', '\r': '\\r', '\t': '\\t', '\0': '\\0'}
 
@@ -93,7 +97,12 @@ def in_html(draw, labels):
     """The words that a call for HTML has more."""
     targets = [(draw.choice(TARGETS), draw.choice(TITLES)) for _ in labels]
     written = ['=' + it.encode().hex() + ('' if title is None else ':' + title.encode().hex()) for it, title in targets]
-    return ' %d %s' % (draw.randrange(4), ','.join(written) or '-')
+    return ' %d %s' % (html_bits(draw), ','.join(written) or '-')
+
+
+def html_bits(draw):
+    """What HTML may contain, and how its line endings are written."""
+    return draw.randrange(4) | draw.choice(LINE_ENDS)
 
 
 def several(draw, cases, how='texts'):
@@ -114,10 +123,11 @@ def several_in_html(draw, cases):
 
 def in_blocks(draw, cases, how='document'):
     """A call for the HTML, or for the blocks, of a document of these cases, each behind something that may begin a block. Blocks have the options and the
-    footnotes of the first."""
+    footnotes of the first, and HTML has options of its own."""
     document = b''.join(draw.choice(BLOCKS).encode() + given + draw.choice([b'\n', b'\r\n\r\n']) for *_, given in cases)
-    bits, notes = (cases[0][1] & ~FIRST_OF_ITEM, cases[0][4]) if how == 'blocks' else (0, [])
-    return line(how, bits, [], [], notes, document) + ' %d %d' % (draw.randrange(4), draw.choice([0, 0, 1, 4, 16, 64]))
+    of_document = COMMONMARK | sum(it for it in OF_DOCUMENTS if draw.random() < 0.5)
+    bits, notes = (cases[0][1] & ~FIRST_OF_ITEM, cases[0][4]) if how == 'blocks' else (of_document, [])
+    return line(how, bits, [], [], notes, document) + ' %d %d' % (html_bits(draw), draw.choice([0, 0, 1, 4, 16, 64]))
 
 
 def more(draw, drawn):

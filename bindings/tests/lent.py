@@ -209,7 +209,7 @@ class Lent(unittest.TestCase):
         length = 2 ** 32 + 56
 
         def call(lent, room, count):
-            count._obj.value = room
+            count.value = room
             return _library.DONE
 
         with mock.patch.object(_library, '_lend', lambda _: (ctypes.c_char * length).from_buffer(mmap.mmap(-1, length))):
@@ -240,7 +240,7 @@ class Lent(unittest.TestCase):
         def call(lent, room, count):
             self.assertLessEqual(room * 56, len(lent))
             calls.append(room)
-            count._obj.value = room + 1
+            count.value = room + 1
             return _library.TOO_SMALL
 
         self.assertRaises(RuntimeError, _library.filled, call, 56, 64 * 56)

@@ -63,9 +63,16 @@ class Program(unittest.TestCase):
     def test_documents(self):
         given, found = b'# a *b*\n\n- [c](/d)\n', '<h1>a <em>b</em></h1>\n<ul>\n<li><a href="/d">c</a></li>\n</ul>\n'
         self.assertEqual(run('--document', given=given), (0, found, ''))
-        self.assertEqual(run('--document', 'raw', given=b'<b>\n\n[a](b:c)\n'), (0, '<b>\n<p><a href="">a</a></p>\n', ''))
-        self.assertEqual(run('--document', given=b'a\xff'), (3, '', 'markdown_inline: document is not UTF-8\n'))
-        for words in (('--document', '--raw'), ('--document', '-'), ('--document', '--document'), ('text', '--document')):
+        for words, document, html in (
+                ('--raw', b'<b>\n\n[a](b:c)\n', '<b>\n<p><a href="">a</a></p>\n'), ('--any-link', b'<b>\n\n[a](b:c)\n', '&lt;b&gt;\n<p><a href="b:c">a</a></p>\n'),
+                ('--strikethrough', b'~a~ $b$ c@d.e', '<p><del>a</del> $b$ c@d.e</p>\n'), ('--math', b'~a~ $b$ c@d.e', '<p>~a~ <code class="language-math math-inline">b</code> c@d.e</p>\n'),
+                ('--bare-urls', b'~a~ $b$ c@d.e', '<p>~a~ $b$ <a href="mailto:c@d.e">c@d.e</a></p>\n'),
+                ('--tasks', b'- [ ] a', '<ul>\n<li><input type="checkbox" disabled="" /> a</li>\n</ul>\n'), ('--lf', b'a\rb', '<p>a\nb</p>\n'), ('--crlf', b'a\rb', '<p>a\r\nb</p>\r\n'),
+                ('--crlf --lf', b'a\rb', '<p>a\nb</p>\n'), ('', '\ufeff# a'.encode(), '<h1>a</h1>\n')):
+            self.assertEqual(run('--document', *words.split(), given=document), (0, html, ''))
+        for document, place in ((b'a\xff', 'line 1, column 2'), ('é\r\na\rüb'.encode() + b'\xe2\x82', 'line 3, column 3'), (b'\n\xff', 'line 2, column 1')):
+            self.assertEqual(run('--document', given=document), (3, '', 'markdown_inline: document is not UTF-8: %s\n' % place))
+        for words in (('--document', '--gfm'), ('--document', '-'), ('--document', '--document'), ('text', '--document'), ('text', '--raw'), ('--html', '--lf')):
             self.assertEqual(run(*words, given=b'a')[:2], (2, ''), words)
         with tempfile.TemporaryDirectory() as room:
             files = [os.path.join(room, it) for it in ('a.md', 'é', 'c')]
@@ -73,9 +80,9 @@ class Program(unittest.TestCase):
                 with open(path, 'wb') as file:
                     file.write(words)
             self.assertEqual(run('--document', *files[:2]), (0, found + '&lt;b&gt;\n<p><a href="">a</a></p>\n', ''))
-            self.assertEqual(run('--document', 'any-link', 'raw', files[1]), (0, '<b>\n<p><a href="b:c">a</a></p>\n', ''))
+            self.assertEqual(run('--document', '--any-link', '--raw', files[1]), (0, '<b>\n<p><a href="b:c">a</a></p>\n', ''))
             # Where a file is refused, nothing is written of the others.
-            self.assertEqual(run('--document', *files), (3, '', 'markdown_inline: %r: document is not UTF-8\n' % files[2]))
+            self.assertEqual(run('--document', *files), (3, '', 'markdown_inline: %r: document is not UTF-8: line 1, column 1\n' % files[2]))
             for path in (room, os.path.join(room, 'none'), os.fsdecode(b'none\xff')):
                 self.assertEqual(run('--document', files[0], path), (6, '', 'markdown_inline: %r: read failed\n' % path))
 
@@ -123,6 +130,7 @@ class Program(unittest.TestCase):
 
         document = b'[a]\n\n' * 101 + b'[a]: ' + b'x' * 1000
         self.assertEqual(run('--document', given=document), (11, '', 'markdown_inline: references bring more than the limit\n'))
+        self.assertEqual([run('--document', *words, given=document)[0] for words in (['--no-limit'], ['--lf'])], [0, 11])
         self.assertEqual(run('--document', given=document[5:])[0], 0)
         with tempfile.NamedTemporaryFile() as file:
             file.write(document)

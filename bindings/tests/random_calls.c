@@ -103,7 +103,7 @@ static int is_filled_but(const stretch *from, const void *array, size_t len) {
     return !memcmp(from->lent, filled, at) && !memcmp(from->lent + at + len, filled, from->size - at - len);
 }
 
-static stretch of_bytes, of_pieces, of_labels, of_definitions, of_footnotes, of_contents, of_targets, of_input, of_found, of_more, of_ends, of_count, of_outcome;
+static stretch of_bytes, of_pieces, of_labels, of_definitions, of_footnotes, of_contents, of_targets, of_input, of_asked, of_found, of_more, of_ends, of_count, of_outcome;
 
 /* A case: what is drawn, before it is lent. */
 typedef struct drawn {
@@ -115,6 +115,7 @@ typedef struct drawn {
     size_t bytes_len, pieces_len, labels_len, definitions_len, footnotes_len, targets_len, contents_len;
     uint32_t options, reserved, html_options, string_options;
     size_t limit;
+    markdown_inline_document_options asked;
 } drawn;
 
 static const char *const PARTS[] = {"a", "bc", "\xc3\xa9", "\xe6\xbc\xa2", "\xf0\x9f\x98\x80", " ", "  ", "\t", "*", "**", "_", "~", "~~", "`", "``", "$", "$$", "[", "]",
@@ -222,6 +223,21 @@ static void draw_contents(drawn *it) {
     }
 }
 
+/* Bits of HTML, few of which are unknown or say two line endings. */
+static uint32_t draw_html_options(void) {
+    uint32_t found = (uint32_t)below(4) | (one_in(4) ? MARKDOWN_INLINE_HTML_LF : 0) | (one_in(4) ? MARKDOWN_INLINE_HTML_CRLF : 0);
+    return one_in(40) ? found | 4u << below(30) : found;
+}
+
+/* The options of a document: those of the case, most of them as they may be. */
+static void draw_asked(drawn *it) {
+    memset(&it->asked, 0, sizeof it->asked);
+    it->asked.options = one_in(3) ? 0 : it->options & ~(uint32_t)(one_in(60) ? 0 : MARKDOWN_INLINE_OPTION_FIRST_OF_ITEM | MARKDOWN_INLINE_OPTION_GFM_LABEL_START_FOOTNOTE);
+    it->asked.html = draw_html_options();
+    if (one_in(60)) it->asked.reserved[below(2)] = (uint32_t)draw();
+    if (one_in(60)) it->asked.reserved_words[below(13)] = one_in(2) ? 1 : (size_t)draw();
+}
+
 static void draw_case(drawn *it) {
     draw_document(it);
     draw_pieces(it);
@@ -230,12 +246,12 @@ static void draw_case(drawn *it) {
     it->options = (one_in(2) ? MARKDOWN_INLINE_COMMONMARK : MARKDOWN_INLINE_CRATE) | (one_in(2) ? MARKDOWN_INLINE_GFM : 0) | (one_in(2) ? MARKDOWN_INLINE_MATH : 0);
     if (one_in(3)) it->options ^= (uint32_t)draw() & 0x7fffff;
     if (one_in(40)) it->options |= 0x800000u << below(9);
-    it->html_options = (uint32_t)below(4);
+    it->html_options = draw_html_options();
     it->limit = 0;
+    draw_asked(it);
     it->reserved = one_in(60) ? (uint32_t)draw() : 0;
     for (size_t at = 0; at < it->targets_len; at++) it->targets[at].reserved = one_in(100) ? (uint32_t)draw() : 0;
     for (size_t at = 0; at < it->contents_len; at++) it->contents[at].reserved = one_in(100) ? (uint32_t)draw() : 0;
-    if (one_in(40)) it->html_options |= 4u << below(30);
     it->string_options = (uint32_t)below(4);
     if (one_in(60)) it->string_options |= 4u << below(30);
     if (one_in(100)) it->bytes_len = (SIZE_MAX >> 3) + 1 + below(2) * (SIZE_MAX >> 1);
@@ -372,10 +388,22 @@ static int are_texts_options(const drawn *it) {
     return are_options(it);
 }
 
+static int is_html_option(uint32_t options) {
+    const uint32_t two = MARKDOWN_INLINE_HTML_LF | MARKDOWN_INLINE_HTML_CRLF;
+    return !(options & ~(MARKDOWN_INLINE_HTML_RAW | MARKDOWN_INLINE_HTML_ANY_LINK | two)) && (options & two) != two;
+}
+
 static int are_html_options(const drawn *it) {
     for (size_t at = 0; at < it->targets_len; at++)
         if (it->targets[at].reserved) return 0;
-    return it->html_options < 4;
+    return is_html_option(it->html_options);
+}
+
+static int are_asked(const markdown_inline_document_options *asked) {
+    for (size_t at = 0; at < 13; at++)
+        if (asked->reserved_words[at]) return 0;
+    return !asked->reserved[0] && !asked->reserved[1] && is_html_option(asked->html) && asked->options < 0x800000
+        && !(asked->options & (MARKDOWN_INLINE_OPTION_FIRST_OF_ITEM | MARKDOWN_INLINE_OPTION_GFM_LABEL_START_FOOTNOTE));
 }
 
 static uint32_t string_status(const drawn *it) { return are_options(it) ? content_status(it) : (uint32_t)MARKDOWN_INLINE_UNKNOWN_OPTION; }
@@ -465,6 +493,7 @@ typedef union answer {
 static markdown_inline_input *input;
 static const markdown_inline_content *contents;
 static const markdown_inline_target *targets;
+static const markdown_inline_document_options *asked;
 static size_t ends_len, found_len;
 static size_t *ends, *count;
 static markdown_inline_outcome *outcome;
@@ -486,10 +515,13 @@ static void lend_case(const drawn *it) {
     whole.footnotes = (const markdown_inline_range *)lend(&of_footnotes, it->footnotes, it->footnotes_len, sizeof *it->footnotes);
     contents = (const markdown_inline_content *)lend(&of_contents, it->contents, it->contents_len, sizeof *it->contents);
     targets = (const markdown_inline_target *)lend(&of_targets, it->targets, it->targets_len, sizeof *it->targets);
+    asked = (const markdown_inline_document_options *)lend(&of_asked, &it->asked, 1, sizeof it->asked);
     input = (markdown_inline_input *)(uintptr_t)lend(&of_input, &whole, 1, sizeof whole);
 }
 
 static int is_for_many(which call) { return call >= TEXTS; }
+
+static int has_outcome(which call) { return is_for_many(call) || call == DOCUMENT_HTML; }
 
 static size_t size_of(which call) {
     switch (call) {
@@ -514,7 +546,7 @@ static uint32_t made(which call, const drawn *it, void *array, size_t len) {
     case LEAVES: return markdown_inline_leaves(input, (markdown_inline_leaf *)array, len, count);
     case HTML: return markdown_inline_html(input, targets, it->targets_len, it->html_options, it->limit, (uint8_t *)array, len, count);
     case HTML_OF: return markdown_inline_html_of(input->bytes, input->bytes_len, input->options, it->html_options, (uint8_t *)array, len, count);
-    case DOCUMENT_HTML: return markdown_inline_document_html(input->bytes, input->bytes_len, it->html_options, it->limit, (uint8_t *)array, len, count);
+    case DOCUMENT_HTML: return markdown_inline_document_html(input->bytes, input->bytes_len, asked, (uint8_t *)array, len, outcome);
     case IDENTIFIER: return markdown_inline_identifier(input->labels, input->labels_len, (uint8_t *)array, len, count);
     case REFERENCE: return markdown_inline_reference(input->options, input->labels, input->labels_len, (uint8_t *)array, len, count);
     case TEXTS: return markdown_inline_texts(input, contents, it->contents_len, (markdown_inline_event *)array, len, ends, ends_len, outcome);
@@ -524,6 +556,9 @@ static uint32_t made(which call, const drawn *it, void *array, size_t len) {
     default: return markdown_inline_strings(input->options, it->string_options, input->labels, input->labels_len, parts, parts_len, strings, it->contents_len, (uint8_t *)array, len, ends, ends_len, outcome);
     }
 }
+
+/* How often a document has been told to have a wrong byte behind its first one. */
+static size_t document_blames;
 
 /* Makes a call with room for so many elements and so many ends, and looks at what it has written. Answers its status. */
 static uint32_t called(which call, const drawn *it, size_t room, size_t room_of_ends) {
@@ -542,6 +577,12 @@ static uint32_t called(which call, const drawn *it, size_t room, size_t room_of_
         written_ends = outcome->done;
         written = written_ends > 0 && written_ends <= room_of_ends ? ends[written_ends - 1] : 0;
         want("no count is written by a call for many", *count == before);
+    } else if (has_outcome(call)) {
+        written = is_done ? outcome->count : 0;
+        want("no count is written beside an outcome", *count == before);
+        want("a document is done where it is written", outcome->done == (size_t)is_done && (is_counted || outcome->count == 0));
+        want("what the model blames", outcome->blamed == (status == MARKDOWN_INLINE_NOT_UTF8 ? utf8_len(it->bytes, it->bytes_len) : MARKDOWN_INLINE_NONE));
+        document_blames += status == MARKDOWN_INLINE_NOT_UTF8 && outcome->blamed > 0;
     } else {
         want("no outcome of one", outcome->done == before && outcome->count == before && outcome->blamed == before);
         want("no count is written where there is none", is_counted || *count == before);
@@ -550,7 +591,7 @@ static uint32_t called(which call, const drawn *it, size_t room, size_t room_of_
     if (written > room || written_ends > room_of_ends) return status;
     want("nothing is written but what is counted", is_filled_but(&of_found, array, written * each) && is_filled_but(&of_ends, ends, written_ends * sizeof *ends)
             && is_filled_but(&of_count, count, sizeof *count) && is_filled_but(&of_outcome, outcome, sizeof *outcome));
-    found_len = is_for_many(call) ? outcome->count : is_counted ? *count : 0;
+    found_len = has_outcome(call) ? outcome->count : is_counted ? *count : 0;
     if (written) memcpy(found.bytes, array, written * each);
     if (written_ends) memcpy(found_ends, ends, written_ends * sizeof *ends);
     return status;
@@ -1004,7 +1045,7 @@ static void try_whole(const drawn *it) {
 
 /* Whether each element of HTML ends in the one in which it begins. No `<` is text. */
 static int is_nested(const uint8_t *html, size_t len) {
-    static const char *const EMPTY[] = {"br", "hr", "img"};
+    static const char *const EMPTY[] = {"br", "hr", "img", "input"};
     const uint8_t *open[4 * BYTES];
     size_t depth = 0;
     for (size_t at = 0; at < len; at++) {
@@ -1053,22 +1094,22 @@ static size_t draw_references(drawn *it) {
     return times[0] * brought[0] + times[1] * brought[1];
 }
 
-/* A limit holds of what definitions bring to a document; 0 is none. */
+/* A limit holds of what definitions bring to a document; 0 is more than these bring, and the highest number is no limit. */
 static void try_document_limit(const drawn *it) {
     static answer html;
     drawn limited = *it;
     size_t brought = draw_references(&limited);
     call_name = NAMES[DOCUMENT_HTML];
-    limited.html_options &= 3;
-    limited.limit = 0;
+    limited.asked = (markdown_inline_document_options){0, limited.html_options & 3, {0}, 0, {0}};
     lend_case(&limited);
-    want("no limit of a document", called(DOCUMENT_HTML, &limited, sizeof found, 0) == MARKDOWN_INLINE_DONE);
+    want("the limit of a document by default", called(DOCUMENT_HTML, &limited, sizeof found, 0) == MARKDOWN_INLINE_DONE);
     size_t len = found_len;
     html = found;
-    for (int turn = 0; turn < 4; turn++) {
-        limited.limit = turn == 0 ? brought : turn == 1 ? brought + 1 + below(9) : 1 + below(brought > 0 ? brought : 1);
+    for (int turn = 0; turn < 5; turn++) {
+        size_t limit = turn == 0 ? brought : turn == 1 ? brought + 1 + below(9) : turn == 2 ? MARKDOWN_INLINE_NONE : 1 + below(brought > 0 ? brought : 1);
+        limited.asked.limit = limit;
         lend_case(&limited);
-        if (limited.limit == 0 || limited.limit >= brought)
+        if (limit == 0 || limit >= brought)
             want("as much as the limit of a document", called(DOCUMENT_HTML, &limited, sizeof found, 0) == MARKDOWN_INLINE_DONE && found_len == len && !memcmp(html.bytes, found.bytes, len));
         else
             want("more than the limit of a document", called(DOCUMENT_HTML, &limited, sizeof found, 0) == MARKDOWN_INLINE_REFERENCES);
@@ -1081,10 +1122,10 @@ static void try_document(const drawn *it) {
     drawn heading = *it;
     size_t len = 3;
     lend_case(it);
-    if (!is_done(DOCUMENT_HTML, it, it->html_options < 4 ? document_status(it) : (uint32_t)MARKDOWN_INLINE_UNKNOWN_OPTION)) return;
+    if (!is_done(DOCUMENT_HTML, it, are_asked(&it->asked) ? document_status(it) : (uint32_t)MARKDOWN_INLINE_UNKNOWN_OPTION)) return;
     want("the HTML of a document is UTF-8", is_utf8(found.bytes, found_len));
     want("the HTML of a document is whole lines", found_len == 0 || found.bytes[found_len - 1] == '\n' || found.bytes[found_len - 1] == '\r');
-    if (!(it->html_options & MARKDOWN_INLINE_HTML_RAW)) want("the elements of a document are nested", is_nested(found.bytes, found_len));
+    if (!(it->asked.html & MARKDOWN_INLINE_HTML_RAW)) want("the elements of a document are nested", is_nested(found.bytes, found_len));
     memcpy(heading.bytes, "# x", len);
     for (size_t at = 0; at < it->bytes_len && len < BYTES - 4; at++)
         if (it->bytes[at] != '\n' && it->bytes[at] != '\r') heading.bytes[len++] = it->bytes[at];
@@ -1095,12 +1136,14 @@ static void try_document(const drawn *it) {
     want("a heading is a document", called(DOCUMENT_HTML, &heading, sizeof found, 0) == MARKDOWN_INLINE_DONE);
     html = found;
     size_t html_len = found_len;
-    heading.options = MARKDOWN_INLINE_COMMONMARK;
+    const size_t ending = it->asked.html & MARKDOWN_INLINE_HTML_CRLF ? 2 : 1;
+    heading.options = it->asked.options ? it->asked.options : (uint32_t)MARKDOWN_INLINE_COMMONMARK;
+    heading.html_options = it->asked.html;
     heading.bytes_len = len - 2;
     memmove(heading.bytes, heading.bytes + 2, heading.bytes_len);
     lend_case(&heading);
-    want("the text of a heading has HTML", called(HTML_OF, &heading, sizeof found, 0) == MARKDOWN_INLINE_DONE && html_len == found_len + 10);
-    want("the HTML of a heading is that of its text", !memcmp(html.bytes, "<h1>", 4) && !memcmp(html.bytes + 4, found.bytes, found_len) && !memcmp(html.bytes + 4 + found_len, "</h1>\n", 6));
+    want("the text of a heading has HTML", called(HTML_OF, &heading, sizeof found, 0) == MARKDOWN_INLINE_DONE && html_len == found_len + 9 + ending);
+    want("the HTML of a heading is that of its text", !memcmp(html.bytes, "<h1>", 4) && !memcmp(html.bytes + 4, found.bytes, found_len) && !memcmp(html.bytes + 4 + found_len, ending == 2 ? "</h1>\r\n" : "</h1>\n", 5 + ending));
 }
 
 /* Where the line ends that has this byte: before its ending, and behind it. */
@@ -1363,7 +1406,7 @@ static void touched(int number) {
 
 int main(int argc, char **argv) {
     size_t most = argc > 2 ? (size_t)strtoull(argv[2], NULL, 10) : 200000;
-    stretch *const reads[] = {&of_bytes, &of_pieces, &of_labels, &of_definitions, &of_footnotes, &of_contents, &of_targets, &of_input};
+    stretch *const reads[] = {&of_bytes, &of_pieces, &of_labels, &of_definitions, &of_footnotes, &of_contents, &of_targets, &of_input, &of_asked};
     seed = argc > 1 ? strtoull(argv[1], NULL, 10) : 1;
     page = (size_t)sysconf(_SC_PAGESIZE);
     for (size_t at = 0; at < sizeof reads / sizeof *reads; at++) *reads[at] = new_stretch(1, 1);
@@ -1381,6 +1424,8 @@ int main(int argc, char **argv) {
         if (faults > 0) break;
     }
     if (most >= 2 * ENOUGH && faults == 0) look_at_blames();
+    call_name = NAMES[DOCUMENT_HTML];
+    want("a byte behind the first one is often blamed", most < ENOUGH || faults > 0 || document_blames >= FLOOR);
     call_name = "all";
     for (uint32_t status = 0; most >= ENOUGH && faults == 0 && status < 16; status++) {
         int is_drawn = markdown_inline_status_text(status) && status != MARKDOWN_INLINE_NO_MEMORY;

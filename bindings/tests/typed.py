@@ -12,7 +12,7 @@ import markdown_inline
 HERE = os.path.dirname(os.path.abspath(__file__))
 # Each line is wrong.
 WRONG = ['text(5)', "text('a', rules='gfm')", "text('a')[0].nothing", "html('a', definitions=[('b', 'c')])", "links('a', columns='words')", "texts('a', [(0, 1)])", "tree('a').name",
-         "text('a', commonmark=True)", "document_html('a', gfm=True)", "blocks('a')[0].level", "blocks('a', definitions=['a'])", 'leaf: str = leaves("a")[0]']
+         "text('a', commonmark=True)", "document_html('a', gfm=True)", "document_html('a', line_ends='\\r')", "blocks('a')[0].level", "blocks('a', definitions=['a'])", 'leaf: str = leaves("a")[0]']
 
 
 def said(path, *words):

@@ -1,4 +1,4 @@
-/* Other answers than the library's, for a program that is linked with `--wrap` of each call for many: the call that WRONG_CALL names, where it ends with the
+/* Other results than the library's, for a program that is linked with `--wrap` of each call that blames something: the call that WRONG_CALL names, where it ends with the
  * status WRONG_STATUS, blames the next content, string, definition or byte. */
 #include "markdown_inline.h"
 
@@ -18,6 +18,7 @@ static uint32_t changed(const char *call, uint32_t status, markdown_inline_outco
     uint32_t __wrap_markdown_inline_##call(takes, markdown_inline_outcome *outcome) { return changed(#call, __real_markdown_inline_##call(given, outcome), outcome); }
 #define LIST(...) __VA_ARGS__
 
+WRONG(document_html, LIST(const uint8_t *bytes, size_t bytes_len, const markdown_inline_document_options *options, uint8_t *html, size_t html_len), LIST(bytes, bytes_len, options, html, html_len))
 WRONG(texts, LIST(const markdown_inline_input *input, const markdown_inline_content *contents, size_t contents_len, markdown_inline_event *events, size_t events_len, size_t *ends, size_t ends_len),
     LIST(input, contents, contents_len, events, events_len, ends, ends_len))
 WRONG(short_texts, LIST(const markdown_inline_input *input, const markdown_inline_content *contents, size_t contents_len, markdown_inline_short_event *events, size_t events_len, size_t *ends, size_t ends_len),

@@ -21,7 +21,7 @@ from crates import HERE
 ENDED = re.compile(r'rt: (\w+) (proved|NOT PROVED|is kept)|(\w+): its wrong bodies are tried')
 FAULT = re.compile(r'NOT PROVED|NOT REFUSED|was refused at|NOT TRIED|BAD EDIT|FAILED|: error|: not proved|ended with status|is not what its file stdout|was stopped by|had not ended')
 # What the last gate that passed here said, and the programs that it has built for packages.
-GATE, PACKED = os.path.join(HERE, 'out/gate'), ('mdinline', 'mdhtml', 'inline_html', 'inline_links')
+GATE, PACKED = os.path.join(HERE, 'out/gate'), ('mdinline', 'mdhtml', 'inline_html')
 # What a proof writes, in MB, as measured: many thousands of small files, so in memory where there is enough.
 ROOM, MEMORY = 3_000, '/dev/shm'
 

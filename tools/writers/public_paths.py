@@ -30,6 +30,7 @@ INNER = {
     'bytes': 'NO_BYTES',
     'content': 'Stretch are_between_characters are_pieces_from has_text_lines reach',
     'cursor': 'pass_filled_lines past_ordinary plain_end stands_at_ink stands_at_last_byte starting_at',
+    'definitions': 'Added',
     'event': 'NAMES',
     'event_list': 'EventIter',
     'events': 'into_list',

@@ -1,11 +1,39 @@
 // What callers hand over, as plain lists. All of it is read before a call begins, since to read it may run code of the caller, and that may call too.
 import { COMMONMARK, CRATE, GFM, MATH, OPTIONS } from './names.js';
 
-const SETS = { commonmark: COMMONMARK, crate: CRATE };
-const SWITCHES = { gfm: GFM, math: MATH, task: OPTIONS.firstOfItem, ...OPTIONS };
-const OTHERS = new Set(['rules', 'bits', 'pieces', 'contents', 'offsets', 'definitions', 'footnotes', 'rawHtml', 'anyLink', 'referenceLimit', 'lineFeeds', 'replacedNul']);
-const OF_DOCUMENTS = new Set(['rawHtml', 'anyLink', 'referenceLimit']);
+// Nothing is inherited here either: a name that is looked up is one of these or none.
+const SETS = { __proto__: null, commonmark: COMMONMARK, crate: CRATE };
+const OF_DOCUMENTS = { __proto__: null, strikethrough: OPTIONS.gfmStrikethrough, bareUrls: OPTIONS.gfmAutolinkLiteral, tasks: OPTIONS.gfmTaskListItem, math: OPTIONS.mathText };
+const SWITCHES = { __proto__: null, gfm: GFM, math: MATH, task: OPTIONS.firstOfItem, ...OPTIONS };
+const RULES = ['rules', 'bits', ...Object.keys(SWITCHES)], PIECES = ['pieces', 'offsets'], LABELS = ['definitions', 'footnotes'], HTML = ['rawHtml', 'anyLink', 'lineEnds', 'referenceLimit'];
 export const encoder = new TextEncoder();
+
+/** Reads options that have one of these names: the caller's own properties. What a prototype has is no option, so whoever writes to `Object.prototype` changes
+ *  nothing of what a call does. */
+export function optionsBy(...names) {
+  const known = new Set(names);
+  return (given = {}) => {
+    if (given === null || typeof given !== 'object' || Symbol.iterator in given) throw new TypeError('options are an object');
+    const options = Object.create(null);
+    for (const [name, value] of Object.entries(given)) {
+      if (value === undefined) continue;
+      if (!known.has(name)) throw new TypeError(`no option of this call has the name ${name}`);
+      options[name] = value;
+    }
+    return options;
+  };
+}
+
+/** Reads the options of each call. */
+export const optionsOf = {
+  text: optionsBy(...RULES, ...PIECES, ...LABELS), texts: optionsBy(...RULES, ...LABELS, 'offsets'), string: optionsBy(...RULES, ...PIECES), pieces: optionsBy(...PIECES),
+  html: optionsBy(...RULES, ...PIECES, ...LABELS, ...HTML), htmls: optionsBy(...RULES, ...LABELS, ...HTML, 'offsets'), links: optionsBy(...RULES, ...PIECES, ...LABELS, 'contents'),
+  document: optionsBy(...Object.keys(OF_DOCUMENTS), ...HTML), blocks: optionsBy(...RULES, ...HTML, 'footnotes'), strings: optionsBy(...RULES, 'offsets', 'lineFeeds', 'replacedNul'), lines: optionsBy('offsets'),
+  reference: optionsBy(...RULES), instance: optionsBy('maximum'),
+};
+
+/** Some properties of an object, if they are its own. */
+const fieldsOf = (given, ...names) => names.map((name) => Object.hasOwn(given, name) ? given[name] : undefined);
 
 const flag = (given, what) => {
   if (typeof given !== 'boolean') throw new TypeError(`${what} is true or false`);
@@ -17,7 +45,7 @@ const several = (given, what) => {
   return given;
 };
 
-const natural = (given, what) => {
+export const natural = (given, what) => {
   if (typeof given !== 'number') throw new TypeError(`${what} is a number`);
   if (!Number.isSafeInteger(given) || given < 0) throw new RangeError(`${what} is a whole number from 0 on`);
   return given;
@@ -31,38 +59,32 @@ export function textOf(given, what = 'a document') {
 
 /** The bits of options that are given by names. */
 export function bitsOf(options) {
-  if (options === undefined) return COMMONMARK;
   let bits = SETS[options.rules ?? 'commonmark'];
   if (bits === undefined) throw new RangeError("rules is 'commonmark' or 'crate'");
-  let isSwitched = options.rules !== undefined;
-  for (const name of Object.keys(options)) {
-    if (OTHERS.has(name) || options[name] === undefined) continue;
-    if (!Object.hasOwn(SWITCHES, name)) throw new TypeError(`no option has the name ${name}`);
-    bits = flag(options[name], name) ? bits | SWITCHES[name] : bits & ~SWITCHES[name];
-    isSwitched = true;
-  }
+  const switches = Object.keys(options).filter((it) => it in SWITCHES);
+  for (const name of switches) bits = flag(options[name], name) ? bits | SWITCHES[name] : bits & ~SWITCHES[name];
   if (options.bits === undefined) return bits >>> 0;
-  if (isSwitched) throw new TypeError('bits says all options, so no other can stand beside it');
+  if (switches.length > 0 || options.rules !== undefined) throw new TypeError('bits says all options, so no other can stand beside it');
   if (natural(options.bits, 'bits') > 0xffffffff) throw new RangeError('bits has more than 32 bits');
   return options.bits;
 }
 
 /** Whether the numbers of pieces count bytes. */
 export function isInBytes(options) {
-  const offsets = options?.offsets ?? 'utf-16';
+  const offsets = options.offsets ?? 'utf-16';
   if (offsets !== 'utf-16' && offsets !== 'bytes') throw new RangeError("offsets is 'utf-16' or 'bytes'");
   return offsets === 'bytes';
 }
 
 function pushPiece(into, given, what) {
   if (given === null || typeof given !== 'object') throw new TypeError(`${what} is [start, end] or { start, end }`);
-  const [start, end, startVs = 0, endVs = 0] = Array.isArray(given) ? given : [given.start, given.end, given.startVs, given.endVs];
+  const [start, end, startVs = 0, endVs = 0] = Array.isArray(given) ? given : fieldsOf(given, 'start', 'end', 'startVs', 'endVs');
   into.push(natural(start, `the start of ${what}`), natural(startVs, `the startVs of ${what}`), natural(end, `the end of ${what}`), natural(endVs, `the endVs of ${what}`));
 }
 
 /** The numbers of pieces, in the order of the header: start, startVs, end, endVs. null stands for the whole document. */
 export function piecesOf(options) {
-  if (options?.pieces === undefined || options.pieces === null) return null;
+  if (options.pieces === undefined || options.pieces === null) return null;
   const found = [];
   for (const it of several(options.pieces, 'pieces')) pushPiece(found, it, 'a piece');
   return found;
@@ -72,10 +94,10 @@ export function piecesOf(options) {
 export function contentsOf(given) {
   const pieces = [], rows = [];
   for (const it of several(given, 'contents')) {
-    const first = pieces.length / 4, isPiece = Array.isArray(it);
+    const first = pieces.length / 4, isPiece = Array.isArray(it), [parts, firstOfItem = false] = isPiece ? [] : fieldsOf(Object(it), 'pieces', 'firstOfItem');
     if (isPiece) pushPiece(pieces, it, 'a content');
-    else for (const piece of several(it?.pieces, 'the pieces of a content')) pushPiece(pieces, piece, 'a piece');
-    rows.push(first, pieces.length / 4, Number(!isPiece && it.firstOfItem !== undefined && flag(it.firstOfItem, 'firstOfItem')));
+    else for (const piece of several(parts, 'the pieces of a content')) pushPiece(pieces, piece, 'a piece');
+    rows.push(first, pieces.length / 4, Number(flag(firstOfItem, 'firstOfItem')));
   }
   return { pieces, rows, many: rows.length / 3 };
 }
@@ -110,9 +132,9 @@ export function labelsOf(given, what) {
 }
 
 function targetOf(given) {
-  const target = typeof given === 'string' || given instanceof Uint8Array ? { destination: given }
-    : Array.isArray(given) ? { destination: given[0], title: given[1] } : { destination: given?.destination, title: given?.title };
-  return { destination: textOf(target.destination, 'a destination'), title: target.title === undefined || target.title === null ? null : textOf(target.title, 'a title') };
+  const isText = typeof given === 'string' || given instanceof Uint8Array;
+  const [destination, title = null] = isText ? [given] : Array.isArray(given) ? given : fieldsOf(Object(given), 'destination', 'title');
+  return { destination: textOf(destination, 'a destination'), title: title === null ? null : textOf(title, 'a title') };
 }
 
 /** Where definitions lead, by the labels of a Map or an object. */
@@ -123,30 +145,25 @@ export function targetsOf(given) {
   return { labels: entries.map(([label]) => textOf(label, 'a label')), targets: entries.map(([, target]) => targetOf(target)) };
 }
 
-const bitsOfFlags = (options, ...names) => names.reduce((bits, name, at) => bits | Number(options?.[name] !== undefined && flag(options[name], name)) << at, 0);
+/** The bits of the constructs that a document is read with. */
+export const documentBitsOf = (options) => Object.keys(OF_DOCUMENTS).reduce((bits, name) => name in options && flag(options[name], name) ? bits | OF_DOCUMENTS[name] : bits, COMMONMARK);
 
-/** What HTML may hold, as bits. */
-export const shownOf = (options) => bitsOfFlags(options, 'rawHtml', 'anyLink');
+const bitsOfFlags = (options, ...names) => names.reduce((bits, name, at) => bits | Number(name in options && flag(options[name], name)) << at, 0);
 
-/** The same of a document, which has no other options. */
-export function shownOfDocument(options) {
-  for (const name of Object.keys(options ?? {})) {
-    if (!OF_DOCUMENTS.has(name) && options[name] !== undefined) throw new TypeError(`no option of a document has the name ${name}`);
-  }
-  return shownOf(options);
+/** What HTML may contain and how it is written, as bits. */
+export function shownOf(options) {
+  const { lineEnds } = options;
+  if (lineEnds !== undefined && lineEnds !== '\n' && lineEnds !== '\r\n') throw new RangeError("lineEnds is '\\n' or '\\r\\n'");
+  return bitsOfFlags(options, 'rawHtml', 'anyLink') | (lineEnds === '\n' ? 0x20 : lineEnds === '\r\n' ? 0x40 : 0);
 }
 
 /** How the texts of strings are written, as bits. */
 export const writtenOf = (options) => bitsOfFlags(options, 'lineFeeds', 'replacedNul');
 
-/** How many bytes definitions may bring, where 0 is no limit; null where the length of the document says it. */
+/** How many bytes definitions may bring, as the library takes it: 0 is its default, and Infinity is no limit. */
 export function limitOf(options) {
-  const limit = options?.referenceLimit;
-  if (limit === undefined) return null;
-  if (limit === Infinity) return 0;
-  if (natural(limit, 'referenceLimit') === 0) throw new RangeError('referenceLimit is from 1 on, or Infinity');
+  const limit = options.referenceLimit;
+  if (limit === undefined) return 0;
+  if (limit !== Infinity && natural(limit, 'referenceLimit') === 0) throw new RangeError('referenceLimit is from 1 on, or Infinity');
   return limit;
 }
-
-/** How many bytes definitions may bring by default to a document of so many bytes. */
-export const usualLimit = (length) => Math.max(100000, length);

@@ -153,7 +153,8 @@ export class Blocks {
     const text = (from) => typeof document === 'string' ? document.slice(from, end) : decoder.decode(document.subarray(from, end));
     if (columns === 0) return text(start);
     const line = this.lineOf(start);
-    let column = 0;
+    // Columns count bytes, and a byte order mark has three.
+    let column = line === 1 && document[0] === '\ufeff' ? 2 : 0;
     for (let before = this.#starts[line - 1]; before < start; before++) {
       column += document[before] === '\t' || document[before] === 9 ? 4 - column % 4 : 1;
     }

@@ -1,5 +1,5 @@
 // The calls of the library over one instance.
-import { bitsOf, contentsOf, isInBytes, labelsOf, limitOf, linesOf, piecesOf, shownOf, shownOfDocument, stringsOf, targetsOf, textOf, usualLimit, writtenOf } from './arguments.js';
+import { bitsOf, contentsOf, documentBitsOf, isInBytes, labelsOf, limitOf, linesOf, natural, optionsOf, piecesOf, shownOf, stringsOf, targetsOf, textOf, writtenOf } from './arguments.js';
 import { BLOCK, Blocks, PIECE } from './blocks.js';
 import { MarkdownInlineError, NO_MEMORY } from './errors.js';
 import { Instance } from './instance.js';
@@ -13,10 +13,10 @@ const PLACES = new Map([[Events, [[24, 16]]], [ShortEvents, [[8]]], [Leaves, [[2
 
 /** What is asked for: a document, the numbers of its pieces or null, and what the options say. */
 const askedOf = (document, options, pieces, { labels, targets }) => ({
-  document: textOf(document), pieces, isInBytes: isInBytes(options), bits: bitsOf(options), labels, targets, footnotes: labelsOf(options?.footnotes, 'footnotes'),
+  document: textOf(document), pieces, isInBytes: isInBytes(options), bits: bitsOf(options), labels, targets, footnotes: labelsOf(options.footnotes, 'footnotes'),
 });
 
-const withoutTargets = (options) => ({ labels: labelsOf(options?.definitions, 'definitions'), targets: null });
+const withoutTargets = (options) => ({ labels: labelsOf(options.definitions, 'definitions'), targets: null });
 
 /** What each string of bytes in memory says, by where they end. */
 const parted = (on, at, ends) => Array.from(ends, (end, number) => on.decoded(at + (number === 0 ? 0 : ends[number - 1]), at + end));
@@ -50,12 +50,12 @@ function covered(pieces, length) {
 }
 
 /** The calls over an instance of their own. `maximum` is how many bytes its memory may have. */
-export function callsOf(module, { maximum = 0xffff0000 } = {}) {
-  const on = new Instance(module, maximum);
+export function callsOf(module, settings) {
+  const { maximum = 0xffff0000 } = optionsOf.instance(settings), on = new Instance(module, natural(maximum, 'maximum'));
 
   // A call for the rows of one content.
-  const rowsOf = (name, kind, size, hasLabels) => (document, options) => {
-    const asked = askedOf(document, options, piecesOf(options), hasLabels ? withoutTargets(options) : { labels: [], targets: null });
+  const rowsOf = (name, kind, size, read, hasLabels) => (document, given) => {
+    const options = read(given), asked = askedOf(document, options, piecesOf(options), hasLabels ? withoutTargets(options) : { labels: [], targets: null });
     return on.within(() => {
       const { text, input } = putInput(on, asked);
       const { at, many } = on.filled(name, [input], size, Math.floor(covered(asked.pieces, text.length) / 4) + 64);
@@ -71,44 +71,46 @@ export function callsOf(module, { maximum = 0xffff0000 } = {}) {
   });
 
   // A call for them.
-  const rowsOfMany = (name, kind, size) => (document, contents, options) => {
-    const listed = contentsOf(contents);
+  const rowsOfMany = (name, kind, size) => (document, contents, given) => {
+    const options = optionsOf.texts(given), listed = contentsOf(contents);
     return manyRows(name, kind, size, askedOf(document, options, listed.pieces, withoutTargets(options)), listed);
   };
 
-  const text = rowsOf('text', Events, EVENT, true);
+  const text = rowsOf('text', Events, EVENT, optionsOf.text, true);
   const shortTexts = rowsOfMany('short_texts', ShortEvents, SHORT_EVENT);
 
-  const documentHtml = (document, options) => {
-    const read = textOf(document), shown = shownOfDocument(options), limit = limitOf(options);
+  const documentHtml = (document, given) => {
+    const options = optionsOf.document(given), read = textOf(document), bits = documentBitsOf(options), shown = shownOf(options), limit = limitOf(options);
     return on.within(() => {
-      const text = on.put(read), { at, many } = on.filled('document_html', [text.at, text.length, shown, limit ?? usualLimit(text.length)], 1, 2 * text.length + 64);
+      // The struct of options: two numbers of 32 bits, and then a limit among reserved words.
+      const text = on.put(read), asked = on.putNumbers([bits + shown * 2 ** 32, 0, limit, ...Array(13).fill(0)]);
+      const { at, many } = on.filled('document_html', [text.at, text.length, asked], 1, 2 * text.length + 64, true);
       return on.decoded(at, at + many);
     });
   };
 
-  const html = (document, options) => {
-    const asked = askedOf(document, options, piecesOf(options), targetsOf(options?.definitions)), shown = shownOf(options), limit = limitOf(options);
+  const html = (document, given) => {
+    const options = optionsOf.html(given), asked = askedOf(document, options, piecesOf(options), targetsOf(options.definitions)), shown = shownOf(options), limit = limitOf(options);
     return on.within(() => {
       const { text, input, targets, count } = putInput(on, asked);
-      const { at, many } = on.filled('html', [input, targets, count, shown, limit ?? usualLimit(text.length)], 1, 2 * covered(asked.pieces, text.length) + 64);
+      const { at, many } = on.filled('html', [input, targets, count, shown, limit], 1, 2 * covered(asked.pieces, text.length) + 64);
       return on.decoded(at, at + many);
     });
   };
 
   const manyHtmls = (asked, { rows, many }, shown, limit) => on.within(() => {
     const { text, input, targets, count } = putInput(on, asked), listed = on.putNumbers(rows);
-    const { at, ends } = on.filledMany('htmls', [input, targets, count, listed, many, shown, limit ?? usualLimit(text.length)], 1, 2 * covered(asked.pieces, text.length) + 64, many);
+    const { at, ends } = on.filledMany('htmls', [input, targets, count, listed, many, shown, limit], 1, 2 * covered(asked.pieces, text.length) + 64, many);
     return parted(on, at, ends);
   });
 
-  const htmls = (document, contents, options) => {
-    const listed = contentsOf(contents), asked = askedOf(document, options, listed.pieces, targetsOf(options?.definitions));
+  const htmls = (document, contents, given) => {
+    const options = optionsOf.htmls(given), listed = contentsOf(contents), asked = askedOf(document, options, listed.pieces, targetsOf(options.definitions));
     return manyHtmls(asked, listed, shownOf(options), limitOf(options));
   };
 
-  const strings = (document, given, options) => {
-    const { parts, rows, many } = stringsOf(given), read = textOf(document), bits = bitsOf(options), written = writtenOf(options), inBytes = isInBytes(options);
+  const strings = (document, listedStrings, given) => {
+    const options = optionsOf.strings(given), { parts, rows, many } = stringsOf(listedStrings), read = textOf(document), bits = bitsOf(options), written = writtenOf(options), inBytes = isInBytes(options);
     return on.within(() => {
       const text = on.put(read), partsAt = on.putNumbers(parts), listed = on.putNumbers(rows);
       if (!inBytes) on.toBytes(text, partsAt, parts.length, 8);
@@ -127,25 +129,25 @@ export function callsOf(module, { maximum = 0xffff0000 } = {}) {
   });
 
   // What a document's blocks ask for, of all contents together.
-  const ofBlocks = {
+  const onBlocks = {
     definitionsOf, strings, linksOf,
     textsOf: (asked, contents) => manyRows('texts', Events, EVENT, asked, contents), shortTextsOf: (asked, contents) => manyRows('short_texts', ShortEvents, SHORT_EVENT, asked, contents),
     htmlsOf: manyHtmls,
   };
 
-  const blocks = (document, options) => {
+  const blocks = (document, given) => {
     // What the caller does with bytes later changes nothing.
-    const given = textOf(document), read = typeof given === 'string' ? given : new Uint8Array(given);
-    const asked = { bits: bitsOf(options), footnotes: labelsOf(options?.footnotes, 'footnotes'), shown: shownOf(options), limit: limitOf(options) };
+    const options = optionsOf.blocks(given), read = typeof textOf(document) === 'string' ? document : new Uint8Array(document);
+    const asked = { bits: bitsOf(options), footnotes: labelsOf(options.footnotes, 'footnotes'), shown: shownOf(options), limit: limitOf(options) };
     return on.within(() => {
       const text = on.put(read), many = Math.floor(text.length / 16) + 64;
       const [rows, pieces] = on.filledEach('blocks', [text.at, text.length], [[BLOCK, 0, many], [PIECE, 1, many]]);
-      return new Blocks(ofBlocks, read, asked, on.copied(text, rows.at, rows.many, BLOCK, []), on.copied(text, pieces.at, pieces.many, PIECE, [[0], [16]]), Number(text.isWide));
+      return new Blocks(onBlocks, read, asked, on.copied(text, rows.at, rows.many, BLOCK, []), on.copied(text, pieces.at, pieces.many, PIECE, [[0], [16]]), Number(text.isWide));
     });
   };
 
-  const piecesOfLines = (document, paragraphs, options) => {
-    const { starts, ends } = linesOf(paragraphs), read = textOf(document), inBytes = isInBytes(options);
+  const piecesOfLines = (document, paragraphs, given) => {
+    const options = optionsOf.lines(given), { starts, ends } = linesOf(paragraphs), read = textOf(document), inBytes = isInBytes(options);
     return on.within(() => {
       const text = on.put(read), startsAt = on.putNumbers(starts), unit = Number(text.isWide && !inBytes);
       if (!inBytes) on.toBytes(text, startsAt, starts.length, 8);
@@ -155,11 +157,11 @@ export function callsOf(module, { maximum = 0xffff0000 } = {}) {
     });
   };
 
-  const links = (document, options) => {
-    const { labels, targets } = targetsOf(options?.definitions), bits = bitsOf(options), read = textOf(document);
-    const contents = options?.contents ?? [{ pieces: options?.pieces ?? [[0, read.length]], firstOfItem: (bits & OPTIONS.firstOfItem) !== 0 }];
-    const isWhole = !options?.contents && !options?.pieces;
-    const asked = { bits: (bits & ~OPTIONS.firstOfItem) >>> 0, definitions: labels, footnotes: options?.footnotes, offsets: isWhole ? undefined : options?.offsets };
+  const links = (document, given) => {
+    const options = optionsOf.links(given), { labels, targets } = targetsOf(options.definitions), bits = bitsOf(options), read = textOf(document);
+    const contents = options.contents ?? [{ pieces: options.pieces ?? [[0, read.length]], firstOfItem: (bits & OPTIONS.firstOfItem) !== 0 }];
+    const isWhole = !options.contents && !options.pieces;
+    const asked = { bits: (bits & ~OPTIONS.firstOfItem) >>> 0, definitions: labels, footnotes: options.footnotes, offsets: isWhole ? undefined : options.offsets };
     return linksOf(read, shortTexts(read, contents, asked), targets, (parts) => strings(read, parts, { bits, offsets: 'bytes' }));
   };
 
@@ -171,8 +173,8 @@ export function callsOf(module, { maximum = 0xffff0000 } = {}) {
     });
   };
 
-  const holds = (name) => (document, options) => {
-    const asked = askedOf(document, options, piecesOf(options), { labels: [], targets: null });
+  const holds = (name) => (document, given) => {
+    const options = optionsOf.pieces(given), asked = askedOf(document, options, piecesOf(options), { labels: [], targets: null });
     return on.within(() => {
       const text = on.put(asked.document), status = on.call(name, [text.at, text.length, ...putPieces(on, text, asked)]);
       if (status === NO_MEMORY) throw new MarkdownInlineError(status);
@@ -181,10 +183,10 @@ export function callsOf(module, { maximum = 0xffff0000 } = {}) {
   };
 
   return {
-    text, string: rowsOf('string', Events, EVENT, false), leaves: rowsOf('leaves', Leaves, LEAF, true), tree: (document, options) => treeOf(text(document, options)),
+    text, string: rowsOf('string', Events, EVENT, optionsOf.string, false), leaves: rowsOf('leaves', Leaves, LEAF, optionsOf.text, true), tree: (document, options) => treeOf(text(document, options)),
     texts: rowsOfMany('texts', Events, EVENT), shortTexts, documentHtml, blocks, html, htmls, strings, piecesOfLines, isText: holds('is_text'), isContent: holds('is_content'),
     identifier: (label) => decodedBy('identifier', [], label, 'a label'),
-    reference: (reference, options) => decodedBy('reference', [bitsOf(options)], reference, 'a reference'),
+    reference: (reference, options) => decodedBy('reference', [bitsOf(optionsOf.reference(options))], reference, 'a reference'),
     links,
   };
 }

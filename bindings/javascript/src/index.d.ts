@@ -57,22 +57,36 @@ export interface Task {
 export type TextOptions = Rules & Pieces & Footnotes & Definitions & Task;
 export type TextsOptions = Rules & Offsets & Footnotes & Definitions;
 
-/** What HTML may hold. */
-export interface DocumentOptions {
-  /** Writes raw HTML as it stands, and not as text. */
+/** What HTML may contain and how it is written. */
+export interface Written {
+  /** Writes raw HTML as it is, and not as text. */
   rawHtml?: boolean;
-  /** Lets links lead wherever they say, and not to listed schemes alone. */
+  /** Lets links lead wherever they say, and not only to listed schemes. */
   anyLink?: boolean;
+  /** What each line ending is written as. By default those of the document stay as they are, and a page adds line feeds. */
+  lineEnds?: '\n' | '\r\n';
   /** How many bytes definitions may bring, from 1 on; Infinity is no limit. By default it is the length of the document in bytes, or 100,000 where that is more. */
   referenceLimit?: number;
 }
 
-export interface HtmlsOptions extends DocumentOptions, Rules, Offsets, Footnotes {
+/** How a document is read and written: each of the four constructs is added by itself. */
+export interface DocumentOptions extends Written {
+  /** Strikethrough, by one or two tildes. */
+  strikethrough?: boolean;
+  /** Links for URLs and email addresses without angle brackets. */
+  bareUrls?: boolean;
+  /** Checkboxes of task list items. */
+  tasks?: boolean;
+  /** Math spans, by one or more dollars. */
+  math?: boolean;
+}
+
+export interface HtmlsOptions extends Written, Rules, Offsets, Footnotes {
   definitions?: Targets;
 }
 
 /** How texts of a document are read and written. */
-export type BlocksOptions = DocumentOptions & Rules & Footnotes;
+export type BlocksOptions = Written & Rules & Footnotes;
 
 export type HtmlOptions = HtmlsOptions & Pieces & Task;
 
@@ -265,7 +279,8 @@ export declare const GFM: number;
 export declare const MATH: number;
 
 export interface Calls {
-  /** The HTML of a document, of its blocks and of the text inside them, as CommonMark 0.31.2 says. The document's own definitions count. */
+  /** Renders a document to HTML: its blocks and the text inside them, following CommonMark 0.31.2, with the constructs that the options add. The document's own
+   * definitions count, and a byte order mark at its front is no text. If the document is not UTF-8, `at` of the error is the first byte that is wrong. */
   documentHtml(document: Text, options?: DocumentOptions): string;
   /** The blocks of a document, as CommonMark 0.31.2 says, and what stands in their texts, which are read as the options say. The document's own definitions count.
    * Lines, columns and offsets are those of the document. All calls but these two read the text inside one block. */

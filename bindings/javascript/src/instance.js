@@ -98,13 +98,13 @@ export class Instance {
     throw new MarkdownInlineError(NO_MEMORY);
   }
 
-  /** 64-bit numbers in memory. */
+  /** 64-bit numbers in memory. Infinity is the largest. */
   putNumbers(list) {
     const at = this.#room(list.length * 8), { words } = this.#current;
     let to = at / 4;
     for (const it of list) {
-      words[to++] = it;
-      words[to++] = it <= NONE ? 0 : it / 2 ** 32;
+      words[to++] = it === Infinity ? NONE : it;
+      words[to++] = it === Infinity ? NONE : it <= NONE ? 0 : it / 2 ** 32;
     }
     return at;
   }
@@ -126,17 +126,16 @@ export class Instance {
     return status;
   }
 
-  /** Calls with room for so many elements, and once more where they are more. It returns where they stand, and how many they are. */
-  filled(name, list, size, many) {
-    const count = this.#room(8), before = this.#top, first = list.length;
+  /** Calls with room for so many elements, and once more where they are more. It returns where they stand, and how many they are. The call writes their count,
+   *  or an outcome, which has the count in its middle. */
+  filled(name, list, size, many, hasOutcome = false) {
+    const outcome = this.#room(24), count = outcome + 8, before = this.#top;
     for (;;) {
-      const at = list[first] = this.#room(many * size);
-      list[first + 1] = many;
-      list[first + 2] = count;
-      const status = this.call(name, list);
-      many = this.#current.words[count / 4];
+      const at = this.#room(many * size), status = this.call(name, [...list, at, many, hasOutcome ? outcome : count]), { words } = this.#current;
+      const blamed = hasOutcome ? words[outcome / 4 + 4] : NONE;
+      many = words[count / 4];
       if (status === 0) return { at, many };
-      if (status !== TOO_SMALL) throw new MarkdownInlineError(status);
+      if (status !== TOO_SMALL) throw new MarkdownInlineError(status, blamed === NONE ? null : blamed);
       this.#top = before;
     }
   }

@@ -2,15 +2,15 @@
 import { encoder } from './arguments.js';
 
 const KINDS = {
-  Link: 'link', Image: 'image', Autolink: 'autolink', GfmAutolinkLiteralEmail: 'literal', GfmAutolinkLiteralMailto: 'literal', GfmAutolinkLiteralProtocol: 'literal',
+  __proto__: null, Link: 'link', Image: 'image', Autolink: 'autolink', GfmAutolinkLiteralEmail: 'literal', GfmAutolinkLiteralMailto: 'literal', GfmAutolinkLiteralProtocol: 'literal',
   GfmAutolinkLiteralWww: 'literal', GfmAutolinkLiteralXmpp: 'literal',
 };
 // What stands before an address where it is no URL yet.
 const SCHEMES = {
-  AutolinkEmail: 'mailto:', AutolinkProtocol: '', GfmAutolinkLiteralEmail: 'mailto:', GfmAutolinkLiteralMailto: '', GfmAutolinkLiteralProtocol: '',
+  __proto__: null, AutolinkEmail: 'mailto:', AutolinkProtocol: '', GfmAutolinkLiteralEmail: 'mailto:', GfmAutolinkLiteralMailto: '', GfmAutolinkLiteralProtocol: '',
   GfmAutolinkLiteralWww: 'http://', GfmAutolinkLiteralXmpp: '',
 };
-const STRINGS = { ResourceDestinationString: 'destination', ResourceTitleString: 'title' };
+const STRINGS = { __proto__: null, ResourceDestinationString: 'destination', ResourceTitleString: 'title' };
 const decoder = new TextDecoder('utf-8', { ignoreBOM: true });
 const asText = (given) => typeof given === 'string' ? given : decoder.decode(given);
 
@@ -20,7 +20,7 @@ function foundIn(events, content, found, strings) {
   let parts = null, begun = 0;
   for (const { enter, name, offset, byte, definition } of events) {
     if (enter && name in KINDS) {
-      opened.push({ kind: KINDS[name], content, offset, byte, definition, destination: '', title: null });
+      opened.push({ kind: KINDS[name], content, offset, byte, definition, destination: '', title: null, from: offset, address: null });
       found.push(opened.at(-1));
     }
     const one = opened.at(-1);

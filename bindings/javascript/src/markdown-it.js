@@ -8,10 +8,12 @@
 // One call reads all contents of a document. The tokens are those of markdown-it's own inline parser, so its renderer and the rules that come behind go on
 // as ever. The links of the document are those of its references, and `validateLink`, `normalizeLink` and `normalizeLinkText` are asked as ever. A content
 // that the library cannot read as markdown-it would is read by markdown-it's own parser.
+import { optionsBy } from './arguments.js';
 import { MarkdownInlineError, NAMES, OPTIONS, shortTexts } from './index.js';
 
 // What each rule of markdown-it's inline parser reads. The others have no bit: they read what is always read, or join what the rules have read.
 const BITS = {
+  __proto__: null,
   emphasis: OPTIONS.attention, strikethrough: OPTIONS.gfmStrikethrough, backticks: OPTIONS.codeText, escape: OPTIONS.characterEscape | OPTIONS.hardBreakEscape,
   link: OPTIONS.labelStartLink | OPTIONS.labelEnd, image: OPTIONS.labelStartImage | OPTIONS.labelEnd, autolink: OPTIONS.autolink, html_inline: OPTIONS.htmlText,
   entity: OPTIONS.characterReference, newline: OPTIONS.hardBreakTrailing,
@@ -237,7 +239,7 @@ class Builder {
 
   /** Where the strings of a resource or of a reference stand, by their names. */
   strings(place) {
-    const found = { isResource: this.source[place] === '(' };
+    const found = { __proto__: null, isResource: this.source[place] === '(' };
     for (let it = this.next(); it.name !== Resource && it.name !== Reference; it = this.next()) {
       if (it.name === ReferenceString || it.name === ResourceDestinationString || it.name === ResourceTitleString || it.name === ResourceDestination) {
         found[it.name] = it.isExit ? [found[it.name][0], it.place] : [it.place, it.place];
@@ -249,7 +251,10 @@ class Builder {
   /** Where a link leads, and its title. */
   target({ strings, definition, label, labelEnd }) {
     const written = (name) => strings?.[name] ? this.source.slice(...strings[name]) : '', { normalizeReference, unescapeAll } = this.md.utils;
-    if (!strings?.isResource) return this.references[normalizeReference(written(ReferenceString) || this.source.slice(label, labelEnd))] ?? this.references[this.labels[definition]];
+    if (!strings?.isResource) {
+      const named = normalizeReference(written(ReferenceString) || this.source.slice(label, labelEnd));
+      return this.references[Object.hasOwn(this.references, named) ? named : this.labels[definition]];
+    }
     return { href: strings[ResourceDestination] ? this.href(unescapeAll(written(ResourceDestinationString))) : '', title: unescapeAll(written(ResourceTitleString)) };
   }
 
@@ -353,13 +358,15 @@ function inline(state, signs, hasPlaces) {
   });
 }
 
+const settingsOf = optionsBy('signs', 'places');
+
 /** Puts the library into the place of markdown-it's inline parser: `MarkdownIt().use(plugin)`.
  *
  * A rule of another plugin is known by `signs`: for its name a regular expression, which is found in each content in which the rule can find something. Such
  * contents are read by markdown-it's own parser; and all contents are, where a rule is not known, or where a rule of markdown-it is replaced. `places` says in
  * `token.meta.markdown_inline` from where to where each token stands, as `start` and `end`, in units of the content. */
-export default function plugin(md, { signs = {}, places = false } = {}) {
-  const all = { ...SIGNS, ...signs };
+export default function plugin(md, settings) {
+  const { signs, places = false } = settingsOf(settings), all = { ...SIGNS, ...signs };
   md.core.ruler.at('inline', (state) => inline(state, all, places));
 }
 

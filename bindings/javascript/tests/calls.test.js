@@ -57,8 +57,14 @@ test('examples of CommonMark', { skip: !has('python3') }, () => {
 test('documents of CommonMark', { skip: !has('python3') }, () => {
   const rows = rowsBy('pages');
   assert.ok(rows.length >= 652);
-  for (const [word, document, wanted] of rows) {
-    const held = word === 'safe' ? {} : { rawHtml: true, anyLink: true };
+  const read = { strikethrough: 'strikethrough', bare_urls: 'bareUrls', tasks: 'tasks', math: 'math' };
+  assert.ok(rows.filter(([words]) => words.some((it) => it in read)).length >= 20);
+  for (const [words, document, wanted] of rows) {
+    const held = words.includes('safe') ? {} : { rawHtml: true, anyLink: true };
+    for (const word of words) {
+      if (word in read) held[read[word]] = true;
+      else if (word !== 'safe') held.lineEnds = { lf: '\n', crlf: '\r\n' }[word];
+    }
     for (const given of [document, bytesOf(document)]) assert.equal(documentHtml(given, held), wanted, document);
   }
 });
@@ -70,7 +76,8 @@ test('types', { skip: !has('tsc') }, () => {
 
 test('each error comes', () => {
   for (const call of [(options) => text('a', options), (options) => string('a', options), (options) => reference('&amp;', options)]) refuses('UNKNOWN_OPTION', () => call({ bits: 2 ** 31 }));
-  for (const call of [text, string, leaves, html, documentHtml, blocks, identifier, links]) refuses('NOT_UTF8', () => call(WRONG), call === links ? 0 : null);
+  for (const call of [text, string, leaves, html, documentHtml, blocks, identifier, links]) refuses('NOT_UTF8', () => call(WRONG), call === links || call === documentHtml ? 0 : null);
+  refuses('NOT_UTF8', () => documentHtml(Uint8Array.of(0x61, 0x0a, 0xe2, 0x82)), 2);
   refuses('NOT_UTF8', () => htmls(Uint8Array.of(0x61, 0xe2, 0x82), []), 1);
   for (const call of [text, leaves, html, links]) for (const given of ['a\n\nb', 'a\n']) refuses('BLANK_LINE', () => call(given), call === links ? 0 : null);
   for (const pieces of [[[0, 9]], [[1, 0]], [[0, 2 ** 40]]]) for (const call of [text, string, leaves, html]) refuses('NO_CONTENT', () => call('a', { pieces }));
@@ -93,10 +100,81 @@ test('what is no argument is named', () => {
     [/a piece/, () => text('a', { pieces: [null] })], [/contents is a list/, () => texts('a')], [/of a content/, () => texts('a', [{}])], [/firstOfItem/, () => texts('a', [{ pieces: [], firstOfItem: 1 }])],
     [/definitions/, () => text('a', { definitions: 'b' })], [/a label/, () => text('a', { definitions: [1] })], [/definitions/, () => html('a', { definitions: ['b'] })],
     [/a destination/, () => html('a', { definitions: { b: null } })], [/a title/, () => html('a', { definitions: { b: ['c', 1] } })], [/rawHtml/, () => html('a', { rawHtml: 'no' })],
-    [/Uint8Array/, () => documentHtml(1)], [/name gfm/, () => documentHtml('a', { gfm: true })], [/anyLink/, () => documentHtml('a', { anyLink: 1 })],
+    [/Uint8Array/, () => documentHtml(1)], ...['\r', 10, null, ''].map((lineEnds) => [/lineEnds is/, () => documentHtml('a', { lineEnds })]), [/tasks is/, () => documentHtml('a', { tasks: 1 })], [/name gfm/, () => documentHtml('a', { gfm: true })], [/anyLink/, () => documentHtml('a', { anyLink: 1 })],
     [/referenceLimit/, () => documentHtml('a', { referenceLimit: 0 })], [/Uint8Array/, () => blocks(1)], [/name gfn/, () => blocks('a', { gfn: true })], [/rawHtml/, () => blocks('a', { rawHtml: 1 })],
     [/referenceLimit/, () => html('a', { referenceLimit: 0 })], [/strings is a list/, () => strings('a', 'b')], [/paragraphs is a list/, () => piecesOfLines('a', 1)], [/a paragraph is a list/, () => piecesOfLines('a', [0])], [/the start of a line/, () => piecesOfLines('a', [['0']])], [/a part/, () => strings('a', [[['0', 1]]])],
   ]) assert.throws(call, (it) => (it instanceof TypeError || it instanceof RangeError) && error.test(it.message), String(error));
+});
+
+/** What a call returns, or why it throws. */
+const outcomeOf = (call) => {
+  try {
+    return call();
+  } catch (error) {
+    return [error.name, error.message];
+  }
+};
+
+test('what a prototype has is no option', () => {
+  const rowsOf = (rows) => Array.from(rows, ({ name, offset, vs }) => [name, offset, vs]), limited = '[a] [a]\n\n[a]: /b', definitions = { a: '/b' }, dangerous = '<b> [a](b:c)';
+  for (const [name, value, ...calls] of [
+    ['rawHtml', true, (it) => documentHtml(dangerous, it), (it) => html(dangerous, it), (it) => htmls(dangerous, [[0, 12]], it), (it) => blocks(dangerous, it).htmls],
+    ['anyLink', true, (it) => documentHtml(dangerous, it), (it) => html(dangerous, it), (it) => htmls(dangerous, [[0, 12]], it), (it) => blocks(dangerous, it).htmls],
+    ['lineEnds', '\n', (it) => documentHtml('a\rb', it), (it) => html('a\rb', it), (it) => htmls('a\rb', [[0, 3]], it), (it) => blocks('a\rb', it).htmls],
+    ['strikethrough', true, (it) => documentHtml('~a~', it)], ['bareUrls', true, (it) => documentHtml('a@b.c', it)], ['tasks', true, (it) => documentHtml('- [x] a', it)],
+    ['referenceLimit', 1, (it) => documentHtml(limited, it), (it) => html('[a]', { definitions, ...it }), (it) => htmls('[a]', [[0, 3]], { definitions, ...it }), (it) => blocks(limited, it).htmls],
+    ['rules', 'crate', (it) => html('a*_b_*', it), (it) => rowsOf(string('&check;', it)), (it) => strings('&check;', [[[0, 7]]], it), (it) => reference('&check;', it), (it) => blocks('&check;', it).htmls],
+    ['bits', 0, (it) => html('*a*', it), (it) => rowsOf(text('*a*', it)), (it) => rowsOf(leaves('*a*', it)), (it) => links('[a](b)', it), (it) => tree('*a* b', it).children.length],
+    ['gfm', true, (it) => html('~a~', it), (it) => rowsOf(text('~a~', it)), (it) => blocks('~a~', it).htmls],
+    ['math', true, (it) => html('$a$', it), (it) => documentHtml('$a$', it)], ['task', true, (it) => html('[x] a', { gfm: true, ...it })], ['codeText', false, (it) => html('`a`', it)],
+    ['pieces', [[3, 4]], (it) => html('a\nbc', it), (it) => rowsOf(string('a\nbc', it)), (it) => isText('a\n\nb', it), (it) => isContent('a', it), (it) => links('[a](b) c', it)],
+    ['offsets', 'bytes', (it) => html('éa', { pieces: [[0, 2]], ...it }), (it) => rowsOf(texts('éa', [[0, 2]], it).at(0)), (it) => strings('éa', [[[0, 2]]], it), (it) => piecesOfLines('é\na', [[0, 2]], it)],
+    ['contents', [[0, 1]], (it) => links('a[b](c)', it)], ['definitions', { a: '/c' }, (it) => html('[a]', it), (it) => links('[a]', it), (it) => shortTexts('[a]', [[0, 3]], it).at(0).length],
+    ['footnotes', ['a'], (it) => html('[^a]', { gfm: true, ...it }), (it) => blocks('[^a]', { gfm: true, ...it }).htmls], ['maximum', 1, (it) => create(it).html('*a*'.repeat(99999))],
+    ['lineFeeds', true, (it) => strings('a\r', [[[0, 2]]], it)], ['replacedNul', true, (it) => strings('\0', [[[0, 1]]], it)],
+    // The fields of what is no options object.
+    ['firstOfItem', true, (it) => texts('[x] a', [{ pieces: [[0, 5]], ...it }], { gfm: true }).at(0).length], ['title', 'c', (it) => html('[a]', { definitions: { a: { destination: '/b', ...it } } })],
+    ['1', 'c', (it) => html('[a]', { definitions: { a: Object.assign(['/b'], it) } })], ['startVs', 1, (it) => rowsOf(text('\ta', { pieces: [{ start: 0, end: 2, ...it }] }))],
+    ['endVs', 1, (it) => rowsOf(text('a\t', { pieces: [{ start: 0, end: 1, ...it }] }))],
+  ]) {
+    for (const call of calls) {
+      const wanted = outcomeOf(() => call({}));
+      assert.notDeepEqual(outcomeOf(() => call({ [name]: value })), wanted, `${name} changes nothing: ${call}`);
+      assert.deepEqual(outcomeOf(() => call({ [name]: undefined })), wanted, `${name}: ${call}`);
+      assert.deepEqual(outcomeOf(() => call(Object.create({ [name]: value }))), wanted, `${name} is inherited: ${call}`);
+      Object.prototype[name] = value;
+      try {
+        assert.deepEqual([outcomeOf(() => call()), outcomeOf(() => call({}))], [wanted, wanted], `${name} is that of Object.prototype: ${call}`);
+      } finally {
+        delete Object.prototype[name];
+      }
+    }
+  }
+  // What the package keeps of a link, and its tables.
+  const given = '[a](b) <c:d>', wanted = links(given);
+  for (const [name, value] of [['address', ['javascript:', 0, 0]], ['Data', 'link'], ['crate', 0], ['commonmark', 0], ['__proto__x', true]]) {
+    Object.prototype[name] = value;
+    try {
+      assert.deepEqual([links(given), html('*a*')], [wanted, '<em>a</em>'], name);
+    } finally {
+      delete Object.prototype[name];
+    }
+  }
+});
+
+test('options are an object', () => {
+  const calls = [
+    documentHtml, blocks, html, links, text, tree, string, leaves, isText, isContent, ...[texts, shortTexts, htmls, strings, piecesOfLines].map((it) => (document, options) => it(document, [], options)),
+    (_, options) => reference('&amp;', options), (_, options) => create(options),
+  ];
+  for (const call of calls) {
+    for (const wrong of [1, 0, 'a', '', true, null, [], ['rawHtml'], Symbol('a'), () => {}, new Map([['rawHtml', true]]), new Uint8Array()]) assert.throws(() => call('a', wrong), { name: 'TypeError', message: /options/ }, String(call));
+    for (const name of ['nonsense', 'constructor', 'toString', '__proto__']) assert.throws(() => call('a', Object.defineProperty({}, name, { value: true, enumerable: true })), { name: 'TypeError', message: new RegExp(name) });
+    call('a', { nonsense: undefined });
+  }
+  // Options of another call.
+  for (const call of [() => text('a', { rawHtml: true }), () => documentHtml('a', { pieces: null }), () => strings('a', [], { pieces: null }), () => isText('a', { gfm: true }), () => html('a', { lineFeeds: true })]) assert.throws(call, TypeError);
+  for (const rules of ['constructor', 'toString', '__proto__']) assert.throws(() => text('a', { rules }), RangeError);
 });
 
 test('rows are sequences', () => {
@@ -214,6 +292,51 @@ test('documents have HTML', () => {
   ]) for (const it of [document, bytesOf(document)]) assert.equal(documentHtml(it, options), wanted);
   // Half of a pair that stands alone is read as U+FFFD.
   assert.equal(documentHtml('# \ud800é'), '<h1>\ufffdé</h1>\n');
+});
+
+test('constructs of documents are added one by one', () => {
+  // Examples of GFM 0.29 (6.5, 6.9, 5.3), each read with one construct of GitHub's and without.
+  const rows = [
+    ['strikethrough', '~~Hi~~ Hello, ~there~ world!\n', '<p><del>Hi</del> Hello, <del>there</del> world!</p>\n', '<p>~~Hi~~ Hello, ~there~ world!</p>\n'],
+    ['strikethrough', 'This will ~~~not~~~ strike.\n', ...Array(2).fill('<p>This will ~~~not~~~ strike.</p>\n')],
+    ['bareUrls', 'www.commonmark.org\n\n> foo@bar.baz\n', '<p><a href="http://www.commonmark.org">www.commonmark.org</a></p>\n<blockquote>\n<p><a href="mailto:foo@bar.baz">foo@bar.baz</a></p>\n</blockquote>\n', '<p>www.commonmark.org</p>\n<blockquote>\n<p>foo@bar.baz</p>\n</blockquote>\n'],
+    ['tasks', '- [ ] foo\n- [x] bar\n', '<ul>\n<li><input type="checkbox" disabled="" /> foo</li>\n<li><input type="checkbox" disabled="" checked="" /> bar</li>\n</ul>\n', '<ul>\n<li>[ ] foo</li>\n<li>[x] bar</li>\n</ul>\n'],
+    ['math', '$a$ $$b$$\n', '<p><code class="language-math math-inline">a</code> <code class="language-math math-inline">b</code></p>\n', '<p>$a$ $$b$$</p>\n'],
+  ];
+  for (const [name, document, added, plain] of rows) {
+    for (const given of [document, bytesOf(document)]) {
+      assert.equal(documentHtml(given, { [name]: true }), added);
+      for (const other of ['strikethrough', 'bareUrls', 'tasks', 'math']) if (other !== name) assert.equal(documentHtml(given, { [other]: true }), plain);
+      for (const options of [undefined, {}, { [name]: false }, { [name]: undefined }]) assert.equal(documentHtml(given, options), plain);
+    }
+  }
+});
+
+test('line endings are written as asked', () => {
+  const given = 'a\r\nb\rc\n\n    d\r\n';
+  for (const [options, wanted] of [
+    [{}, '<p>a\r\nb\rc</p>\n<pre><code>d\r\n</code></pre>\n'], [{ lineEnds: '\n' }, '<p>a\nb\nc</p>\n<pre><code>d\n</code></pre>\n'],
+    [{ lineEnds: '\r\n' }, '<p>a\r\nb\r\nc</p>\r\n<pre><code>d\r\n</code></pre>\r\n'],
+  ]) {
+    assert.equal(documentHtml(given, options), wanted);
+    const inline = `a${options.lineEnds ?? '\r'}b`;
+    assert.deepEqual([html('a\rb', options), htmls('a\rb', [[0, 3]], options), blocks('a\rb', options).htmls], [inline, [inline], [inline]]);
+  }
+});
+
+test('a byte order mark is passed over', () => {
+  for (const document of ['# a [b](c)\n', '> a\n', '[a]: /b\n\n[a]\n', '']) {
+    for (const [marked, plain, width] of [['\ufeff' + document, document, 1], [bytesOf('\ufeff' + document), bytesOf(document), 3]]) {
+      assert.equal(documentHtml(marked), documentHtml(plain));
+      const [found, wanted] = [blocks(marked), blocks(plain)], told = ({ kind, depth, line, lines, html }) => [kind, depth, line, lines, html];
+      assert.deepEqual([Array.from(found, told), found.definitions], [Array.from(wanted, told), wanted.definitions]);
+      assert.deepEqual(Array.from(found, ({ pieces }) => pieces.map(([start]) => start)), Array.from(wanted, ({ pieces }) => pieces.map(([start]) => start + width)));
+    }
+  }
+  // Code with tabs on the first line is that of the HTML.
+  for (const given of ['\ufeff>\t\ta\n', bytesOf('\ufeff>\t\ta\n')]) {
+    assert.equal(documentHtml(given), `<blockquote>\n<pre><code>${blocks(given).at(1).lines.join('')}</code></pre>\n</blockquote>\n`);
+  }
 });
 
 test('definitions bring no more than a limit', () => {

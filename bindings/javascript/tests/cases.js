@@ -3,6 +3,7 @@
 import { readFileSync } from 'node:fs';
 import { COMMONMARK, CRATE, GFM, MATH, OPTIONS, MarkdownInlineError, blocks, documentHtml, html, htmls, leaves, shortTexts, string, text, texts } from '../../out/javascript/index.js';
 
+const OF_DOCUMENTS = { strikethrough: OPTIONS.gfmStrikethrough, bareUrls: OPTIONS.gfmAutolinkLiteral, tasks: OPTIONS.gfmTaskListItem, math: OPTIONS.mathText };
 const SWITCHES = { gfm: GFM, math: MATH, task: OPTIONS.firstOfItem };
 const decoder = new TextDecoder('utf-8', { fatal: true, ignoreBOM: true });
 const KINDS = ['BlankLine', 'ThematicBreak', 'Heading', 'Paragraph', 'IndentedCode', 'FencedCode', 'Html', 'Quote', 'Item'];
@@ -77,7 +78,7 @@ function shownBlock(block, places) {
 const allBlocks = (found, places) => Array.from(found, (it) => shownBlock(it, places)).join('')
   + found.definitions.map(({ label, destination, title }) => ` ;${hex(label)}=${hex(destination)}${title === null ? '' : ':' + hex(title)}`).join('');
 
-function found(how, document, spans, options, places, labels, rest) {
+function found(how, bits, document, spans, options, places, labels, rest) {
   const content = (word) => {
     const [numbers, first] = word.split(':');
     return { pieces: spans.slice(...numbers.split('-').map(Number)), firstOfItem: first === '1' };
@@ -92,12 +93,13 @@ function found(how, document, spans, options, places, labels, rest) {
   if (how === 'leaves') return all(leaves(document, one), shownLeaf, places);
   if (how === 'texts') return parted([...texts(document, listed(rest[0]).map(content), { ...options, definitions: labels })].map((it) => all(it, shown, places)));
   if (how === 'shorts') return parted([...shortTexts(document, listed(rest[0]).map(content), { ...options, definitions: labels })].map((it) => all(it, shownShort, places)));
-  const held = { rawHtml: (rest[0] & 1) !== 0, anyLink: (rest[0] & 2) !== 0 };
-  if (how === 'document') return ' ' + hex(documentHtml(document, { ...held, referenceLimit: Number(rest[1]) || Infinity }));
-  if (how === 'blocks') return allBlocks(blocks(document, { ...options, offsets: undefined, ...held, referenceLimit: Number(rest[1]) || Infinity }), places);
+  const held = { rawHtml: (rest[0] & 1) !== 0, anyLink: (rest[0] & 2) !== 0, lineEnds: rest[0] & 0x20 ? '\n' : rest[0] & 0x40 ? '\r\n' : undefined };
+  const added = Object.fromEntries(Object.entries(OF_DOCUMENTS).map(([name, bit]) => [name, (bits & bit) !== 0]));
+  if (how === 'document') return ' ' + hex(documentHtml(document, { ...added, ...held, referenceLimit: Number(rest[1]) || undefined }));
+  if (how === 'blocks') return allBlocks(blocks(document, { ...options, offsets: undefined, ...held, referenceLimit: Number(rest[1]) || undefined }), places);
   const written = { ...options, ...held, definitions: targets(rest[1]) };
   if (how === 'html') return ' ' + hex(html(document, { ...written, pieces: spans }));
-  return parted(htmls(document, listed(rest[2]).map(content), { ...written, referenceLimit: Number(rest[3]) || Infinity }).map(hex));
+  return parted(htmls(document, listed(rest[2]).map(content), { ...written, referenceLimit: Number(rest[3]) || undefined }).map(hex));
 }
 
 function answer(line, number) {
@@ -106,7 +108,7 @@ function answer(line, number) {
   const inUnits = isInUnits ? spans.map(([start, end, ...vs]) => [places.units.get(start), places.units.get(end), ...vs]) : spans;
   const options = { ...asked(Number(bits), how), offsets: isInUnits ? 'utf-16' : 'bytes', footnotes: listed(notes).map(textOf) };
   try {
-    return how + found(how, given, inUnits, options, places, listed(labels).map(textOf), rest);
+    return how + found(how, Number(bits), given, inUnits, options, places, listed(labels).map(textOf), rest);
   } catch (error) {
     if (!(error instanceof MarkdownInlineError)) throw error;
     const blamed = error.at === null ? '' : ' ' + error.at, words = error.message.replace(/ \(number \d+\)$/, '');

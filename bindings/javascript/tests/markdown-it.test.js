@@ -229,6 +229,16 @@ tried('places', () => {
   assert.deepEqual(inline.children.map(({ meta }) => meta.markdown_inline), [{ start: 0, end: 3 }, { start: 3, end: 6 }, { start: 4, end: 5 }, { start: 3, end: 6 }]);
 });
 
+tried('settings are own properties of an object', () => {
+  for (const wrong of [1, 'places', [], null, { place: true }]) assert.throws(() => MarkdownIt().use(plugin, wrong), TypeError);
+  Object.prototype.places = true;
+  try {
+    for (const md of [MarkdownIt().use(plugin), MarkdownIt().use(plugin, {})]) assert.ok(md.parse('a *b*', {})[1].children.every(({ meta }) => meta === null));
+  } finally {
+    delete Object.prototype.places;
+  }
+});
+
 tried('pieces', () => {
   // What stands in the pieces of a token is what it has, and links are told by their places in the document.
   const document = '# *a* #\n\n> é [c](d)\r\n>   e\n> f  \n\n1. 1\n- é `g` \0\n\n| h | i | h |\n|---|---|---|\n| [j](k) || l\\|m |\n\nn\n=\n\n## # ##\n\n    x\n\n\to';

@@ -3,7 +3,7 @@
 
 usage: rows.py [pages]
 
-With `pages` the rows are those of markdown_page_examples, without those of line endings."""
+With `pages` the rows are those of markdown_page_examples."""
 import json
 import os
 import sys
@@ -24,8 +24,9 @@ def of_paragraphs():
 
 
 def of_documents():
+    known = {'safe', 'lf', 'crlf', 'strikethrough', 'bare_urls', 'tasks', 'math'}
     found = (pages.read(row) for groups in pages.rows().values() for group in groups.values() for row in group)
-    return (it for it in found if it[0] in ('', 'safe'))
+    return (it for it in found if known.issuperset(it[0]))
 
 
 for example in of_documents() if sys.argv[1:] == ['pages'] else of_paragraphs():

@@ -21,7 +21,7 @@ const six: Node[] = tree('a').children, seven: string = [...tree('*a*', { gfm: t
 plugin({}, { signs: { mention: /@/ }, places: true });
 const eight: number | undefined = piecesOf([{ type: 'inline', tag: '', markup: '', content: 'a', map: [0, 1] }], 'a')[0]?.[0]?.[0];
 const nine: string[] = htmls('> a', piecesOfLines('> a', [[1]]).map((pieces) => ({ pieces })));
-const ten: string = documentHtml('# a', { rawHtml: true }) + documentHtml(new Uint8Array());
+const ten: string = documentHtml('# a', { rawHtml: true, strikethrough: true, bareUrls: false, tasks: true, math: true, lineEnds: '\r\n' }) + documentHtml(new Uint8Array());
 for (const block of blocks('# [a]\n\n[a]: b', { gfm: true, rawHtml: true, footnotes: ['c'], referenceLimit: 9 })) {
   const kind: BlockKind = block.kind, line: number = block.line;
   for (const event of block.events) console.log(kind, line, event.line, event.column, event.offset, block.html, block.links[0]?.column, block.lines.length);
@@ -37,6 +37,8 @@ plugin({}, { signs: { mention: '@' } });
 text('a', { nonsense: true });
 // @ts-expect-error a document has no such option
 documentHtml('a', { gfm: true });
+// @ts-expect-error no such line ending
+documentHtml('a', { lineEnds: '\r' });
 // @ts-expect-error a document has its own definitions
 blocks('a', { definitions: ['a'] });
 // @ts-expect-error no such kind

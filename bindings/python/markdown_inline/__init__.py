@@ -57,14 +57,15 @@ Target = Union[Text, Tuple[Text, Optional[Text]]]
 Targets = Optional[Mapping[Any, Target]]
 Rules = Literal['commonmark', 'crate']
 Columns = Literal['bytes', 'characters', 'utf-16']
+LineEnds = Optional[Literal['\n', '\r\n']]
+# A number of bytes, or `math.inf`.
+Limit = Union[None, int, float]
 
 
 def _characters(document: Text, bytes_given: bytes) -> Optional[Characters]:
     return Characters(bytes_given) if isinstance(document, str) else None
 
 
-#: How many bytes definitions may bring by default where the document is shorter.
-_REFERENCE_LIMIT = 100_000
 _SETS = {'commonmark': COMMONMARK, 'crate': CRATE}
 
 
@@ -78,10 +79,6 @@ def _bits(options: Optional[int], rules: Rules, gfm: bool = False, math: bool = 
         if _arguments.flag_of(given, what):
             bits |= its_bits
     return bits
-
-
-def _limit(reference_limit: Optional[int], document: bytes) -> int:
-    return max(_REFERENCE_LIMIT, len(document)) if reference_limit is None else _arguments.limit_of(reference_limit)
 
 
 def _given(document: bytes, pieces: Pieces, options: int, definitions: Iterable[Text], footnotes: Iterable[Text]) -> _library.Given:
@@ -212,23 +209,35 @@ def _targets(definitions: Mapping[Any, Target]) -> List[Tuple[str, Optional[str]
     return found
 
 
-def document_html(document: Text, *, raw_html: bool = False, any_link: bool = False, reference_limit: Optional[int] = None) -> str:
-    """The HTML of a document, of its blocks and of the text inside them, as CommonMark 0.31.2 says. The document's own definitions count. `raw_html` writes raw
-    HTML as it stands and not as text; `any_link` lets links lead wherever they say and not to listed schemes alone. Line endings of the document stay; those that
-    the page itself brings are line feeds. `reference_limit` is that of `htmls`.
+def document_html(document: Text, *, strikethrough: bool = False, bare_urls: bool = False, tasks: bool = False, math: bool = False, raw_html: bool = False,
+                  any_link: bool = False, line_ends: LineEnds = None, reference_limit: Limit = None) -> str:
+    """Renders a document to HTML: its blocks and the text inside them, following CommonMark 0.31.2. The document's own definitions count, and a byte order mark at
+    its front is no text. NotUtf8 has the first byte that is not UTF-8 as `at`.
+
+    Four words add constructs of GitHub's, each by itself: `strikethrough`, by one or two tildes; `bare_urls`, links for URLs and email addresses without angle
+    brackets; `tasks`, checkboxes of task list items; `math`, math spans by one or more dollars. `raw_html` writes raw HTML as it is and not as text, and `any_link`
+    lets links lead wherever they say and not only to listed schemes. `line_ends` is what each line ending is written as, '\\n' or '\\r\\n'; by default those of the
+    document stay as they are, and the page adds line feeds. `reference_limit` is that of `htmls`.
 
     >>> document_html('> [a](b:c)\\n\\n<p>')
     '<blockquote>\\n<p><a href="">a</a></p>\\n</blockquote>\\n&lt;p&gt;\\n'
+    >>> document_html('~a~ www.b.c', strikethrough=True, bare_urls=True, line_ends='\\r\\n')
+    '<p><del>a</del> <a href="http://www.b.c">www.b.c</a></p>\\r\\n'
     """
-    bytes_given = _arguments.text_of(document, 'document')
-    status, found = _library.document_html(bytes_given, _shown(raw_html, any_link), _limit(reference_limit, bytes_given))
+    bytes_given, bits = _arguments.text_of(document, 'document'), COMMONMARK
+    for given, what, name in (
+            (strikethrough, 'strikethrough', 'gfm_strikethrough'), (bare_urls, 'bare_urls', 'gfm_autolink_literal'), (tasks, 'tasks', 'gfm_task_list_item'),
+            (math, 'math', 'math_text')):
+        if _arguments.flag_of(given, what):
+            bits |= OPTIONS[name]
+    status, found, blamed = _library.document_html(bytes_given, bits, _shown(raw_html, any_link, line_ends), _arguments.limit_of(reference_limit))
     if status:
-        raise raised(status)
+        raise raised(status, blamed)
     return str(found, 'utf-8')
 
 
 def blocks(document: Text, gfm: bool = False, math: bool = False, *, rules: Rules = 'commonmark', options: Optional[int] = None, footnotes: Iterable[Text] = (),
-           raw_html: bool = False, any_link: bool = False, reference_limit: Optional[int] = None, columns: Columns = 'bytes') -> Blocks:
+           raw_html: bool = False, any_link: bool = False, line_ends: LineEnds = None, reference_limit: Limit = None, columns: Columns = 'bytes') -> Blocks:
     """The blocks of a document, in order, by CommonMark 0.31.2, and what stands in the texts of its headings and paragraphs. The document's own definitions count.
     Texts are read as `gfm`, `math`, `rules` or `options` say, as of `texts`; their HTML is written as the words of `htmls` say, and columns of links count what
     `columns` says. Lines, columns and bytes are those of the document. Checks of tasks may stand in the first paragraph right in an item.
@@ -244,21 +253,21 @@ def blocks(document: Text, gfm: bool = False, math: bool = False, *, rules: Rule
     """
     given, bits = _arguments.text_of(document, 'document'), _bits(options, rules, gfm, math)
     _arguments.one_of(columns, _links.COLUMNS, 'columns')
-    asked = Asked(bits, _arguments.labels_of(footnotes, 'footnotes'), _shown(raw_html, any_link), _limit(reference_limit, given), columns)
+    asked = Asked(bits, _arguments.labels_of(footnotes, 'footnotes'), _shown(raw_html, any_link, line_ends), _arguments.limit_of(reference_limit), columns)
     return Blocks(given, _characters(document, given), asked)
 
 
-def _shown(raw_html: bool, any_link: bool) -> int:
-    """What HTML may hold, as bits."""
-    return _arguments.flag_of(raw_html, 'raw_html') | _arguments.flag_of(any_link, 'any_link') << 1
+def _shown(raw_html: bool, any_link: bool, line_ends: LineEnds) -> int:
+    """What HTML may contain and how it is written, as bits."""
+    return _arguments.flag_of(raw_html, 'raw_html') | _arguments.flag_of(any_link, 'any_link') << 1 | _arguments.line_ends_of(line_ends)
 
 
 def html(document: Text, pieces: Pieces = None, gfm: bool = False, math: bool = False, *, task: bool = False, rules: Rules = 'commonmark',
          options: Optional[int] = None, definitions: Targets = None, footnotes: Iterable[Text] = (), raw_html: bool = False, any_link: bool = False,
-         reference_limit: Optional[int] = None) -> str:
+         line_ends: LineEnds = None, reference_limit: Limit = None) -> str:
     """The HTML of a text. `definitions` has for each label, as it is written, its destination, or the destination and a title, with escapes and
     character references resolved. `raw_html` writes raw HTML as it stands and not as text; `any_link` lets links lead wherever they say and not to
-    listed schemes alone. `reference_limit` is that of `htmls`. The rest is said as of `text`, and so is what a call costs: for many contents there is
+    listed schemes alone. `line_ends` is that of `document_html`, and `reference_limit` that of `htmls`. The rest is said as of `text`, and so is what a call costs: for many contents there is
     `htmls`.
 
     >>> html('*a* [b]', definitions={'b': ('/c', 'd')})
@@ -269,20 +278,21 @@ def html(document: Text, pieces: Pieces = None, gfm: bool = False, math: bool = 
     given = _library.Given(
         bytes_given, _arguments.pieces_of(pieces, len(bytes_given)), _bits(options, rules, gfm, math, task), defined,
         _arguments.labels_of(footnotes, 'footnotes'), written)
-    status, found = _library.html(given, targets, len(defined), _shown(raw_html, any_link), _limit(reference_limit, bytes_given))
+    status, found = _library.html(given, targets, len(defined), _shown(raw_html, any_link, line_ends), _arguments.limit_of(reference_limit))
     if status:
         raise raised(status)
     return str(found, 'utf-8')
 
 
 def htmls(document: Text, contents: Contents, gfm: bool = False, math: bool = False, *, rules: Rules = 'commonmark', options: Optional[int] = None,
-          definitions: Targets = None, footnotes: Iterable[Text] = (), raw_html: bool = False, any_link: bool = False, reference_limit: Optional[int] = None) -> List[str]:
+          definitions: Targets = None, footnotes: Iterable[Text] = (), raw_html: bool = False, any_link: bool = False, line_ends: LineEnds = None,
+          reference_limit: Limit = None) -> List[str]:
     """The HTML of many contents of a document as texts. The document is prepared once, and each content costs what it costs by itself, wherever it stands.
     Footnotes are numbered through all contents. What is asked for is said as of `html`, but for what begins a list item: that each content says.
 
     `reference_limit` is how many bytes definitions may bring to all contents together: those of the destination and of the title, for each link and image that
-    refers to one. 0 is no limit, and None is as many as cmark lets them bring: the length of the document, or 100,000 where that is more. Past it the error is
-    References.
+    refers to one. None is as many as cmark lets them bring: the length of the document, or 100,000 where that is more. `math.inf` is no limit. If definitions
+    bring more, References is raised.
 
     >>> htmls('a[^b]\\n\\n*c*', [Content([(0, 5)]), Content([(7, 10)])])
     ['a[^b]', '<em>c</em>']
@@ -291,7 +301,7 @@ def htmls(document: Text, contents: Contents, gfm: bool = False, math: bool = Fa
     pieces, listed, count = _arguments.contents_of(contents)
     defined, targets, written = _arguments.targets_of(definitions)
     given = _library.Given(bytes_given, pieces, _bits(options, rules, gfm, math), defined, _arguments.labels_of(footnotes, 'footnotes'), written)
-    asked, limit = _shown(raw_html, any_link), _limit(reference_limit, bytes_given)
+    asked, limit = _shown(raw_html, any_link, line_ends), _arguments.limit_of(reference_limit)
     status, found, ends, blamed = _library.htmls(given, targets, len(defined), listed, count, asked, limit)
     if status:
         raise raised(status, blamed)

@@ -1,10 +1,12 @@
 """Prints what stands on standard input, which is one paragraph: its events as the program mdinline does, with the same words and the same statuses; or
 its tree, its HTML or its links. Of files, or of standard input as a file, it prints the HTML with all blocks."""
+import math
 import os
 import sys
 
 from . import COMMONMARK, CRATE, GFM, MATH, Error, Events, NotUtf8, OPTIONS, References, TooLong, __version__, document_html, html, links, string, text
 from . import _program, _tables
+from ._links import line_starts
 
 USAGE = '''usage: python -m markdown_inline text|string [WORD]..        the events
        python -m markdown_inline --tree [text|string] [WORD]..  what stands in what, with its text
@@ -13,7 +15,8 @@ USAGE = '''usage: python -m markdown_inline text|string [WORD]..        the even
        python -m markdown_inline --document [WORD].. [FILE]..   the HTML of files, with all blocks
        python -m markdown_inline --help|--version
 words: gfm math task crate cm-lengths cm-shortcut html-references commonmark note=TEXT; of events and the tree label=TEXT; of HTML and links define=LABEL
-       to=DESTINATION [title=TEXT]; of HTML raw any-link; of documents raw any-link alone'''
+       to=DESTINATION [title=TEXT]; of HTML raw any-link; of documents those of mdhtml: --strikethrough --bare-urls --tasks --math --raw --any-link --lf
+       --crlf --no-limit'''
 # The words of mdinline. By `crate` the program reads as mdinline does, by the rules of the crate where the last four say nothing else.
 SWITCHES = {
     'gfm': GFM, 'math': MATH, 'task': OPTIONS['first_of_item'], 'crate': 0, 'cm-lengths': OPTIONS['attention_first_lengths'],
@@ -21,6 +24,11 @@ SWITCHES = {
 }
 # Words that say what HTML may hold.
 SHOWN = {'raw': 'raw_html', 'any-link': 'any_link'}
+# The words of mdhtml, as those of `document_html`.
+OF_DOCUMENTS = {
+    '--strikethrough': {'strikethrough': True}, '--bare-urls': {'bare_urls': True}, '--tasks': {'tasks': True}, '--math': {'math': True}, '--raw': {'raw_html': True},
+    '--any-link': {'any_link': True}, '--lf': {'line_ends': '\n'}, '--crlf': {'line_ends': '\r\n'}, '--no-limit': {'reference_limit': math.inf},
+}
 # Statuses: a word is not known, memory was refused, reading or writing failed.
 USAGE_STATUS, NO_MEMORY, FAILED = 2, 5, 6
 
@@ -37,7 +45,7 @@ class Asked:
     """What the words ask for."""
 
     def __init__(self, words):
-        self.how, self.reads, self.options, self.html = '', '', CRATE if 'crate' in words else COMMONMARK, {'raw_html': False, 'any_link': False}
+        self.how, self.reads, self.options, self.html = '', '', CRATE if 'crate' in words else COMMONMARK, {}
         self.labels, self.notes, self.targets, self.files = [], [], [], []
         words, take = list(words), self.take
         if words and words[0] in ('--tree', '--html', '--links', '--document'):
@@ -54,21 +62,19 @@ class Asked:
         """Takes a word, and returns whether it is known and stands where it may."""
         name, sign, words = word.partition('=')
         if not sign:
-            if self.how == '--html' and self.take_shown(name):
+            if self.how == '--html' and name in SHOWN:
+                self.html[SHOWN[name]] = True
                 return True
             self.options |= SWITCHES.get(name, 0)
             return name in SWITCHES
         return self.take_text(name, os.fsencode(words))
 
-    def take_shown(self, word):
-        if word in SHOWN:
-            self.html[SHOWN[word]] = True
-        return word in SHOWN
-
     def take_file(self, word):
-        """Takes what HTML may hold, or the name of a file. No name begins with a hyphen."""
-        if not self.take_shown(word):
-            self.files.append(word)
+        """Takes a word of documents, or the name of a file. No name begins with a hyphen."""
+        if word in OF_DOCUMENTS:
+            self.html.update(OF_DOCUMENTS[word])
+            return True
+        self.files.append(word)
         return not word.startswith('-')
 
     def take_text(self, name, words):
@@ -118,10 +124,18 @@ def read(file=None):
 
 def document_of(file, html):
     """The HTML of a file, or of standard input."""
+    given = read(file)
     try:
-        return document_html(read(file), **html)
+        return document_html(given, **html)
     except (NotUtf8, References) as error:
-        raise Fault(error.status, str(error) if file is None else '%r: %s' % (file, error)) from None
+        said = ('' if file is None else '%r: ' % file) + str(error) + ('' if error.at is None else place_of(given, error.at))
+        raise Fault(error.status, said) from None
+
+
+def place_of(document, byte):
+    """The line and the column of a byte before which all is UTF-8. Columns count characters."""
+    starts = line_starts(document[:byte])
+    return ': line %d, column %d' % (len(starts), len(document[starts[-1]:byte].decode()) + 1)
 
 
 def read_all():

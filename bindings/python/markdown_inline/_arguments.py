@@ -1,5 +1,6 @@
 """What callers hand over, as the library takes it. What is no text, no piece and no option is refused with a TypeError, a ValueError or an
 OverflowError that names it; so nothing of it reaches a call."""
+import math
 import operator
 import struct
 from array import array
@@ -11,6 +12,8 @@ _TARGET = struct.Struct('=4QI4x')
 _CONTENT = struct.Struct('=2QI4x')
 _NO_NUMBERS = array('Q')
 BUFFERS = (bytes, bytearray, memoryview)
+# How line endings are written, as bits of HTML.
+_LINE_ENDS = {'\n': 0x20, '\r\n': 0x40}
 _NO_PIECES = (str, range) + BUFFERS
 
 
@@ -66,8 +69,17 @@ def bits_of(given):
     return bits
 
 
+def line_ends_of(given):
+    """The bits of HTML that say how line endings are written. None leaves them as they are."""
+    return 0 if given is None else one_of(given, _LINE_ENDS, 'line_ends')
+
+
 def limit_of(given):
-    """A limit on bytes."""
+    """A limit on bytes as the library takes it. None is its default, and `math.inf` is none."""
+    if given is None:
+        return 0
+    if isinstance(given, float) and given == math.inf:
+        return 2 ** 64 - 1
     if isinstance(given, bool):
         raise TypeError('reference_limit is a number of bytes, and not a bool')
     try:
@@ -76,6 +88,8 @@ def limit_of(given):
         raise TypeError('reference_limit is a number of bytes, and not a %s' % _kind(given)) from None
     if not 0 <= limit < 2 ** 64:
         raise OverflowError('reference_limit is below 0 or has more than 64 bits')
+    if limit == 0:
+        raise ValueError('reference_limit is from 1 on, and math.inf for none')
     return limit
 
 

@@ -32,8 +32,17 @@ class Input(ctypes.Structure):
 
 
 class Outcome(ctypes.Structure):
-    """How far a call for many comes."""
+    """How far a call comes."""
     _fields_ = [('done', _size), ('count', _size), ('blamed', _size)]
+
+    def at(self):
+        """The number of what is to blame, or None."""
+        return None if self.blamed == NONE else self.blamed
+
+
+class DocumentOptions(ctypes.Structure):
+    """How a document is read and written. The reserved words are 0."""
+    _fields_ = [('options', ctypes.c_uint32), ('html', ctypes.c_uint32), ('reserved', 2 * ctypes.c_uint32), ('limit', _size), ('reserved_words', 13 * _size)]
 
 
 class Given:
@@ -89,7 +98,7 @@ def _load():
     given, outcome, counts = [ctypes.POINTER(Input)], [ctypes.POINTER(Outcome)], [ctypes.POINTER(_size)]
     for name, arguments in (
         ('is_content', text + numbers), ('is_text', text + numbers), ('pieces_of_lines', text + 2 * numbers + outcome), ('string', given + lent), ('text', given + lent), ('leaves', given + lent),
-        ('document_html', text + [ctypes.c_uint32, _size] + lent), ('blocks', text + 2 * numbers + counts), ('definitions', text + 3 * numbers + counts), ('identifier', text + lent), ('reference', [ctypes.c_uint32] + text + lent), ('texts', given + 3 * numbers + outcome), ('short_texts', given + 3 * numbers + outcome),
+        ('document_html', text + [ctypes.POINTER(DocumentOptions)] + numbers + outcome), ('blocks', text + 2 * numbers + counts), ('definitions', text + 3 * numbers + counts), ('identifier', text + lent), ('reference', [ctypes.c_uint32] + text + lent), ('texts', given + 3 * numbers + outcome), ('short_texts', given + 3 * numbers + outcome),
         ('html', given + numbers + [ctypes.c_uint32, _size] + lent), ('htmls', given + 2 * numbers + [ctypes.c_uint32, _size] + 2 * numbers + outcome),
         ('strings', 2 * [ctypes.c_uint32] + text + 4 * numbers + outcome),
     ):
@@ -141,7 +150,7 @@ def filled(call, size, room):
     count = _size()
     for _ in range(2):
         lent = _lend(room)
-        status = call(lent, len(lent) // size, ctypes.byref(count))
+        status = call(lent, len(lent) // size, count)
         if status != TOO_SMALL:
             return status, _written(lent, count.value * size if status == DONE else 0)
         _give_back(lent)
@@ -186,7 +195,7 @@ def filled_many(call, size, room, many, goes_on=True):
         found = _written(lent, written)
         del lent
         if status != TOO_SMALL:
-            return status, found, ends, None if outcome.blamed == NONE else outcome.blamed
+            return status, found, ends, outcome.at()
         room, at, kept = before + outcome.count * size, done, found
         del found
     raise RuntimeError('the library wants other room for the same input')
@@ -215,9 +224,16 @@ def decoded(name, text, *before):
     return filled(lambda *lent: function(*before, text, len(text), *lent), 1, len(text))
 
 
-def document_html(document, options, limit):
-    """Calls for the HTML of a document: the status, and its bytes."""
-    return filled(lambda *lent: LIBRARY.markdown_inline_document_html(document, len(document), options, limit, *lent), 1, 2 * len(document))
+def document_html(document, options, html_options, limit):
+    """Calls for the HTML of a document: the status, its bytes, and the first byte that is not UTF-8, if one is not."""
+    asked, outcome = DocumentOptions(options=options, html=html_options, limit=limit), Outcome()
+
+    def call(lent, room, count):
+        status = LIBRARY.markdown_inline_document_html(document, len(document), asked, lent, room, outcome)
+        count.value = outcome.count
+        return status
+
+    return (*filled(call, 1, 2 * len(document)), outcome.at())
 
 
 def blocks(document):
@@ -279,7 +295,7 @@ def pieces_of_lines(document, starts):
     pieces, outcome = array('Q', bytes(32 * len(starts))), Outcome()
     status = LIBRARY.markdown_inline_pieces_of_lines(
         document, len(document), starts.buffer_info()[0], len(starts), pieces.buffer_info()[0], len(starts), ctypes.byref(outcome))
-    return status, pieces, None if outcome.blamed == NONE else outcome.blamed
+    return status, pieces, outcome.at()
 
 
 def strings(options, string_options, document, parts, listed, count):

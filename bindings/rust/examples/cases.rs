@@ -2,8 +2,8 @@
 //! `crates/markdown_test_runs` does, leaves, HTML in hexadecimal, or the events or the HTML of each text; where there are none, why.
 
 use markdown_inline::{
-    blocks, document_html_within, Block, Blocks, Definition, Error, Event, HtmlOptions, Htmls,
-    Input, Leaf, Options, Piece, Point, Refusal, ShortEvent, TextContent,
+    blocks, document_html, Block, Blocks, Definition, DocumentOptions, Error, Event, HtmlOptions,
+    Htmls, Input, Leaf, LineEnds, Options, Piece, Point, Refusal, ShortEvent, TextContent,
 };
 use std::io::{self, BufRead};
 
@@ -116,13 +116,18 @@ fn shorts_of(input: &Input, contents: &str) -> Result<String, Refusal> {
     Ok(shown.collect())
 }
 
-// What HTML may hold, by bits.
+// What HTML may contain and how it is written, by bits.
 fn held(bits: &str) -> HtmlOptions {
     let bits: u32 = bits.parse().unwrap();
-    HtmlOptions {
-        raw_html: bits & 1 > 0,
-        any_link: bits & 2 > 0,
-    }
+    let line_ends = match bits & 0x60 {
+        0x20 => LineEnds::Lf,
+        0x40 => LineEnds::CrLf,
+        _ => LineEnds::Kept,
+    };
+    HtmlOptions::default()
+        .raw_html(bits & 1 > 0)
+        .any_link(bits & 2 > 0)
+        .line_ends(line_ends)
 }
 
 fn html_of(html: Result<String, Error>) -> Result<String, Error> {
@@ -200,9 +205,15 @@ fn answer(words: &[&str]) -> Result<String, Refusal> {
         "leaves" => Ok(input.leaves()?.iter().map(shown_leaf).collect()),
         "html" => Ok(html_of(input.html(held(words[6])))?),
         "document" => {
-            let limit = words[7].parse().unwrap();
-            let html = document_html_within(&document, held(words[6]), limit);
-            Ok(html_of(html)?)
+            let mut asked = DocumentOptions::default()
+                .strikethrough(options.contains(Options::GFM_STRIKETHROUGH))
+                .bare_urls(options.contains(Options::GFM_AUTOLINK_LITERAL))
+                .tasks(options.contains(Options::GFM_TASK_LIST_ITEM))
+                .math(options.contains(Options::MATH_TEXT));
+            asked.html = held(words[6]);
+            asked.reference_limit = words[7].parse().unwrap();
+            let html = document_html(&document, &asked)?;
+            Ok(format!(" {}", hexadecimal(html.as_bytes())))
         }
         "blocks" => {
             let found = blocks(&document)?;

@@ -11,6 +11,7 @@ use std::slice::from_ref;
 
 /// What a block is.
 #[derive(Clone, Copy, Debug, PartialEq, Eq, Hash)]
+#[non_exhaustive]
 pub enum BlockKind {
     /// A blank line.
     BlankLine,
@@ -49,6 +50,7 @@ impl BlockKind {
 
 /// A block of a document.
 #[derive(Clone, Copy)]
+#[non_exhaustive]
 pub struct Block<'b> {
     /// What it is.
     pub kind: BlockKind,
@@ -76,6 +78,7 @@ pub struct Block<'b> {
 
 /// A link reference definition: its label as it is written, and where it leads, with escapes and character references resolved.
 #[derive(Clone, Copy, Debug, PartialEq, Eq, Hash)]
+#[non_exhaustive]
 pub struct Definition<'b> {
     /// Its label.
     pub label: &'b str,

@@ -10,7 +10,7 @@ use std::ops::Range;
 pub(crate) fn fill<T>(
     found: &mut Vec<T>,
     expected: usize,
-    call: impl Fn(*mut T, usize, &mut usize) -> u32,
+    mut call: impl FnMut(*mut T, usize, &mut usize) -> u32,
 ) -> Result<(), Error> {
     found.clear();
     // Where there is no room for so many, the call is made all the same: there may be fewer, or another error comes.

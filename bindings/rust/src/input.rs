@@ -2,7 +2,7 @@
 
 use crate::fill::{fill, fill_many, fitted};
 use crate::raw::{self, Call, RawContent, RawInput, RawRange, RawTarget, TextsCall};
-use crate::{Error, Events, HtmlOptions, Htmls, Leaves, Options, Piece};
+use crate::{Error, Events, HtmlOptions, Htmls, Leaves, Options, Piece, NO_LIMIT};
 use crate::{Refusal, ShortTexts, TextContent, Texts};
 use std::borrow::Cow;
 use std::mem;
@@ -42,13 +42,8 @@ pub struct Input<'a> {
     reference_limit: usize,
 }
 
-/// How many bytes definitions may bring by default, if the document is not longer: as many as cmark lets them bring.
-const REFERENCE_LIMIT: usize = 100_000;
-
-/// How many bytes definitions may bring by default to a document.
-pub(crate) fn usual_limit(document: &[u8]) -> usize {
-    document.len().max(REFERENCE_LIMIT)
-}
+/// The limit by default where the document is not longer, which is cmark's.
+const LEAST_DEFAULT_LIMIT: usize = 100_000;
 
 impl<'a> Input<'a> {
     /// A whole document, read as CommonMark says, with nothing defined.
@@ -66,7 +61,7 @@ impl<'a> Input<'a> {
             targets: Cow::default(),
             footnotes: Vec::new(),
             options: Options::default(),
-            reference_limit: usual_limit(document),
+            reference_limit: 0,
         }
     }
 
@@ -140,7 +135,7 @@ impl<'a> Input<'a> {
     }
 
     /// How many bytes definitions may bring to the text of `html`, or to all contents of `htmls` or of `links` together: those of the destination and of the title, for each link
-    /// and image that refers to one. 0 is no limit. By default it is the length of the document, or 100,000 where the document is shorter.
+    /// and image that refers to one. 0, the default, is the larger of 100,000 and the length of the document, and [`NO_LIMIT`] is no limit.
     #[must_use]
     pub fn reference_limit(mut self, limit: usize) -> Input<'a> {
         self.set_reference_limit(limit);
@@ -616,8 +611,13 @@ impl<'a> Input<'a> {
         self.options
     }
 
-    pub(crate) fn limit_given(&self) -> usize {
-        self.reference_limit
+    /// How many bytes definitions may bring, if there is a limit.
+    pub(crate) fn limit_given(&self) -> Option<usize> {
+        match self.reference_limit {
+            0 => Some(self.document.len().max(LEAST_DEFAULT_LIMIT)),
+            NO_LIMIT => None,
+            limit => Some(limit),
+        }
     }
 
     /// Where the definition with this number leads.

@@ -4,8 +4,8 @@
 //! [`blocks`] finds its blocks. All other calls read the text inside one block, or those of several.
 //!
 //! ```
-//! # fn main() -> Result<(), markdown_inline::Error> {
-//! let html = markdown_inline::document_html("# a *b*\n\n- [c](/d)\n", Default::default())?;
+//! # fn main() -> Result<(), markdown_inline::Refusal> {
+//! let html = markdown_inline::document_html("# a *b*\n\n- [c](/d)\n", &Default::default())?;
 //! assert_eq!(html, "<h1>a <em>b</em></h1>\n<ul>\n<li><a href=\"/d\">c</a></li>\n</ul>\n");
 //! # Ok(())
 //! # }
@@ -89,66 +89,51 @@ pub use joined::Joined;
 pub use leaf::{Leaf, LeafIter, Leaves};
 pub use links::FoundLink;
 pub use name::{Name, UnknownName};
-pub use options::{HtmlOptions, Options, StringOptions};
+pub use options::{DocumentOptions, HtmlOptions, LineEnds, Options, StringOptions, NO_LIMIT};
 pub use raw::Piece;
 pub use short::{ShortEvent, ShortIter, ShortTexts, ShortTextsIter};
 pub use strings::{strings, strings_with, Strings, StringsIter};
 pub use texts::{TextContent, Texts, TextsIter};
 
-use input::usual_limit;
+use event::number_of;
+use raw::RawOutcome;
 
-/// The HTML of a document, of its blocks and of the text inside them, as CommonMark 0.31.2 says. The document's own definitions count. Line endings of the
-/// document stay; those that the page itself brings are line feeds.
-///
-/// Definitions may bring as many bytes as the document has, or 100,000 where it is shorter: those of the destination and of the title, for each link and image that
-/// refers to one. [`document_html_within`] takes another limit.
+/// Renders a document to HTML: its blocks and the text inside them, following CommonMark 0.31.2, with the constructs that the options add. The document's own
+/// definitions count, and a byte order mark at its front is no text.
 ///
 /// # Errors
 ///
-/// `TooLong`, `NotUtf8`, `References` or `NoMemory`.
+/// `TooLong`, `NotUtf8`, `References` or `NoMemory`. Where it is `NotUtf8`, `at` of the refusal is the first byte that is not UTF-8.
 ///
 /// ```
-/// use markdown_inline::{document_html, HtmlOptions};
-/// let options = HtmlOptions { raw_html: true, ..HtmlOptions::default() };
-/// assert_eq!(document_html("<b>\n\n[a](b:c)\n", options).unwrap(), "<b>\n<p><a href=\"\">a</a></p>\n");
+/// use markdown_inline::{document_html, DocumentOptions, Error};
+/// let options = DocumentOptions::default().raw_html(true);
+/// assert_eq!(document_html("<b>\n\n[a](b:c)\n", &options).unwrap(), "<b>\n<p><a href=\"\">a</a></p>\n");
+/// let within = |limit| document_html("[a]\n\n[a]: /bc\n", &DocumentOptions::default().reference_limit(limit));
+/// assert_eq!(within(3).unwrap(), "<p><a href=\"/bc\">a</a></p>\n");
+/// assert_eq!(within(2).unwrap_err().error, Error::References);
 /// ```
 pub fn document_html<D: AsRef<[u8]> + ?Sized>(
     document: &D,
-    options: HtmlOptions,
-) -> Result<String, Error> {
-    document_html_within(document, options, usual_limit(document.as_ref()))
-}
-
-/// The HTML of a document as of [`document_html`], where definitions may bring as many bytes as this limit says; 0 is no limit. Without one, n references to a
-/// definition of n bytes write n * n bytes.
-///
-/// # Errors
-///
-/// `TooLong`, `NotUtf8`, `References` or `NoMemory`.
-///
-/// ```
-/// use markdown_inline::{document_html_within, Error, HtmlOptions};
-/// let within = |limit| document_html_within("[a]\n\n[a]: /bc\n", HtmlOptions::default(), limit);
-/// assert_eq!(within(3).unwrap(), "<p><a href=\"/bc\">a</a></p>\n");
-/// assert_eq!(within(2), Err(Error::References));
-/// ```
-pub fn document_html_within<D: AsRef<[u8]> + ?Sized>(
-    document: &D,
-    options: HtmlOptions,
-    limit: usize,
-) -> Result<String, Error> {
-    let document = document.as_ref();
+    options: &DocumentOptions,
+) -> Result<String, Refusal> {
+    let (document, asked, mut outcome) = (document.as_ref(), options.raw(), RawOutcome::default());
     // SAFETY: each pointer goes with the length of its array, and nothing is kept.
-    text_by(2 * document.len() + 128, |array, len, count| unsafe {
-        raw::markdown_inline_document_html(
+    let found = text_by(2 * document.len() + 128, |array, len, count| unsafe {
+        let status = raw::markdown_inline_document_html(
             document.as_ptr(),
             document.len(),
-            options.bits(),
-            limit,
+            &asked,
             array,
             len,
-            count,
-        )
+            &mut outcome,
+        );
+        *count = outcome.count;
+        status
+    });
+    found.map_err(|error| Refusal {
+        error,
+        at: number_of(outcome.blamed),
     })
 }
 
@@ -234,7 +219,7 @@ pub fn reference_with<R: AsRef<[u8]> + ?Sized>(
 
 fn text_by(
     expected: usize,
-    call: impl Fn(*mut u8, usize, &mut usize) -> u32,
+    call: impl FnMut(*mut u8, usize, &mut usize) -> u32,
 ) -> Result<String, Error> {
     let mut found = Vec::new();
     fill::fill(&mut found, expected, call)?;

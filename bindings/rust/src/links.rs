@@ -197,7 +197,7 @@ impl Input<'_> {
             &walk.strings,
         )?;
         let text = |number: usize| texts.get(number).unwrap_or("").to_string();
-        let mut left = Some(self.limit_given()).filter(|limit| *limit > 0);
+        let mut left = self.limit_given();
         for (link, [destination, title]) in found.iter_mut().zip(walk.named) {
             if let Some(number) = destination {
                 link.destination = text(number);

@@ -1,5 +1,6 @@
-//! What is looked for.
+//! What is looked for, and how it is written.
 
+use crate::raw::RawDocumentOptions;
 use std::ops::{BitOr, BitOrAssign, Sub, SubAssign};
 
 /// A set of constructs and settings. Sets are joined by `|`, and one is taken out of another by `-`.
@@ -96,23 +97,176 @@ impl Options {
     }
 }
 
-/// What HTML may hold.
+/// How line endings are written in HTML.
 #[derive(Clone, Copy, Debug, Default, PartialEq, Eq, Hash)]
+#[non_exhaustive]
+pub enum LineEnds {
+    /// Those of the document stay as they are, and a page adds line feeds.
+    #[default]
+    Kept,
+    /// Each is a line feed.
+    Lf,
+    /// Each is a carriage return and a line feed.
+    CrLf,
+}
+
+/// What HTML may contain and how it is written. By default nothing of the document becomes markup, and no link leads to a script.
+///
+/// ```
+/// use markdown_inline::{HtmlOptions, Input};
+/// let options = HtmlOptions::default().raw_html(true);
+/// assert_eq!(Input::new("<b> [a](b:c)").html(options).unwrap(), "<b> <a href=\"\">a</a>");
+/// ```
+#[derive(Clone, Copy, Debug, Default, PartialEq, Eq, Hash)]
+#[non_exhaustive]
 pub struct HtmlOptions {
-    /// Whether raw HTML is written as it stands, and not as text.
+    /// Whether raw HTML is written as it is, and not as text.
     pub raw_html: bool,
-    /// Whether links and images lead wherever they say, and not to listed schemes alone.
+    /// Whether links and images lead wherever they say, and not only to listed schemes.
     pub any_link: bool,
+    /// How line endings are written.
+    pub line_ends: LineEnds,
 }
 
 impl HtmlOptions {
+    /// Writes raw HTML as it is, or as text.
+    #[must_use]
+    pub const fn raw_html(mut self, raw_html: bool) -> HtmlOptions {
+        self.raw_html = raw_html;
+        self
+    }
+
+    /// Lets links and images lead wherever they say, or only to listed schemes.
+    #[must_use]
+    pub const fn any_link(mut self, any_link: bool) -> HtmlOptions {
+        self.any_link = any_link;
+        self
+    }
+
+    /// Writes line endings so.
+    #[must_use]
+    pub const fn line_ends(mut self, line_ends: LineEnds) -> HtmlOptions {
+        self.line_ends = line_ends;
+        self
+    }
+
     pub(crate) fn bits(self) -> u32 {
-        u32::from(self.raw_html) | u32::from(self.any_link) << 1
+        let line_ends = match self.line_ends {
+            LineEnds::Kept => 0,
+            LineEnds::Lf => 0x20,
+            LineEnds::CrLf => 0x40,
+        };
+        u32::from(self.raw_html) | u32::from(self.any_link) << 1 | line_ends
+    }
+}
+
+/// As a limit on what references expand to: none.
+pub const NO_LIMIT: usize = usize::MAX;
+
+/// How a document is read and written. By default it is read as CommonMark 0.31.2 says, and nothing of it becomes markup.
+///
+/// ```
+/// use markdown_inline::{document_html, DocumentOptions};
+/// let options = DocumentOptions::default().strikethrough(true).bare_urls(true);
+/// let html = document_html("~a~ www.b.c", &options).unwrap();
+/// assert_eq!(html, "<p><del>a</del> <a href=\"http://www.b.c\">www.b.c</a></p>\n");
+/// ```
+#[derive(Clone, Debug, Default, PartialEq, Eq, Hash)]
+#[non_exhaustive]
+pub struct DocumentOptions {
+    /// Whether text between one or two tildes is struck through (GFM 6.5).
+    pub strikethrough: bool,
+    /// Whether URLs and email addresses without angle brackets are links (GFM 6.9).
+    pub bare_urls: bool,
+    /// Whether list items may begin with a checkbox (GFM 5.3).
+    pub tasks: bool,
+    /// Whether there are math spans, by one or more dollars.
+    pub math: bool,
+    /// What the HTML may contain and how it is written.
+    pub html: HtmlOptions,
+    /// How many bytes references may expand to: those of the destination and of the title, for each link and image that refers to a definition. 0 is the larger of
+    /// 100,000 and the length of the document, and [`NO_LIMIT`] is no limit. Without a limit, n references to a definition of n bytes expand to n * n bytes.
+    pub reference_limit: usize,
+}
+
+impl DocumentOptions {
+    /// Reads strikethrough, or not.
+    #[must_use]
+    pub fn strikethrough(mut self, strikethrough: bool) -> DocumentOptions {
+        self.strikethrough = strikethrough;
+        self
+    }
+
+    /// Makes links of URLs and email addresses without angle brackets, or not.
+    #[must_use]
+    pub fn bare_urls(mut self, bare_urls: bool) -> DocumentOptions {
+        self.bare_urls = bare_urls;
+        self
+    }
+
+    /// Reads checkboxes of task list items, or not.
+    #[must_use]
+    pub fn tasks(mut self, tasks: bool) -> DocumentOptions {
+        self.tasks = tasks;
+        self
+    }
+
+    /// Reads math spans, or not.
+    #[must_use]
+    pub fn math(mut self, math: bool) -> DocumentOptions {
+        self.math = math;
+        self
+    }
+
+    /// Writes raw HTML as it is, or as text.
+    #[must_use]
+    pub fn raw_html(mut self, raw_html: bool) -> DocumentOptions {
+        self.html.raw_html = raw_html;
+        self
+    }
+
+    /// Lets links and images lead wherever they say, or only to listed schemes.
+    #[must_use]
+    pub fn any_link(mut self, any_link: bool) -> DocumentOptions {
+        self.html.any_link = any_link;
+        self
+    }
+
+    /// Writes line endings so.
+    #[must_use]
+    pub fn line_ends(mut self, line_ends: LineEnds) -> DocumentOptions {
+        self.html.line_ends = line_ends;
+        self
+    }
+
+    /// Limits how many bytes references may expand to, as the field of this name says.
+    #[must_use]
+    pub fn reference_limit(mut self, limit: usize) -> DocumentOptions {
+        self.reference_limit = limit;
+        self
+    }
+
+    pub(crate) fn raw(&self) -> RawDocumentOptions {
+        let constructs = [
+            (self.strikethrough, Options::GFM_STRIKETHROUGH),
+            (self.bare_urls, Options::GFM_AUTOLINK_LITERAL),
+            (self.tasks, Options::GFM_TASK_LIST_ITEM),
+            (self.math, Options::MATH_TEXT),
+        ];
+        let asked = constructs.into_iter().filter(|(is_asked, _)| *is_asked);
+        let options = asked.fold(Options::COMMONMARK, |all, (_, option)| all | option);
+        RawDocumentOptions {
+            options: options.bits(),
+            html: self.html.bits(),
+            limit: self.reference_limit,
+            ..RawDocumentOptions::default()
+        }
     }
 }
 
 /// How the texts of strings are written.
 #[derive(Clone, Copy, Debug, Default, PartialEq, Eq, Hash)]
+#[non_exhaustive]
 pub struct StringOptions {
     /// Whether a line feed is written for each line ending.
     pub line_feeds: bool,
@@ -121,6 +275,20 @@ pub struct StringOptions {
 }
 
 impl StringOptions {
+    /// Writes a line feed for each line ending, or leaves line endings as they are.
+    #[must_use]
+    pub const fn line_feeds(mut self, line_feeds: bool) -> StringOptions {
+        self.line_feeds = line_feeds;
+        self
+    }
+
+    /// Writes U+FFFD for NUL, or leaves NUL as it is.
+    #[must_use]
+    pub const fn replaced_nul(mut self, replaced_nul: bool) -> StringOptions {
+        self.replaced_nul = replaced_nul;
+        self
+    }
+
     pub(crate) fn bits(self) -> u32 {
         u32::from(self.line_feeds) | u32::from(self.replaced_nul) << 1
     }

@@ -149,7 +149,18 @@ pub(crate) struct RawDefinitionsCount {
     pub labels: usize,
 }
 
-/// How far a call for many comes.
+/// How a document is read and written. What is reserved is 0.
+#[derive(Clone, Copy, Debug, Default)]
+#[repr(C)]
+pub(crate) struct RawDocumentOptions {
+    pub options: u32,
+    pub html: u32,
+    pub reserved: [u32; 2],
+    pub limit: usize,
+    pub reserved_words: [usize; 13],
+}
+
+/// How far a call comes.
 #[derive(Clone, Copy, Debug, Default)]
 #[repr(C)]
 pub(crate) struct RawOutcome {
@@ -163,6 +174,7 @@ const _: () = assert!(size_of::<RawInput>() == 88 && size_of::<RawEvent>() == 56
 const _: () = assert!(size_of::<RawLeaf>() == 96 && size_of::<RawTarget>() == 40);
 const _: () = assert!(size_of::<RawContent>() == 24 && size_of::<RawOutcome>() == 24);
 const _: () = assert!(size_of::<RawShortEvent>() == 16 && size_of::<RawBlock>() == 48);
+const _: () = assert!(size_of::<RawDocumentOptions>() == 128);
 
 /// A call that fills an array by what is found in an input.
 pub(crate) type Call<T> = unsafe extern "C" fn(*const RawInput, *mut T, usize, *mut usize) -> u32;
@@ -184,11 +196,10 @@ extern "C" {
     pub(crate) fn markdown_inline_document_html(
         bytes: *const u8,
         bytes_len: usize,
-        html_options: u32,
-        limit: usize,
+        options: *const RawDocumentOptions,
         html: *mut u8,
         html_len: usize,
-        count: *mut usize,
+        outcome: *mut RawOutcome,
     ) -> u32;
     pub(crate) fn markdown_inline_blocks(
         bytes: *const u8,

@@ -78,7 +78,7 @@ pub fn strings<D: AsRef<[u8]> + ?Sized>(
 /// ```
 /// # fn main() -> Result<(), markdown_inline::Refusal> {
 /// use markdown_inline::{strings_with, Options, StringOptions};
-/// let how = StringOptions { line_feeds: true, ..StringOptions::default() };
+/// let how = StringOptions::default().line_feeds(true);
 /// let found = strings_with(Options::HTML_REFERENCES, how, "&check;\r\n", &[0..9], &[0..1])?;
 /// assert_eq!(found.get(0), Some("\u{2713}\n"));
 /// # Ok(())

@@ -1,8 +1,8 @@
 //! The blocks of documents, and what stands in their texts.
 
 use markdown_inline::{
-    blocks, document_html, document_html_within, BlockKind, Definition, Error, HtmlOptions, Input,
-    Name, Options, Piece, Refusal, TextContent,
+    blocks, document_html, BlockKind, DocumentOptions, Error, HtmlOptions, Input, Name, Options,
+    Piece, Refusal, TextContent, NO_LIMIT,
 };
 
 const DOCUMENT: &str = "# é *a*\n\n> 3) [b][B] ![c](/d)\n>    `e`\n>\n> 4) ~~~ f&amp;g\n>    \th\n>    ~~~\n\n***\n- i\n- [x] <jj:k>\n<!-- l\n\nm\n=\n[b]: </n> \"o\"\n";
@@ -111,17 +111,12 @@ fn links_have_places_of_the_document() {
 fn definitions_are_told() {
     let document = "[A]: /b \"c\"\n[a]: <d&amp;\\*>\n\n> [é\n> f]:\n> g\n\n[a] [é f] [h]";
     let found = blocks(document).unwrap();
-    let of = |label, destination, title| Definition {
-        label,
-        destination,
-        title,
-    };
-    let wanted = [
-        of("A", "/b", Some("c")),
-        of("a", "d&*", None),
-        of("é\nf", "g", None),
-    ];
-    assert!(found.definitions().eq(wanted));
+    let told = found.definitions();
+    assert!(told.map(|it| (it.label, it.destination, it.title)).eq([
+        ("A", "/b", Some("c")),
+        ("a", "d&*", None),
+        ("é\nf", "g", None),
+    ]));
     let htmls = |input: Input| {
         let found = input.htmls(found.contents(), HtmlOptions::default());
         found.unwrap().as_str().to_string()
@@ -175,14 +170,19 @@ fn definitions_bring_no_more_than_a_limit() {
         "[a]\n\n".repeat(101) + "[a]: " + &"x".repeat(1000),
         HtmlOptions::default(),
     );
-    let len_within = |limit| document_html_within(&document, held, limit).map(|it| it.len());
-    let usual = document_html(&document, held).map(drop);
-    assert_eq!(usual, Err(Error::References));
-    assert_eq!(len_within(100_999), Err(Error::References));
-    assert_eq!(len_within(101_000), Ok(101 * 1024));
-    assert_eq!(len_within(0), Ok(101 * 1024));
+    let len_within = |limit| {
+        let options = DocumentOptions::default().reference_limit(limit);
+        let html = document_html(&document, &options);
+        html.map(|it| it.len()).map_err(Error::from)
+    };
+    for limit in [0, 1, 100_999] {
+        assert_eq!(len_within(limit), Err(Error::References));
+    }
+    for limit in [101_000, NO_LIMIT] {
+        assert_eq!(len_within(limit), Ok(101 * 1024));
+    }
     let padded = document.clone() + "\n\n" + &"y".repeat(100_000);
-    assert!(document_html(&padded, held).is_ok());
+    assert!(document_html(&padded, &DocumentOptions::default()).is_ok());
     let found = blocks(&document).unwrap();
     let refused = found.input().htmls(found.contents(), held).unwrap_err();
     let wanted = Refusal {
@@ -199,4 +199,33 @@ fn what_is_no_document_is_refused() {
     let input = found.input().options(Options::from_bits(1 << 31));
     let refused = input.texts(&[TextContent::from(0..1)]).map(drop);
     assert_eq!(refused.map_err(Error::from), Err(Error::UnknownOption));
+}
+
+/// A byte order mark is no text, and places count it.
+#[test]
+fn a_byte_order_mark_is_passed_over() {
+    let safe = DocumentOptions::default();
+    for document in ["# a [b](c)\n", "> a\n", "[a]: /b\n\n[a]\n", ""] {
+        let marked = format!("\u{feff}{document}");
+        assert_eq!(
+            document_html(&marked, &safe),
+            document_html(document, &safe)
+        );
+        let (found, plain) = (blocks(&marked).unwrap(), blocks(document).unwrap());
+        assert_eq!(format!("{found:?}"), format!("{plain:?}"));
+        let lines = found.iter().flat_map(|block| block.lines());
+        assert!(lines.eq(plain.iter().flat_map(|block| block.lines())));
+        let starts = |it: &markdown_inline::Blocks| -> Vec<usize> {
+            let pieces = it.iter().flat_map(|block| block.pieces.to_vec());
+            pieces.map(|piece| piece.start).collect()
+        };
+        let moved: Vec<_> = starts(&plain).iter().map(|start| start + 3).collect();
+        assert_eq!(starts(&found), moved);
+        assert!(found.definitions().eq(plain.definitions()));
+    }
+    // Code with tabs on the first line is that of the HTML.
+    let marked = "\u{feff}>\t\ta\n";
+    let code: String = blocks(marked).unwrap().get(1).unwrap().lines().collect();
+    let html = format!("<blockquote>\n<pre><code>{code}</code></pre>\n</blockquote>\n");
+    assert_eq!(document_html(marked, &safe).unwrap(), html);
 }

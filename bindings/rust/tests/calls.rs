@@ -2,8 +2,9 @@
 
 use markdown_inline::{
     document_html, identifier, is_right_version, reference, reference_with, string, strings,
-    strings_with, text, Error, Event, Events, HtmlOptions, Htmls, Input, Name, Options, Piece,
-    Refusal, ShortEvent, ShortTexts, StringOptions, TextContent, Texts,
+    strings_with, text, DocumentOptions, Error, Event, Events, HtmlOptions, Htmls, Input, LineEnds,
+    Name, Options, Piece, Refusal, ShortEvent, ShortTexts, StringOptions, TextContent, Texts,
+    NO_LIMIT,
 };
 use std::thread;
 
@@ -164,10 +165,9 @@ fn references_are_decoded_by_options() {
         (false, true, "a\r\nb\rc\u{fffd}\r"),
         (true, true, "a\nb\nc\u{fffd}\r"),
     ] {
-        let how = StringOptions {
-            line_feeds,
-            replaced_nul,
-        };
+        let how = StringOptions::default()
+            .line_feeds(line_feeds)
+            .replaced_nul(replaced_nul);
         let given = "a\r\nb\rc\0&#13;";
         let found = strings_with(
             Options::COMMONMARK,
@@ -380,8 +380,10 @@ fn references_bring_no_more_than_a_limit_to_one_text() {
     let mut html = String::from("before");
     let refused = input.html_into(HtmlOptions::default(), &mut html);
     assert_eq!((refused, html.as_str()), (Err(Error::References), ""));
-    assert_eq!(asked(100_000), Err(Error::References));
-    let found = asked(0).unwrap();
+    for limit in [0, 100_000] {
+        assert_eq!(asked(limit), Err(Error::References));
+    }
+    let found = asked(NO_LIMIT).unwrap();
     assert!(found.contains("checkbox") && found.len() > 100_001);
     assert_eq!(asked(100_001).unwrap(), found);
     let past_end = [Piece {
@@ -414,7 +416,8 @@ fn references_bring_no_more_than_a_limit() {
     input.set_reference_limit(101_000);
     assert_eq!(asked(&input), Ok(()));
     assert_eq!(asked(&input.clone().reference_limit(100_999)), refused(0));
-    assert_eq!(asked(&input.reference_limit(0)), Ok(()));
+    assert_eq!(asked(&input.clone().reference_limit(0)), refused(0));
+    assert_eq!(asked(&input.reference_limit(NO_LIMIT)), Ok(()));
     let document = "[a] ".repeat(100) + &"x".repeat(100_000 - 400);
     let input = Input::new(&document).definition_to("a", &long, None);
     assert_eq!(asked(&input), Ok(()));
@@ -450,10 +453,7 @@ fn html_is_safe_where_nothing_else_is_asked() {
         input.html(HtmlOptions::default()).unwrap(),
         "&lt;b&gt; <a href=\"\">a</a> <a href=\"/d\" title=\"e\">c</a>"
     );
-    let options = HtmlOptions {
-        raw_html: true,
-        any_link: true,
-    };
+    let options = HtmlOptions::default().raw_html(true).any_link(true);
     assert_eq!(
         input.html(options).unwrap(),
         "<b> <a href=\"javascript:b\">a</a> <a href=\"/d\" title=\"e\">c</a>"
@@ -463,7 +463,7 @@ fn html_is_safe_where_nothing_else_is_asked() {
 /// Examples of CommonMark 0.31.2 (2.2, 4.6, 4.7, 5.1), and what the options change.
 #[test]
 fn documents_have_html() {
-    let safe = HtmlOptions::default();
+    let safe = &DocumentOptions::default();
     for (document, html) in [
         (
             "- foo\n\n\t\tbar\n",
@@ -498,10 +498,86 @@ fn documents_have_html() {
             "<b>\n<p><a href=\"b:c\">a</a></p>\n",
         ),
     ] {
-        let options = HtmlOptions { raw_html, any_link };
-        assert_eq!(document_html(document, options).unwrap(), html);
+        let options = DocumentOptions::default()
+            .raw_html(raw_html)
+            .any_link(any_link);
+        assert_eq!(document_html(document, &options).unwrap(), html);
     }
-    assert_eq!(document_html(b"a\xff", safe), Err(Error::NotUtf8));
+    let refusal = document_html(b"a\n\xe2\x82", safe).unwrap_err();
+    assert_eq!((refusal.error, refusal.at), (Error::NotUtf8, Some(2)));
+}
+
+/// Examples of GFM 0.29 (5.3, 6.5, 6.9), each read with one construct of GitHub's and without, and what CommonMark 0.31.2 makes of all.
+#[test]
+fn constructs_of_documents_are_added_one_by_one() {
+    let safe = DocumentOptions::default();
+    let (strikethrough, bare_urls) = (
+        safe.clone().strikethrough(true),
+        safe.clone().bare_urls(true),
+    );
+    let (tasks, math) = (safe.clone().tasks(true), safe.clone().math(true));
+    for (options, document, with, without) in [
+        (
+            &strikethrough,
+            "~~Hi~~ Hello, ~there~ world!\n",
+            "<p><del>Hi</del> Hello, <del>there</del> world!</p>\n",
+            "<p>~~Hi~~ Hello, ~there~ world!</p>\n",
+        ),
+        (
+            &bare_urls,
+            "www.commonmark.org\n\n> foo@bar.baz\n",
+            "<p><a href=\"http://www.commonmark.org\">www.commonmark.org</a></p>\n<blockquote>\n<p><a href=\"mailto:foo@bar.baz\">foo@bar.baz</a></p>\n</blockquote>\n",
+            "<p>www.commonmark.org</p>\n<blockquote>\n<p>foo@bar.baz</p>\n</blockquote>\n",
+        ),
+        (
+            &tasks,
+            "- [ ] foo\n- [x] bar\n",
+            "<ul>\n<li><input type=\"checkbox\" disabled=\"\" /> foo</li>\n<li><input type=\"checkbox\" disabled=\"\" checked=\"\" /> bar</li>\n</ul>\n",
+            "<ul>\n<li>[ ] foo</li>\n<li>[x] bar</li>\n</ul>\n",
+        ),
+        (
+            &math,
+            "$a$ $$b$$\n",
+            "<p><code class=\"language-math math-inline\">a</code> <code class=\"language-math math-inline\">b</code></p>\n",
+            "<p>$a$ $$b$$</p>\n",
+        ),
+    ] {
+        assert_eq!(document_html(document, options).unwrap(), with);
+        for other in [&safe, &strikethrough, &bare_urls, &tasks, &math] {
+            if other != options {
+                assert_eq!(document_html(document, other).unwrap(), without);
+            }
+        }
+    }
+}
+
+#[test]
+fn line_endings_are_written_as_asked() {
+    let document = "a\r\nb\rc\n\n    d\r\n";
+    for (line_ends, wanted) in [
+        (
+            LineEnds::Kept,
+            "<p>a\r\nb\rc</p>\n<pre><code>d\r\n</code></pre>\n",
+        ),
+        (
+            LineEnds::Lf,
+            "<p>a\nb\nc</p>\n<pre><code>d\n</code></pre>\n",
+        ),
+        (
+            LineEnds::CrLf,
+            "<p>a\r\nb\r\nc</p>\r\n<pre><code>d\r\n</code></pre>\r\n",
+        ),
+    ] {
+        let options = DocumentOptions::default().line_ends(line_ends);
+        assert_eq!(document_html(document, &options).unwrap(), wanted);
+        let inline = Input::new("a\rb").html(HtmlOptions::default().line_ends(line_ends));
+        let ending = match line_ends {
+            LineEnds::Lf => "\n",
+            LineEnds::CrLf => "\r\n",
+            _ => "\r",
+        };
+        assert_eq!(inline.unwrap(), format!("a{ending}b"));
+    }
 }
 
 #[test]
@@ -623,10 +699,19 @@ fn links_are_found_with_where_they_lead() {
         let contents = [0..0, 0..1].map(TextContent::from);
         input.reference_limit(limit).links(&contents)
     };
-    assert_eq!(limited(15).unwrap().len(), 4);
-    assert_eq!(limited(0).unwrap().len(), 4);
+    for limit in [0, 15, NO_LIMIT] {
+        assert_eq!(limited(limit).unwrap().len(), 4);
+    }
     let refusal = limited(14).unwrap_err();
     assert_eq!((refusal.error, refusal.at), (Error::References, Some(1)));
+    let (many, long) = ("[a] ".repeat(101) + "b", "x".repeat(1000));
+    let of = |limit| {
+        let input = Input::new(&many).definition_to("a", &long, None);
+        let found = input.reference_limit(limit);
+        found.links(&[TextContent::from(0..1)]).map(|it| it.len())
+    };
+    assert_eq!(of(0).map_err(Error::from), Err(Error::References));
+    assert_eq!(of(NO_LIMIT), Ok(101));
     let bad = Input::new("[a]").definition_to("a", b"\xff", None);
     let refusal = bad.links(&[TextContent::from(0..1)]).unwrap_err();
     assert_eq!((refusal.error, refusal.at), (Error::Definition, Some(0)));

@@ -2,8 +2,8 @@
 #![cfg(all(target_os = "linux", target_env = "gnu"))]
 
 use markdown_inline::{
-    blocks, document_html, identifier, reference, strings, Error, Events, HtmlOptions, Htmls,
-    Input, Piece, TextContent, Texts,
+    blocks, document_html, identifier, reference, strings, DocumentOptions, Error, Events,
+    HtmlOptions, Htmls, Input, Piece, TextContent, Texts,
 };
 use std::cell::Cell;
 use std::ffi::c_void;
@@ -81,7 +81,7 @@ fn refused_memory_is_an_error() {
         refused(|| input.htmls_into(&contents, options, &mut htmls)).map_err(Error::from),
         refused(|| strings("a", &[0..1, 0..1], &[0..2, 0..1]).map(drop)).map_err(Error::from),
         refused(|| Piece::of_lines("a", &[0]).map(drop)).map_err(Error::from),
-        refused(|| document_html("a", options).map(drop)),
+        refused(|| document_html("a", &DocumentOptions::default()).map(drop)).map_err(Error::from),
         refused(|| blocks("a").map(drop)),
         refused(|| identifier("A").map(drop)),
         refused(|| reference("&amp;").map(drop)),

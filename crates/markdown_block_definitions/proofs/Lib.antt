@@ -12,6 +12,7 @@ pub mod PlainRuns
 pub mod RawWalks
 pub mod ReadingRests
 pub mod ResolvedRowLemmas
+pub mod RowPieceLemmas
 pub mod SaidTexts
 pub mod SpotReads
 pub mod TextPushes

@@ -18,11 +18,11 @@ use Rattle.markdown_block_line.proofs.RestValues.{values-length}
 use Rattle.markdown_blocks.specs.TextRows.{IsLinePiece}
 use Rattle.markdown_block_definitions.proofs.CodesAt.{by-code}
 
-and-first : (a b : Bool) → (a && b) ≡ true → a ≡ true
+pub and-first : (a b : Bool) → (a && b) ≡ true → a ≡ true
 and-first true b h = refl
 and-first false b h = h
 
-and-second : (a b : Bool) → (a && b) ≡ true → b ≡ true
+pub and-second : (a b : Bool) → (a && b) ≡ true → b ≡ true
 and-second true b h = h
 and-second false b h = absurd (cc)
 
@@ -32,7 +32,7 @@ onto-ending : (c : Code) (ls : List (List Code)) → is_line_ending c ≡ true �
 onto-ending c [] h = refl
 onto-ending c (l ∷ ls) h = ap (λ b. if b then (c ∷ []) ∷ l ∷ ls else (c ∷ l) ∷ ls) h
 
-onto-other : (c : Code) (l : List Code) (ls : List (List Code)) → is_line_ending c ≡ false → onto_line c (l ∷ ls) ≡ (c ∷ l) ∷ ls
+pub onto-other : (c : Code) (l : List Code) (ls : List (List Code)) → is_line_ending c ≡ false → onto_line c (l ∷ ls) ≡ (c ∷ l) ∷ ls
 onto-other c l ls h = ap (λ b. if b then (c ∷ []) ∷ l ∷ ls else (c ∷ l) ∷ ls) h
 
 -- where codes are, there is a line
@@ -155,7 +155,7 @@ lines-same xs ys e = sym (lines-cover xs) ∙ ap (flat_map (λ l. l)) e ∙ line
 
 -- Pieces of one line each.
 
-past-ending : (c d : Code) (ds : List Code) → is_line (c ∷ d ∷ ds) ≡ true → (is_line_ending c ≡ false) × (is_line (d ∷ ds) ≡ true)
+pub past-ending : (c d : Code) (ds : List Code) → is_line (c ∷ d ∷ ds) ≡ true → (is_line_ending c ≡ false) × (is_line (d ∷ ds) ≡ true)
 past-ending c d ds h = by_ending (is_line_ending c) h
   where
     by_ending : (b : Bool) → (if b then false else is_line (d ∷ ds)) ≡ true → (b ≡ false) × (is_line (d ∷ ds) ≡ true)
@@ -181,14 +181,14 @@ last-line (c ∷ d ∷ ds) h =
     onto (l ∷ ls) s e = ap length (onto-other c l ls e)
 
 module _ (bytes : List ℕ) where
-  first-line : (p q : Piece) (rest : List Piece) → are_pieces bytes (p ∷ q ∷ rest) ≡ true → All (IsLinePiece bytes) (p ∷ q ∷ rest)
+  pub first-line : (p q : Piece) (rest : List Piece) → are_pieces bytes (p ∷ q ∷ rest) ≡ true → All (IsLinePiece bytes) (p ∷ q ∷ rest)
       → lines_of (content_of bytes (p ∷ q ∷ rest)) ≡ piece_codes (codes_of bytes) p ∷ lines_of (content_of bytes (q ∷ rest))
   first-line p q rest h a =
       whole-line (piece_codes (codes_of bytes) p) (content_of bytes (q ∷ rest)) (a 0 p (omega arith))
       (and-first (ends_line (piece_codes (codes_of bytes) p)) (is_at_or_after p.end q.start && is_one_line bytes p.end q.start)
       (and-second (is_piece bytes p && are_pieces bytes (q ∷ rest)) (ends_line (piece_codes (codes_of bytes) p) && (is_at_or_after p.end q.start && is_one_line bytes p.end q.start)) h))
 
-  others : (p : Piece) (rest : List Piece) → All (IsLinePiece bytes) (p ∷ rest) → All (IsLinePiece bytes) rest
+  pub others : (p : Piece) (rest : List Piece) → All (IsLinePiece bytes) (p ∷ rest) → All (IsLinePiece bytes) rest
   others p rest a = λ k d l. a (suc k) d (omega (arith, l))
 
   one-piece : (p : Piece) → All (IsLinePiece bytes) (p ∷ []) → length (lines_of (content_of bytes (p ∷ []))) ≤ 1

@@ -10,7 +10,7 @@ use Rattle.markdown_content.specs.Content.{document_limit}
 use Rattle.markdown_content.specs.declared.parser.Piece.{Piece}
 use Rattle.markdown_model.specs.CodeTests.{is_whitespace_code}
 use Rattle.markdown_block_model.specs.BlockTree as model
-use Rattle.markdown_block_model.specs.BlockTree.{Tree, nothing, and_leaf, and_container}
+use Rattle.markdown_block_model.specs.BlockTree.{no_extensions, Tree, nothing, and_leaf, and_container}
 use Rattle.markdown_block_model.specs.DocumentBlocks.{blocks_of}
 use Rattle.markdown_block_model.specs.LineRests.{trimmed_end}
 use Rattle.markdown_block_model.specs.LinkDefinitions.{has_text, text_of_leaf, resolved, definitions_of, definitions_in, definitions_within, definitions, document_tree}
@@ -21,7 +21,7 @@ use Rattle.markdown_blocks.specs.BlockRows.{leaf_of, with_row, rows_from, tree_o
 use Rattle.markdown_blocks.specs.NestedRows.{AreNested}
 use Rattle.markdown_blocks.specs.TreeDepth.{spine, at_depth}
 use Rattle.markdown_blocks.specs.declared.block.Blocks.{Blocks}
-use Rattle.markdown_blocks.specs.TextRows.{HasPlacedText}
+use Rattle.markdown_blocks.specs.TextRows.{AreLinePieces, ArePlaced, HasPlacedText}
 use Rattle.markdown_blocks.specs.declared.block.Leaf.{Leaf}
 use Rattle.markdown_blocks.specs.declared.block.Leaf.TheVariants.{Blank, ThematicBreak, Heading, Underlined, Paragraph, IndentedCode, FencedCode, Html}
 use Rattle.markdown_blocks.specs.declared.block.Row.{Row}
@@ -29,7 +29,7 @@ use Rattle.markdown_blocks.specs.declared.block.Row.TheVariants.{LeafAt, Contain
 use Rattle.markdown_blocks.proofs.NestedRowLemmas.{spine-leaf, spine-container}
 use Rattle.markdown_blocks.proofs.TextEndLemmas.{text-content}
 use Rattle.markdown_block_definitions.specs.DefinitionTexts.{Texts, texts_in}
-use Rattle.markdown_block_definitions.specs.ResolvedRows.{IsTextRow, definitions_of_row, IsResolvedLeaf, IsResolvedRow, AreResolved}
+use Rattle.markdown_block_definitions.specs.ResolvedRows.{IsTextRow, IsLineRow, definitions_of_row, IsResolvedLeaf, IsResolvedRow, AreResolved}
 
 -- Leaves.
 
@@ -44,17 +44,20 @@ trimmed-left cs left cut e f =
     let same : left ≡ (definitions_of (trimmed_end cs)).1 = f ∙ ap (λ x. trimmed_end (definitions_of x).1) e ∙ ends in
     ap trimmed_end same ∙ ends
 
+pub placed-lines : (bytes : List ℕ) (ps : List Piece) → ArePlaced bytes ps → AreLinePieces bytes ps
+placed-lines bytes ps h = record { in_order = h.in_order; between_characters = h.between_characters; one_line_each = h.one_line_each }
+
 -- a leaf whose text has no definitions
 pub other-leaf : (bytes : List ℕ) (l : Leaf) → length bytes ≤ document_limit → HasPlacedText bytes l → ((n : ℕ) (text : Vec Piece) → l ≡ Underlined n text → ⊥) → ((text : Vec Piece) → l ≡ Paragraph text → ⊥)
     → IsResolvedLeaf bytes l l × (definitions_in (leaf_of bytes l) ≡ [])
-other-leaf bytes Blank f p u t = (record { leaf = refl; text = λ b. tt }, refl)
-other-leaf bytes ThematicBreak f p u t = (record { leaf = refl; text = λ b. tt }, refl)
-other-leaf bytes (Heading n piece) f p u t = (record { leaf = refl; text = λ b. text-content bytes (piece ∷ []) p b f }, refl)
+other-leaf bytes Blank f p u t = (record { leaf = refl; text = λ b. tt; lines = tt }, refl)
+other-leaf bytes ThematicBreak f p u t = (record { leaf = refl; text = λ b. tt; lines = tt }, refl)
+other-leaf bytes (Heading n piece) f p u t = (record { leaf = refl; text = λ b. text-content bytes (piece ∷ []) p b f; lines = placed-lines bytes (piece ∷ []) p.placed }, refl)
 other-leaf bytes (Underlined n text) f p u t = absurd (u n text refl)
 other-leaf bytes (Paragraph text) f p u t = absurd (t text refl)
-other-leaf bytes (IndentedCode ls) f p u t = (record { leaf = refl; text = λ b. tt }, refl)
-other-leaf bytes (FencedCode fence info ls ended) f p u t = (record { leaf = refl; text = λ b. tt }, refl)
-other-leaf bytes (Html k text ended) f p u t = (record { leaf = refl; text = λ b. tt }, refl)
+other-leaf bytes (IndentedCode ls) f p u t = (record { leaf = refl; text = λ b. tt; lines = p }, refl)
+other-leaf bytes (FencedCode fence info ls ended) f p u t = (record { leaf = refl; text = λ b. tt; lines = p }, refl)
+other-leaf bytes (Html k text ended) f p u t = (record { leaf = refl; text = λ b. tt; lines = p }, refl)
 
 -- Rows.
 
@@ -133,6 +136,17 @@ module _ (bytes : List ℕ) where
   text-rows u [] (s ∷ ss) h = absurd h
   text-rows u (r ∷ rs) [] h = absurd h
 
+  row-lines : (r s : Row) → IsResolvedRow bytes r s → IsLineRow bytes s
+  row-lines (LeafAt d l) (LeafAt e m) h = h.1.lines
+  row-lines r (ContainerAt e b) h = tt
+  row-lines (ContainerAt d c) (LeafAt e m) h = absurd h
+
+  pub line-rows : (rs ss : List Row) → AreResolved bytes rs ss → All (IsLineRow bytes) ss
+  line-rows [] [] h = All-nil (IsLineRow bytes)
+  line-rows (r ∷ rs) (s ∷ ss) h = All-cons (IsLineRow bytes) s ss (row-lines r s h.0) (line-rows rs ss h.1)
+  line-rows [] (s ∷ ss) h = absurd h
+  line-rows (r ∷ rs) [] h = absurd h
+
 -- Definitions.
 
 within-leaf : (n : ℕ) (l : model.Leaf) (t : Tree) → n ≤ length (spine t) → definitions_within (at_depth n (λ s. and_leaf s l) t) ≡ definitions_within t ++ definitions_in l
@@ -159,12 +173,12 @@ within-rows bytes (ContainerAt d c ∷ rs) t h =
 
 -- The document.
 
-module _ (bytes : List ℕ) (found : Blocks) (is : tree_of bytes found ≡ blocks_of has_text bytes) (nested : AreNested 0 found.rows.items) where
-  pub document-definitions : flat_map (definitions_of_row bytes) found.rows.items ≡ definitions bytes
+module _ (bytes : List ℕ) (found : Blocks) (is : tree_of bytes found ≡ blocks_of no_extensions has_text bytes) (nested : AreNested 0 found.rows.items) where
+  pub document-definitions : flat_map (definitions_of_row bytes) found.rows.items ≡ definitions no_extensions bytes
   document-definitions = sym (within-rows bytes found.rows.items nothing nested) ∙ ap definitions_within is
 
   module _ (ss : List Row) (h : AreResolved bytes found.rows.items ss) where
-    pub document-tree : rows_from bytes nothing ss ≡ document_tree bytes
+    pub document-tree : rows_from bytes nothing ss ≡ document_tree no_extensions bytes
     document-tree = resolved-rows bytes found.rows.items ss nothing h ∙ ap resolved is
 
     pub document-nested : AreNested 0 ss

@@ -1,10 +1,11 @@
 -- The rows of a document without its link reference definitions (CommonMark 4.7).
-use Rattle.std.specs.Prelude.{◌≡◌, ℕ, List, [], ◌∷◌, IsUtf8}
+use Rattle.std.specs.Prelude.{◌≡◌, ℕ, List, [], ◌∷◌, IsUtf8, All}
 use Rattle.markdown_content.specs.Content.{content_of, IsTextContent}
 use Rattle.markdown_content.specs.declared.parser.Piece.{Piece}
 use Rattle.markdown_block_model.specs.LineRests.{trimmed_end}
 use Rattle.markdown_block_model.specs.LinkDefinitions.{Definition, text_of_leaf, definitions_in}
 use Rattle.markdown_blocks.specs.BlockRows.{leaf_of}
+use Rattle.markdown_blocks.specs.TextRows.{AreLinePieces, HasCodes}
 use Rattle.markdown_blocks.specs.declared.block.Leaf.{Leaf}
 use Rattle.markdown_blocks.specs.declared.block.Leaf.TheVariants.{Blank, ThematicBreak, Heading, Underlined, Paragraph, IndentedCode, FencedCode, Html}
 use Rattle.markdown_blocks.specs.declared.block.Row.{Row}
@@ -31,6 +32,21 @@ abbrev pub IsTextRow : List ℕ → Row → Type 0
 IsTextRow bytes (LeafAt d l) = IsTextLeaf bytes l
 IsTextRow bytes (ContainerAt d c) = Unit {0}
 
+-- Each piece of a leaf is of one line, those of its text, of its code and of its HTML are in order, and all stand between characters. An info string is one piece, which may have no codes; a piece of HTML has some.
+abbrev pub HasLines : List ℕ → Leaf → Type 0
+HasLines bytes Blank = Unit {0}
+HasLines bytes ThematicBreak = Unit {0}
+HasLines bytes (Heading n piece) = AreLinePieces bytes (piece ∷ [])
+HasLines bytes (Underlined n text) = AreLinePieces bytes text.items
+HasLines bytes (Paragraph text) = AreLinePieces bytes text.items
+HasLines bytes (IndentedCode ls) = AreLinePieces bytes ls.items
+HasLines bytes (FencedCode f info ls ended) = AreLinePieces bytes (info ∷ []) × AreLinePieces bytes ls.items
+HasLines bytes (Html k text ended) = AreLinePieces bytes text.items × All (HasCodes bytes) text.items
+
+abbrev pub IsLineRow : List ℕ → Row → Type 0
+IsLineRow bytes (LeafAt d l) = HasLines bytes l
+IsLineRow bytes (ContainerAt d c) = Unit {0}
+
 -- What becomes of rows.
 
 abbrev pub definitions_of_row : List ℕ → Row → List Definition
@@ -41,6 +57,7 @@ definitions_of_row bytes (ContainerAt d c) = []
 pub record IsResolvedLeaf (bytes : List ℕ) (before after : Leaf) : Type 0 where
   pub leaf : leaf_of bytes after ≡ text_of_leaf (leaf_of bytes before)
   pub text : IsUtf8 bytes → IsTextLeaf bytes after
+  pub lines : HasLines bytes after
 
 abbrev pub IsResolvedRow : List ℕ → Row → Row → Type 0
 IsResolvedRow bytes (LeafAt d l) (LeafAt e m) = (e ≡ d) × IsResolvedLeaf bytes l m

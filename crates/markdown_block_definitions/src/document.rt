@@ -2,11 +2,12 @@
 
 ghost use Rattle.std.specs.Prelude.{◌≡◌, ◌≤◌, length, map, IsUtf8, IfOk, All};
 ghost use Rattle.markdown_content.specs.Content.{document_limit, content_of};
+ghost use Rattle.markdown_block_model.specs.BlockTree.{no_extensions};
 ghost use Rattle.markdown_block_model.specs.BlockLines.{begins_of};
 ghost use Rattle.markdown_block_model.specs.DocumentBlocks.{blocks_of};
 ghost use Rattle.markdown_block_model.specs.LinkDefinitions.{has_text, definitions, document_tree};
 ghost use Rattle.markdown_block_definitions.specs.DefinitionTexts.{texts_of, texts_in, HasUtf8Texts};
-ghost use Rattle.markdown_block_definitions.specs.ResolvedRows.{IsTextRow};
+ghost use Rattle.markdown_block_definitions.specs.ResolvedRows.{IsTextRow, IsLineRow};
 ghost use Rattle.markdown_blocks.specs.BlockRows.{tree_of};
 ghost use Rattle.markdown_blocks.specs.NestedRows.{AreNested};
 ghost use Rattle.markdown_blocks.specs.TextRows.{IsPlacedRow};
@@ -57,10 +58,10 @@ impl HasText for Definitions {
 /// The only error is that memory was refused.
 pub fn blocks(alloc: Global, bytes: &[u8]) -> Result<Blocks, AllocError>
     requires { length bytes.now ≤ document_limit }
-    ensures tree { IfOk result (λ b. tree_of bytes.now b ≡ blocks_of has_text bytes.now) }
+    ensures tree { IfOk result (λ b. tree_of bytes.now b ≡ blocks_of no_extensions has_text bytes.now) }
     ensures texts { IfOk result (λ b. All (IsPlacedRow bytes.now) b.rows.items) }
     ensures nested { IfOk result (λ b. AreNested 0 b.rows.items) }
-    ensures begins { IfOk result (λ b. b.lines.items ≡ begins_of has_text bytes.now) }
+    ensures begins { IfOk result (λ b. b.lines.items ≡ begins_of no_extensions has_text bytes.now) }
     ensures lined { IfOk result (λ b. length b.lines.items ≡ length b.rows.items) }
 {
     let found = markdown_blocks::document::blocks(alloc, &Definitions, bytes)?;
@@ -72,12 +73,13 @@ pub fn blocks(alloc: Global, bytes: &[u8]) -> Result<Blocks, AllocError>
 /// A paragraph of definitions alone stays, without pieces. The only error is that memory was refused.
 pub fn read(alloc: Global, bytes: &[u8]) -> Result<Document, AllocError>
     requires { length bytes.now ≤ document_limit }
-    ensures tree { IfOk result (λ d. tree_of bytes.now d.blocks ≡ document_tree bytes.now) }
-    ensures definitions { IfOk result (λ d. map texts_of d.definitions.items ≡ map texts_in (definitions bytes.now)) }
+    ensures tree { IfOk result (λ d. tree_of bytes.now d.blocks ≡ document_tree no_extensions bytes.now) }
+    ensures definitions { IfOk result (λ d. map texts_of d.definitions.items ≡ map texts_in (definitions no_extensions bytes.now)) }
     ensures utf8 { IfOk result (λ d. IsUtf8 bytes.now → All HasUtf8Texts d.definitions.items) }
     ensures texts { IfOk result (λ d. IsUtf8 bytes.now → All (IsTextRow bytes.now) d.blocks.rows.items) }
+    ensures lines { IfOk result (λ d. All (IsLineRow bytes.now) d.blocks.rows.items) }
     ensures nested { IfOk result (λ d. AreNested 0 d.blocks.rows.items) }
-    ensures begins { IfOk result (λ d. d.blocks.lines.items ≡ begins_of has_text bytes.now) }
+    ensures begins { IfOk result (λ d. d.blocks.lines.items ≡ begins_of no_extensions has_text bytes.now) }
     ensures lined { IfOk result (λ d. length d.blocks.lines.items ≡ length d.blocks.rows.items) }
 {
     let found = blocks(alloc, bytes)?;

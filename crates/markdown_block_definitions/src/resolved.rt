@@ -5,7 +5,7 @@ ghost use Rattle.markdown_content.specs.Content.{document_limit, content_of, IsT
 ghost use Rattle.markdown_block_model.specs.LineRests.{trimmed_end};
 ghost use Rattle.markdown_block_model.specs.LinkDefinitions.{definitions_of, definitions_in};
 ghost use Rattle.markdown_blocks.specs.BlockRows.{leaf_of};
-ghost use Rattle.markdown_blocks.specs.TextRows.{ArePlaced, HasPlacedText, IsPlacedRow};
+ghost use Rattle.markdown_blocks.specs.TextRows.{AreLinePieces, ArePlaced, HasPlacedText, IsPlacedRow};
 ghost use Rattle.markdown_block_definitions.specs.DefinitionTexts.{AreAdded};
 ghost use Rattle.markdown_block_definitions.specs.ResolvedRows.{definitions_of_row, IsResolvedLeaf, IsResolvedRow, AreResolved};
 
@@ -27,6 +27,7 @@ fn resolve_text(
     ensures found { IfOk result (λ _. AreAdded definitions.old.items definitions.new.items (definitions_of (content_of document.now text.old.items)).0) }
     ensures trimmed { IfOk result (λ _. trimmed_end (content_of document.now text.new.items) ≡ content_of document.now text.new.items) }
     ensures none { IfOk result (λ _. content_of document.now text.new.items ≡ [] → text.new.items ≡ []) }
+    ensures lines { IfOk result (λ _. AreLinePieces document.now text.new.items) }
     ensures content { IfOk result (λ _. IsUtf8 document.now → length document.now ≤ document_limit → IsTextContent document.now text.new.items) }
 {
     let mut front = definitions_at_front(alloc, document, text.as_slice())?;

@@ -20,6 +20,23 @@ LinesAndTabs =
     -- «a␋␊»: text «a␋»
     (blocks_answer (97 ∷ 11 ∷ 10 ∷ []) ≡ (text (97 ∷ 11 ∷ []) ∷ []))
 
+abbrev pub ByteOrderMarks : Type 0
+ByteOrderMarks =
+    -- «⟦U+FEFF⟧# a␊»: heading 1 «a»
+    (blocks_answer (239 ∷ 187 ∷ 191 ∷ 35 ∷ 32 ∷ 97 ∷ 10 ∷ []) ≡ (head 1 (codes "a") ∷ [])) ×
+    -- «⟦U+FEFF⟧[a]: /b␊»: definition «a» «/b»
+    (blocks_answer (239 ∷ 187 ∷ 191 ∷ 91 ∷ 97 ∷ 93 ∷ 58 ∷ 32 ∷ 47 ∷ 98 ∷ 10 ∷ []) ≡ (defined (codes "a") (codes "/b") None ∷ [])) ×
+    -- «⟦U+FEFF⟧⟦U+FEFF⟧# a␊»: text «⟦U+FEFF⟧# a»
+    (blocks_answer (239 ∷ 187 ∷ 191 ∷ 239 ∷ 187 ∷ 191 ∷ 35 ∷ 32 ∷ 97 ∷ 10 ∷ []) ≡ (text (239 ∷ 187 ∷ 191 ∷ 35 ∷ 32 ∷ 97 ∷ []) ∷ [])) ×
+    -- «⟦U+FEFF⟧»:
+    (blocks_answer (239 ∷ 187 ∷ 191 ∷ []) ≡ ([])) ×
+    -- «⟦U+FEFE⟧# a␊»: text «⟦U+FEFE⟧# a»
+    (blocks_answer (239 ∷ 187 ∷ 190 ∷ 35 ∷ 32 ∷ 97 ∷ 10 ∷ []) ≡ (text (239 ∷ 187 ∷ 190 ∷ 35 ∷ 32 ∷ 97 ∷ []) ∷ [])) ×
+    -- «a␊⟦U+FEFF⟧# b␊»: text «a␊⟦U+FEFF⟧# b»
+    (blocks_answer (97 ∷ 10 ∷ 239 ∷ 187 ∷ 191 ∷ 35 ∷ 32 ∷ 98 ∷ 10 ∷ []) ≡ (text (97 ∷ 10 ∷ 239 ∷ 187 ∷ 191 ∷ 35 ∷ 32 ∷ 98 ∷ []) ∷ [])) ×
+    -- «⟦U+FEFF⟧␉a␊»: text «a»
+    (blocks_answer (239 ∷ 187 ∷ 191 ∷ 9 ∷ 97 ∷ 10 ∷ []) ≡ (text (codes "a") ∷ []))
+
 abbrev pub BreaksAndHeadings : Type 0
 BreaksAndHeadings =
     -- «   ***␊    ***␊»: break, code «***␊»
@@ -243,14 +260,27 @@ LooseRules =
     -- «- a␊␊b␊»: item - tight [text «a»], text «b»
     (blocks_answer (45 ∷ 32 ∷ 97 ∷ 10 ∷ 10 ∷ 98 ∷ 10 ∷ []) ≡ (in_item (bullet 45) false ∷ text (codes "a") ∷ end ∷ text (codes "b") ∷ []))
 
+abbrev pub WithoutExtensions : Type 0
+WithoutExtensions =
+    -- «|a|␊|-|␊»: text «|a|␊|-|»
+    (blocks_answer (124 ∷ 97 ∷ 124 ∷ 10 ∷ 124 ∷ 45 ∷ 124 ∷ 10 ∷ []) ≡ (text (124 ∷ 97 ∷ 124 ∷ 10 ∷ 124 ∷ 45 ∷ 124 ∷ []) ∷ [])) ×
+    -- «[^a]: b␊»: definition «^a» «b»
+    (blocks_answer (91 ∷ 94 ∷ 97 ∷ 93 ∷ 58 ∷ 32 ∷ 98 ∷ 10 ∷ []) ≡ (defined (codes "^a") (codes "b") None ∷ [])) ×
+    -- «$$␊a␊$$␊»: text «$$␊a␊$$»
+    (blocks_answer (36 ∷ 36 ∷ 10 ∷ 97 ∷ 10 ∷ 36 ∷ 36 ∷ 10 ∷ []) ≡ (text (36 ∷ 36 ∷ 10 ∷ 97 ∷ 10 ∷ 36 ∷ 36 ∷ []) ∷ [])) ×
+    -- «---␊a␊---␊»: break, heading 2 «a»
+    (blocks_answer (45 ∷ 45 ∷ 45 ∷ 10 ∷ 97 ∷ 10 ∷ 45 ∷ 45 ∷ 45 ∷ 10 ∷ []) ≡ (break ∷ head 2 (codes "a") ∷ []))
+
 -- all of them
 abbrev pub ChosenBlocks : Type 0
 ChosenBlocks =
     LinesAndTabs ×
+    ByteOrderMarks ×
     BreaksAndHeadings ×
     CodeLines ×
     HtmlKinds ×
     DefinitionRules ×
     QuotesAndLaziness ×
     ItemRules ×
-    LooseRules
+    LooseRules ×
+    WithoutExtensions

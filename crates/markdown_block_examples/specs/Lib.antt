@@ -2,4 +2,5 @@
 pub mod BlockNotation
 pub mod StandardBlocks
 pub mod ChosenBlocks
+pub mod ExtendedBlocks
 pub mod BlocksOnLines

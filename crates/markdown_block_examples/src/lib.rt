@@ -6,6 +6,7 @@
 
 ghost use Rattle.markdown_block_examples.specs.BlocksOnLines.{BlocksOnLines};
 ghost use Rattle.markdown_block_examples.specs.ChosenBlocks.{ChosenBlocks};
+ghost use Rattle.markdown_block_examples.specs.ExtendedBlocks.{ExtendedBlocks};
 ghost use Rattle.markdown_block_examples.specs.StandardBlocks.{StandardBlocks};
 
 /// The examples of CommonMark have these blocks.
@@ -21,4 +22,9 @@ pub fn chosen_blocks()
 /// The blocks of some documents begin on these lines.
 pub fn blocks_on_lines()
     ensures { BlocksOnLines }
+{}
+
+/// Blocks of GFM, of math and of front matter.
+pub fn extended_blocks()
+    ensures { ExtendedBlocks }
 {}

@@ -14,6 +14,10 @@ Run it in the crate's folder, and `rt fmt` after it. A row is a document and its
     quote [..]                            a block quote
     item MARKER tight|loose [..]          a list item: `-`, `+` or `*`, or a number and its delimiter; and whether its list is loose so far
     definition «label» «destination» [«title»]
+    table ALIGNMENT.. [«cell» ..] ..      a table: its columns, and its rows, the header first
+    math «info string» «lines»            math
+    matter «lines»                        front matter
+    note «label» [..]                     a footnote definition
 
 Definitions stand behind all blocks. Blank lines, and paragraphs of definitions alone, are not shown. In a document and in a text ␊ ␍ ␉ ␋ ␀ stand for LF, CR,
 TAB, U+000B and NUL, ⟦x×n⟧ for x written n times, and ⟦U+n⟧ for the character with that number. A line '== Name' begins a group of rows. A line that begins
@@ -27,10 +31,11 @@ from examples import groups_of, listed, literal, plain, snake
 
 TOKEN = r'«[^»]*»|\[|\]|,|[^\s«»\[\],]+'
 FILES = {'StandardBlocks': ('standard.txt', 'standard_blocks', 'The blocks of the examples of CommonMark'),
+         'ExtendedBlocks': ('extended.txt', 'extended_blocks', 'Blocks of GFM, math and front matter'),
          'ChosenBlocks': ('choices.txt', 'chosen_blocks', "What CommonMark's examples do not show of blocks")}
 USES = [('Rattle.std.specs.Prelude', ['◌≡◌', 'true', 'false', '[]', '◌∷◌', 'codes', 'Some', 'None']),
-        ('Rattle.markdown_block_model.specs.BlockTree', ['bullet', 'ordered']),
-        ('Rattle.markdown_block_examples.specs.BlockNotation', ['break', 'head', 'text', 'code', 'fenced', 'markup', 'in_quote', 'in_item', 'end', 'defined', 'blocks_answer'])]
+        ('Rattle.markdown_block_model.specs.BlockTree', ['bullet', 'ordered', 'unaligned', 'left', 'right', 'center']),
+        ('Rattle.markdown_block_examples.specs.BlockNotation', ['break', 'head', 'text', 'code', 'fenced', 'markup', 'in_quote', 'in_item', 'in_note', 'grid', 'math', 'matter', 'extended_answer', 'end', 'defined', 'blocks_answer'])]
 
 
 def bytes_of(token):
@@ -48,14 +53,29 @@ def blocks(tokens):
             terms.append('head %s %s' % (tokens.pop(0), bytes_of(tokens.pop(0))))
         elif word in ('text', 'code', 'html'):
             terms.append('%s %s' % ({'html': 'markup'}.get(word, word), bytes_of(tokens.pop(0))))
-        elif word == 'fenced':
-            terms.append('fenced %s %s' % (bytes_of(tokens.pop(0)), bytes_of(tokens.pop(0))))
+        elif word in ('fenced', 'math'):
+            terms.append('%s %s %s' % (word, bytes_of(tokens.pop(0)), bytes_of(tokens.pop(0))))
+        elif word == 'matter':
+            terms.append('matter %s' % bytes_of(tokens.pop(0)))
+        elif word == 'table':
+            columns, rows = [], []
+            while tokens[0] != '[':
+                columns.append(tokens.pop(0))
+            while tokens and tokens[0] == '[':
+                tokens.pop(0)
+                rows.append([])
+                while tokens[0] != ']':
+                    rows[-1].append(bytes_of(tokens.pop(0)))
+                tokens.pop(0)
+            terms.append('grid (%s) (%s)' % (listed(columns), listed(['(%s)' % listed(row) for row in rows])))
         elif word == 'definition':
             label, destination = bytes_of(tokens.pop(0)), bytes_of(tokens.pop(0))
             title = '(Some %s)' % bytes_of(tokens.pop(0)) if tokens and tokens[0][0] == '«' else 'None'
             terms.append('defined %s %s %s' % (label, destination, title))
-        elif word in ('quote', 'item'):
+        elif word in ('quote', 'item', 'note'):
             begun = 'in_quote'
+            if word == 'note':
+                begun = 'in_note %s' % bytes_of(tokens.pop(0))
             if word == 'item':
                 marker, loose = tokens.pop(0), tokens.pop(0)
                 kind = 'ordered %d %s' % (ord(marker[-1]), marker[:-1]) if marker[:-1] else 'bullet %d' % ord(marker)
@@ -73,9 +93,9 @@ def divided(row):
     return re.fullmatch(r'«([^»]*)»: ?(.*)', row).groups()
 
 
-def statement(row):
+def statement(row, function='blocks'):
     document, answer = divided(row)
-    return 'blocks_answer %s ≡ (%s)' % (bytes_of('«%s»' % document), listed(blocks(re.findall(TOKEN, answer))))
+    return '%s_answer %s ≡ (%s)' % (function, bytes_of('«%s»' % document), listed(blocks(re.findall(TOKEN, answer))))
 
 
 def rows():
@@ -106,7 +126,7 @@ def main():
         for group, lines in groups.items():
             spec += ['', 'abbrev pub %s : Type 0' % group, '%s =' % group]
             for number, line in enumerate(lines, 1):
-                spec += ['    -- ' + line, '    (%s)%s' % (statement(line), ' ×' if number < len(lines) else '')]
+                spec += ['    -- ' + line, '    (%s)%s' % (statement(line, 'extended' if name == 'ExtendedBlocks' else 'blocks'), ' ×' if number < len(lines) else '')]
             proof += ['', '%s : %s' % (snake(group), group), 'unfolding blocks_computed', '%s = (%s)' % (snake(group), ', '.join(['refl'] * len(lines)))]
         spec += ['', '-- all of them', 'abbrev pub %s : Type 0' % name, '%s =' % name, '    ' + ' ×\n    '.join(groups)]
         write('specs/%s.antt' % name, ['-- %s, written by tools/blocks.py from tools/%s.' % (title, FILES[name][0]), *imports(spec), *spec])

@@ -10,7 +10,7 @@ use Rattle.markdown_model.specs.HtmlText.{tag_name, open_tag, closing_tag}
 use Rattle.markdown_model.specs.GfmAutolinkLiteral.{one_word_of}
 use Rattle.markdown_model.proofs.GrammarSteps.{one-not, then-none}
 use Rattle.markdown_block_model.specs.LineRests.{trimmed, is_blank_line, only_if}
-use Rattle.markdown_block_model.specs.BlockTree.{html}
+use Rattle.markdown_block_model.specs.BlockTree.{no_extensions, html}
 use Rattle.markdown_block_model.specs.HtmlStarts.{raw_tags, raw_ends, block_tags, is_named, ends_block_tag, is_tag_among, fills_line, begins_raw, begins_block_tag, kind_behind, is_other_tag, kind_of, html_kind, holds_within, ends_html, html_of, html_at}
 use Rattle.markdown_block_model.specs.DocumentBlocks.{with_next}
 use Rattle.markdown_block_line.specs.LineWords.{is_word, holds_value}
@@ -154,8 +154,8 @@ html-not a cs k b h e f = html-by a cs k false (sym h) (sym e ∙ f)
 pub html-here : (a : Bool) (cs : List Code) (k : ℕ) (b ended : Bool) → k ≡ html_kind (trimmed cs) → b ≡ not (k == 0 || (k == 7 && a)) → b ≡ true → ended ≡ ends_html k cs → html_at a cs ≡ Some (html k cs ended)
 html-here a cs k b ended h e f g = html-by a cs k true (sym h) (sym e ∙ f) ∙ ap (λ v. Some (html k cs v)) (sym g)
 
-pub html-ends : (k : ℕ) (text cs : List Code) (b : Bool) → b ≡ (nat_le 6 k && is_blank_line cs) → b ≡ true → with_next (html k text false) cs ≡ None
+pub html-ends : (k : ℕ) (text cs : List Code) (b : Bool) → b ≡ (nat_le 6 k && is_blank_line cs) → b ≡ true → with_next no_extensions (html k text false) cs ≡ None
 html-ends k text cs b e f = ap (λ v. only_if (not v) (html k (text ++ cs) (ends_html k cs))) (sym e ∙ f)
 
-pub html-goes-on : (k : ℕ) (text cs : List Code) (b ended : Bool) → b ≡ (nat_le 6 k && is_blank_line cs) → b ≡ false → ended ≡ ends_html k cs → with_next (html k text false) cs ≡ Some (html k (text ++ cs) ended)
+pub html-goes-on : (k : ℕ) (text cs : List Code) (b ended : Bool) → b ≡ (nat_le 6 k && is_blank_line cs) → b ≡ false → ended ≡ ends_html k cs → with_next no_extensions (html k text false) cs ≡ Some (html k (text ++ cs) ended)
 html-goes-on k text cs b ended e f g = ap (λ v. only_if (not v) (html k (text ++ cs) (ends_html k cs))) (sym e ∙ f) ∙ ap (λ v. Some (html k (text ++ cs) v)) (sym g)

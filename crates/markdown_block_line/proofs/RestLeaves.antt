@@ -4,13 +4,13 @@ use Rattle.std.specs.Prelude.{nat_le}
 use Rattle.std.proofs.lemmas.Bool.Decides.{nat_tests}
 use Rattle.markdown_content.specs.Codes.{Code}
 use Rattle.markdown_block_model.specs.LineRests.{indent, trimmed, is_blank_line, only_if}
-use Rattle.markdown_block_model.specs.BlockTree.{Fence, indented_code, fenced_code}
+use Rattle.markdown_block_model.specs.BlockTree.{no_extensions, Fence, indented_code, fenced_code}
 use Rattle.markdown_block_model.specs.LeafStarts.{is_closing}
 use Rattle.markdown_block_model.specs.DocumentBlocks.{with_fenced_line, with_indented_line, with_next}
 use Rattle.markdown_block_line.proofs.RestValues.{skip-drop, trimmed-drop}
 
 pub fenced-open : (f : Fence) (info : List Code) (ls : List (List Code)) (cs : List Code) (k : ℕ) → is_closing f cs ≡ false → k ≡ min f.columns (indent cs)
-    → with_next (fenced_code f info ls false) cs ≡ Some (fenced_code f info (ls ++ drop k cs ∷ []) false)
+    → with_next no_extensions (fenced_code f info ls false) cs ≡ Some (fenced_code f info (ls ++ drop k cs ∷ []) false)
 fenced-open f info ls cs k e h =
     ap (λ b. Some (with_fenced_line b f info ls cs)) e
     ∙ ap (λ (r : List Code). Some (fenced_code f info (ls ++ r ∷ []) false)) (skip-drop f.columns cs ∙ ap (λ n. drop n cs) (sym h))

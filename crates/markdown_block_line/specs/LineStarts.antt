@@ -2,7 +2,7 @@
 use Rattle.std.specs.Prelude.{◌≡◌, ℕ, ◌+◌, ◌<◌, ◌≤◌, List, [], ◌∷◌, take, drop, false}
 use Rattle.std.specs.Str.{byte}
 use Rattle.markdown_content.specs.Codes.{Code}
-use Rattle.markdown_block_model.specs.LineRests.{indent, trimmed, count_first}
+use Rattle.markdown_block_model.specs.LineRests.{indent, trimmed, count_first, first_value}
 use Rattle.markdown_block_model.specs.BlockTree.{thematic_break, heading, fenced_code, html, indented_code}
 use Rattle.markdown_block_model.specs.BlockStarts as block_starts
 use Rattle.markdown_block_line.specs.declared.begins.Begun.{Begun}
@@ -30,11 +30,15 @@ IsWithin n (Container c k) = (0 < k) × (k ≤ n)
 abbrev pub heading_start : List Code → ℕ
 heading_start cs = count_first (byte "#") cs + indent (drop (count_first (byte "#") cs) cs)
 
--- a heading's text stands there, also where it is empty
+-- and before an info string: the fence, and the blanks behind it
+abbrev pub fence_start : List Code → ℕ
+fence_start cs = count_first (first_value cs) cs + indent (drop (count_first (first_value cs) cs) cs)
+
+-- a heading's text and an info string stand there, also where they are empty
 abbrev pub StandsWhere : List Code → Begun → Type 0
 StandsWhere cs ThematicBreak = Unit {0}
 StandsWhere cs (Heading h) = h.start ≡ indent cs + heading_start (trimmed cs)
-StandsWhere cs (FencedCode f) = Unit {0}
+StandsWhere cs (FencedCode f) = f.start ≡ indent cs + fence_start (trimmed cs)
 StandsWhere cs (Html h) = Unit {0}
 StandsWhere cs IndentedCode = Unit {0}
 StandsWhere cs (Container c k) = Unit {0}

@@ -5,6 +5,7 @@ ghost use Rattle.std.specs.Prelude.{◌≡◌, ◌||◌, not, length, List, true
 ghost use Rattle.markdown_content.specs.Codes.{Code};
 ghost use Rattle.markdown_model.specs.CodeTests.{values_of};
 ghost use Rattle.markdown_block_model.specs.LineRests.{is_blank_line};
+ghost use Rattle.markdown_block_model.specs.BlockTree.{no_extensions};
 ghost use Rattle.markdown_block_model.specs.BlockStarts.{begun};
 ghost use Rattle.markdown_block_line.specs.LineBlocks.{Says};
 ghost use Rattle.markdown_block_line.specs.LineBreaks.{IsBreakLens};
@@ -44,7 +45,7 @@ pub fn begun_at(
     line: &[u8],
 ) -> Option<Begun>
     requires { IsBreakLens breaks line.now }
-    ensures found { (cs : List Code) → values_of cs ≡ line.now → Says result (begun_of cs) (begun in_paragraph after_text cs) }
+    ensures found { (cs : List Code) → values_of cs ≡ line.now → Says result (begun_of cs) (begun no_extensions in_paragraph after_text cs) }
     ensures start { (cs : List Code) → values_of cs ≡ line.now → IfSome result (StandsWhere cs) }
     ensures within { IfSome result (IsWithin (length line.now)) }
 {
@@ -83,7 +84,7 @@ pub fn begun_at(
 /// Returns whether a line that continues not all open containers would join the paragraph that is open inside them (CommonMark 5.1, laziness).
 pub fn is_lazy_line(breaks: BreakLens, line: &[u8]) -> bool
     requires { IsBreakLens breaks line.now }
-    ensures { (cs : List Code) → values_of cs ≡ line.now → result ≡ not (is_blank_line cs || is_some (begun false true cs)) }
+    ensures { (cs : List Code) → values_of cs ≡ line.now → result ≡ not (is_blank_line cs || is_some (begun no_extensions false true cs)) }
 {
     if is_blank_line(line) {
         return false;

@@ -4,7 +4,7 @@ ghost use Rattle.std.specs.Prelude.{◌≡◌, ◌≤◌, ◌&&◌, nat_le, ◌+
 ghost use Rattle.markdown_content.specs.Codes.{Code};
 ghost use Rattle.markdown_model.specs.CodeTests.{values_of};
 ghost use Rattle.markdown_block_model.specs.LineRests.{is_blank_line};
-ghost use Rattle.markdown_block_model.specs.BlockTree.{indented_code, fenced_code, html};
+ghost use Rattle.markdown_block_model.specs.BlockTree.{no_extensions, indented_code, fenced_code, html};
 ghost use Rattle.markdown_block_model.specs.DocumentBlocks.{with_next};
 ghost use Rattle.markdown_block_line.specs.LineBlocks.{fence_of, Says, fenced_with};
 
@@ -15,7 +15,7 @@ use crate::starts::{Fence, is_closing};
 /// Returns how many codes of a line are no code, or `None` where the line ends the code of this fence (CommonMark 4.5). The code was not ended before.
 pub fn fenced_line(fence: Fence, line: &[u8]) -> Option<usize>
     ensures next { (cs info : List Code) (ls : List (List Code)) → values_of cs ≡ line.now
-        → with_next (fenced_code (fence_of fence) info ls false) cs ≡ Some (fenced_with result (fence_of fence) info ls cs) }
+        → with_next no_extensions (fenced_code (fence_of fence) info ls false) cs ≡ Some (fenced_with result (fence_of fence) info ls cs) }
     ensures within { IfSome result (λ k. k ≤ length line.now) }
 {
     if is_closing(fence, line) {
@@ -27,7 +27,7 @@ pub fn fenced_line(fence: Fence, line: &[u8]) -> Option<usize>
 /// Returns how many codes of a line are no code, or `None` where the line does not continue indented code (CommonMark 4.4).
 pub fn indented_line(line: &[u8]) -> Option<usize>
     ensures next { (cs : List Code) (ls : List (List Code)) → values_of cs ≡ line.now
-        → Says result (λ k. indented_code (ls ++ drop k cs ∷ [])) (with_next (indented_code ls) cs) }
+        → Says result (λ k. indented_code (ls ++ drop k cs ∷ [])) (with_next no_extensions (indented_code ls) cs) }
     ensures within { IfSome result (λ k. k ≤ length line.now) }
 {
     let count = indent_to(line, 4);
@@ -46,7 +46,7 @@ fn ends_before(kind: usize, line: &[u8]) -> bool
 
 /// Returns whether a line ends HTML of this kind, or `None` where the HTML ends before the line (CommonMark 4.6). It was not ended before.
 pub fn html_line(kind: usize, line: &[u8]) -> Option<bool>
-    ensures { (cs text : List Code) → values_of cs ≡ line.now → Says result (html kind (text ++ cs)) (with_next (html kind text false) cs) }
+    ensures { (cs text : List Code) → values_of cs ≡ line.now → Says result (html kind (text ++ cs)) (with_next no_extensions (html kind text false) cs) }
 {
     if ends_before(kind, line) {
         return None;

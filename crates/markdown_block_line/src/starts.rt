@@ -4,11 +4,11 @@ ghost use Rattle.std.specs.Prelude.{◌≡◌, ◌<◌, ◌≤◌, ◌+◌, min,
 ghost use Rattle.markdown_content.specs.Codes.{Code};
 ghost use Rattle.markdown_model.specs.CodeTests.{values_of, is_value};
 ghost use Rattle.markdown_block_model.specs.LineRests.{trimmed_end, without_end};
-ghost use Rattle.markdown_block_model.specs.BlockTree.{heading, fenced_code, bullet, ordered};
+ghost use Rattle.markdown_block_model.specs.BlockTree.{no_extensions, heading, fenced_code, bullet, ordered};
 ghost use Rattle.markdown_block_model.specs.LeafStarts.{is_break, ends_blank, heading_text, heading_at, is_row_of, underline, may_be_info, fence_at, is_closing};
 ghost use Rattle.markdown_block_model.specs.ContainerStarts.{behind_quote, bullet_at, ordered_at};
 ghost use Rattle.markdown_block_line.specs.LineBlocks.{fence_of, Says};
-ghost use Rattle.markdown_block_line.specs.LineStarts.{heading_start};
+ghost use Rattle.markdown_block_line.specs.LineStarts.{heading_start, fence_start};
 ghost use Rattle.markdown_block_line.specs.LineValues.{front, is_break_values, is_digit_value, number_values};
 
 use crate::line::{self, count_first, indent, indent_to, is_blank_line, is_gap, trimmed_len};
@@ -275,7 +275,8 @@ fn open_len(text: &[u8]) -> usize
 /// Returns the fence that begins code behind an indent of so many columns, or `None` (CommonMark 4.5). The rest begins behind the indent.
 pub fn fence_at(columns: usize, line: &[u8]) -> Option<OpenFence>
     ensures found { (cs : List Code) → values_of cs ≡ line.now
-        → Says result (λ f. fenced_code (fence_of f.fence) (take f.len (drop f.start cs)) [] false) (fence_at columns cs) }
+        → Says result (λ f. fenced_code (fence_of f.fence) (take f.len (drop f.start cs)) [] false) (fence_at no_extensions columns cs) }
+    ensures start { (cs : List Code) → values_of cs ≡ line.now → IfSome result (λ f. f.start ≡ fence_start cs) }
     ensures within { IfSome result (λ f. f.start + f.len ≤ length line.now) }
 {
     if line.len() == 0 {
@@ -302,7 +303,7 @@ pub fn fence_at(columns: usize, line: &[u8]) -> Option<OpenFence>
 
 // Whether an info string may stand behind this marker.
 fn may_be_info(info: &[u8], value: u8) -> bool
-    ensures { (cs : List Code) → values_of cs ≡ info.now → result ≡ may_be_info value cs }
+    ensures { (cs : List Code) → values_of cs ≡ info.now → result ≡ may_be_info no_extensions value cs }
 {
     if value == b'~' {
         return true;

@@ -1,8 +1,9 @@
 -- The text of each paragraph and of each heading is a text content.
-use Rattle.std.proofs.Common.{◌≡◌, ℕ, zero, suc, ◌+◌, refl, sym, ap, subst, ◌∙◌, List, [], ◌∷◌, ◌++◌, length, drop, Bool, true, false, ◌&&◌, ◌||◌, not, ◌==◌, nat_lt, nat_le, Option, Some, None, if◌then◌else◌}
+use Rattle.std.proofs.Common.{◌≡◌, ℕ, zero, suc, ◌+◌, refl, sym, ap, subst, ◌∙◌, List, [], ◌∷◌, ◌++◌, length, map, drop, Bool, true, false, ◌&&◌, ◌||◌, not, ◌==◌, nat_lt, nat_le, Option, Some, None, if◌then◌else◌, arith}
 use Rattle.std.specs.Prelude.{is_some}
 use Rattle.std.specs.Str.{byte}
-use Rattle.markdown_content.specs.Codes.{Code, codes_of, is_blank, is_line_ending}
+use Rattle.std.specs.List.{list_all, list_any}
+use Rattle.markdown_content.specs.Codes.{Code, is_blank, is_line_ending}
 use Rattle.markdown_content.specs.Content.{has_no_blank_line, is_text_codes, ends_line}
 use Rattle.markdown_content.specs.Tree.{Forest, leaf_codes}
 use Rattle.markdown_model.specs.CodeTests.{is_value, is_between, is_empty, next_is, is_whitespace_code}
@@ -11,16 +12,21 @@ use Rattle.markdown_model.specs.Whitespace.{space_or_tab_eol}
 use Rattle.markdown_model.specs.Resource.{label, reference_names, destination, resource_names, begins_title, title, title_names}
 use Rattle.markdown_model.proofs.GivenByReadings.{IfGiven, given-map, given-gives, given-bind, given-either}
 use Rattle.markdown_model.proofs.ReadingsCover.{Splits, Covers, itself, seen_before, takes_one, takes_any_number, covers_label, covers_title, covers_spacing, covers_destination, covers_optional_tree}
+use Rattle.markdown_block_model.specs.ByteOrderMark.{document_codes}
 use Rattle.markdown_block_model.specs.LineRests.{onto_line, lines_of, indent, trimmed, is_blank_line, past_blank, skip, is_gap, first_value, count_first, onto_end, without_end, trimmed_end, only_if}
-use Rattle.markdown_block_model.specs.BlockTree.{Marker, Container, quote, item, Fence, Leaf, blank, thematic_break, heading, underlined, paragraph, indented_code, fenced_code, html, Tree, nothing, and_leaf, and_container}
-use Rattle.markdown_block_model.specs.LeafStarts.{is_break, ends_blank, heading_text, heading_at, may_be_info, fence_at, is_closing}
+use Rattle.markdown_block_model.specs.BlockTree.{Extensions, Alignment, footnote, table, front_matter, Marker, Container, quote, item, Fence, Leaf, blank, thematic_break, heading, underlined, paragraph, indented_code, fenced_code, html, Tree, nothing, and_leaf, and_container}
+use Rattle.markdown_block_model.specs.LeafStarts.{fence_least, is_break, ends_blank, heading_text, heading_at, may_be_info, fence_at, is_closing}
 use Rattle.markdown_block_model.specs.HtmlStarts.{html_kind, ends_html, html_at}
-use Rattle.markdown_block_model.specs.ContainerStarts.{behind_quote, in_quote, quote_at, marker_at, padding, may_begin, item_by, item_at}
+use Rattle.markdown_block_model.specs.ContainerStarts.{onto_label, ends_label, label_from, is_closed_label, footnote_at, behind_quote, in_quote, quote_at, marker_at, padding, may_begin, item_by, item_at}
+use Rattle.markdown_block_model.specs.Tables.{onto_part, parts_of, after_one, without_blank_end, cell_text, cells_of, is_delimiter, alignment_of, table_of, table_at, fitted, with_cells}
+use Rattle.markdown_block_model.specs.FrontMatter.{is_matter_fence, onto_matter, matter_before, begins_matter, matter_at}
+use Rattle.markdown_block_model.proofs.LeavesInOrder.{lines-cover, split-is}
 use Rattle.markdown_block_model.specs.BlockStarts.{Begun, leaf_begins, container_begins, leaf_begun, container_begun, first_of, begun, with_found, with_rest, with_begun, with_line}
-use Rattle.markdown_block_model.specs.DocumentBlocks.{with_fenced_line, with_indented_line, with_next, with_next_or_line, with_text_begun, with_text_level, heading_level, with_text_line, with_leaf_line, is_further_blank, rest_in_item, rest_inside, with_lazy_line, is_lazy, ends_in_text, with_rest_inside, read_line, read_lines, blocks_of}
+use Rattle.markdown_block_model.specs.DocumentBlocks.{with_table_line, split_last, with_table, with_text_table, read_behind, with_fenced_line, with_indented_line, with_next, with_next_or_line, with_text_begun, with_text_level, heading_level}
+use Rattle.markdown_block_model.specs.DocumentBlocks.{with_text_line, with_leaf_line, is_further_blank, rest_in_item, rest_inside, with_lazy_line, is_lazy, ends_in_text, with_rest_inside, read_line, read_lines, blocks_of}
 use Rattle.markdown_block_model.specs.LinkDefinitions.{Definition, between, destination_text, line_end, title_of_definition, definition, taken_by, taken, definitions_of, has_text, text_of_leaf, resolved}
 use Rattle.markdown_block_model.specs.TextStarts.{lines_begin, is_line}
-use Rattle.markdown_block_model.specs.BlockLaws.{IsText, IsTextLeaf, HaveTexts, TextsAreContents}
+use Rattle.markdown_block_model.specs.BlockLaws.{AreCells, AreRows, IsText, IsTextLeaf, HaveTexts, TextsAreContents}
 
 -- Tests.
 
@@ -414,6 +420,8 @@ GoodLeaf (paragraph text) = lines_begin true text ≡ true
 GoodLeaf (indented_code ls) = Unit {0}
 GoodLeaf (fenced_code f info ls ended) = Unit {0}
 GoodLeaf (html k text ended) = Unit {0}
+GoodLeaf (table columns rows) = AreRows (length columns) rows
+GoodLeaf (front_matter ls) = Unit {0}
 
 abbrev GoodTree : Tree → Type 0
 GoodTree nothing = Unit {0}
@@ -482,11 +490,11 @@ heading-good cs h =
     leaf-if (is_between 1 6 n && is_gap (drop n cs)) (heading n (heading_text t))
     (closed-good t (trimmed-starts (drop n cs) (drop-line n cs h)) (end-twice is_whitespace_code (trimmed (drop n cs))))
 
-fence-good : (columns : ℕ) (cs : List Code) → LeafGood (fence_at columns cs)
-fence-good columns cs =
+fence-good : (x : Extensions) → (columns : ℕ) (cs : List Code) → LeafGood (fence_at x columns cs)
+fence-good x columns cs =
     let v = first_value cs in
     let n = count_first v cs in
-    leaf-if (nat_le 3 n && may_be_info v (drop n cs)) (fenced_code (record { value = v; count = n; columns = columns }) (trimmed_end (trimmed (drop n cs))) [] false) tt
+    leaf-if (nat_le (fence_least v) n && may_be_info x v (drop n cs)) (fenced_code (record { value = v; count = n; columns = columns }) (trimmed_end (trimmed (drop n cs))) [] false) tt
 
 html-good : (after_text : Bool) (cs : List Code) → LeafGood (html_at after_text cs)
 html-good after_text cs =
@@ -508,6 +516,24 @@ item-line in_paragraph columns cs (Some m) h =
     let behind = drop m.1 cs in
     inside-if (may_begin in_paragraph m.0 behind) (item m.0 (columns + m.1 + padding behind), skip (padding behind) behind) (skip-line (padding behind) behind (drop-line m.1 cs h))
 
+label-line : (taken : Bool) (cs : List Code) → is_line cs ≡ true → is_line (label_from taken cs).1 ≡ true
+label-line taken [] h = refl
+label-line taken (c ∷ cs) h = by_test (ends_label taken c) (label-line next cs (tail-line c cs h))
+  where
+    next : Bool
+    next = not taken && is_value (byte "\\") c
+
+    by_test : (b : Bool) → is_line (label_from next cs).1 ≡ true → is_line (if b then ([], c ∷ cs) else onto_label c (label_from next cs)).1 ≡ true
+    by_test true k = h
+    by_test false k = k
+
+footnote-line : (b : Bool) (cs : List Code) → is_line cs ≡ true → InsideGood (if b then footnote_at cs else None)
+footnote-line false cs h = tt
+footnote-line true cs h =
+    let found = label_from false (drop 2 cs) in
+    inside-if ((next_is (is_value (byte "[")) cs && next_is (is_value (byte "^")) (drop 1 cs)) && is_closed_label found) (footnote found.0, trimmed (drop 2 found.1))
+    (trimmed-line (drop 2 found.1) (drop-line 2 found.1 (label-line false (drop 2 cs) (drop-line 2 cs h))))
+
 of-container : (o : Option (Container × List Code)) → InsideGood o → BegunGood (container_begun o)
 of-container None h = tt
 of-container (Some r) h = h
@@ -524,23 +550,24 @@ of-either : (b : Bool) (o p : Option Begun) → BegunGood o → BegunGood p → 
 of-either true o p h k = h
 of-either false o p h k = k
 
-begun-good : (in_paragraph after_text : Bool) (cs : List Code) → is_line cs ≡ true → BegunGood (begun in_paragraph after_text cs)
-begun-good in_paragraph after_text cs h =
+begun-good : (x : Extensions) → (in_paragraph after_text : Bool) (cs : List Code) → is_line cs ≡ true → BegunGood (begun x in_paragraph after_text cs)
+begun-good x in_paragraph after_text cs h =
     let t = trimmed cs in
     let l = trimmed-line cs h in
     of-either (nat_lt (indent cs) 4) _ _
     (of-first _ _ (of-container (quote_at cs) (quote-line (behind_quote cs) (behind-quote-line cs h)))
     (of-first _ _ (of-leaf (heading_at t) (heading-good t l))
-    (of-first _ _ (of-leaf (fence_at (indent cs) t) (fence-good (indent cs) t))
+    (of-first _ _ (of-leaf (fence_at x (indent cs) t) (fence-good x (indent cs) t))
     (of-first _ _ (of-leaf (html_at after_text cs) (html-good after_text cs))
     (of-first _ _ (of-leaf (only_if (is_break t) thematic_break) (leaf-if (is_break t) thematic_break tt))
-    (of-first _ [] (of-container (item_at in_paragraph (indent cs) t) (item-line in_paragraph (indent cs) t (marker_at t) l)) tt))))))
+    (of-first _ _ (of-container (if x.footnotes then footnote_at t else None) (footnote-line x.footnotes t l))
+    (of-first _ [] (of-container (item_at in_paragraph (indent cs) t) (item-line in_paragraph (indent cs) t (marker_at t) l)) tt)))))))
     (of-either (after_text || is_blank_line cs) None (Some (leaf_begins (indented_code (skip 4 cs ∷ [])))) tt tt)
 
 -- the text of a heading that begins
-pub heading-begins : (in_paragraph after_text : Bool) (cs : List Code) (n : ℕ) (text : List Code) → is_line cs ≡ true → begun in_paragraph after_text cs ≡ Some (leaf_begins (heading n text))
+pub heading-begins : (x : Extensions) (in_paragraph after_text : Bool) (cs : List Code) (n : ℕ) (text : List Code) → is_line cs ≡ true → begun x in_paragraph after_text cs ≡ Some (leaf_begins (heading n text))
     → (lines_begin true text ≡ true) × (trimmed_end text ≡ text)
-heading-begins in_paragraph after_text cs n text h e = subst BegunGood e (begun-good in_paragraph after_text cs h)
+heading-begins x in_paragraph after_text cs n text h e = subst BegunGood e (begun-good x in_paragraph after_text cs h)
 
 -- siblings with a line behind them
 
@@ -554,21 +581,21 @@ found-good inner i cs s None h g k = by_case (is_blank_line cs) refl
 found-good inner i cs s (Some (leaf_begins l)) h g k = (g, k)
 found-good inner i cs s (Some (container_begins c rest)) h g k = (g, i rest k)
 
-rest-good : (n : ℕ) (cs : List Code) (s : Tree) → is_line cs ≡ true → GoodTree s → GoodTree (with_rest n cs s)
-rest-good zero cs s h g = g
-rest-good (suc n) cs s h g =
-    found-good (λ rest. with_rest n rest nothing) (λ rest k. rest-good n rest nothing k tt) cs s (begun false false cs) h g (begun-good false false cs h)
+rest-good : (x : Extensions) → (n : ℕ) (cs : List Code) (s : Tree) → is_line cs ≡ true → GoodTree s → GoodTree (with_rest x n cs s)
+rest-good x zero cs s h g = g
+rest-good x (suc n) cs s h g =
+    found-good (λ rest. with_rest x n rest nothing) (λ rest k. rest-good x n rest nothing k tt) cs s (begun x false false cs) h g (begun-good x false false cs h)
 
-with-begun-good : (b : Begun) (s : Tree) → GoodTree s → BegunGood (Some b) → GoodTree (with_begun b s)
-with-begun-good (leaf_begins l) s g h = (g, h)
-with-begun-good (container_begins c rest) s g h = (g, rest-good (suc (length rest)) rest nothing h tt)
+with-begun-good : (x : Extensions) → (b : Begun) (s : Tree) → GoodTree s → BegunGood (Some b) → GoodTree (with_begun x b s)
+with-begun-good x (leaf_begins l) s g h = (g, h)
+with-begun-good x (container_begins c rest) s g h = (g, rest-good x (suc (length rest)) rest nothing h tt)
 
-line-good : (cs : List Code) (s : Tree) → is_line cs ≡ true → GoodTree s → GoodTree (with_line cs s)
-line-good cs s h g = by_test (is_blank_line cs)
+line-good : (x : Extensions) → (cs : List Code) (s : Tree) → is_line cs ≡ true → GoodTree s → GoodTree (with_line x cs s)
+line-good x cs s h g = by_test (is_blank_line cs)
   where
-    by_test : (b : Bool) → GoodTree (if b then and_leaf s blank else with_rest (suc (length cs)) cs s)
+    by_test : (b : Bool) → GoodTree (if b then and_leaf s blank else with_rest x (suc (length cs)) cs s)
     by_test true = (g, tt)
-    by_test false = rest-good (suc (length cs)) cs s h g
+    by_test false = rest-good x (suc (length cs)) cs s h g
 
 -- leaves that a line goes on with
 
@@ -580,48 +607,224 @@ indented-good : (b : Bool) (ls : List (List Code)) (cs : List Code) → LeafGood
 indented-good true ls cs = tt
 indented-good false ls cs = leaf-if (is_blank_line cs) (indented_code (ls ++ (trimmed cs ∷ []))) tt
 
-next-good : (l : Leaf) (cs : List Code) → LeafGood (with_next l cs)
-next-good (fenced_code f info ls ended) cs = leaf-if (not ended) (with_fenced_line (is_closing f cs) f info ls cs) (fenced-good (is_closing f cs) f info ls cs)
-next-good (indented_code ls) cs = indented-good (nat_le 4 (indent cs)) ls cs
-next-good (html k text ended) cs = leaf-if (not (ended || (nat_le 6 k && is_blank_line cs))) (html k (text ++ cs) (ends_html k cs)) tt
-next-good blank cs = tt
-next-good thematic_break cs = tt
-next-good (heading n text) cs = tt
-next-good (underlined n text) cs = tt
-next-good (paragraph text) cs = tt
+-- the text of a cell
 
-next-or-line-good : (cs : List Code) (before : Tree) (l : Leaf) (o : Option Leaf) → is_line cs ≡ true → GoodTree before → GoodLeaf l → LeafGood o → GoodTree (with_next_or_line cs before l o)
-next-or-line-good cs before l (Some next) h g k n = (g, n)
-next-or-line-good cs before l None h g k n = line-good cs (and_leaf before l) h (g, k)
+same-length : (n m : ℕ) → (n == m) ≡ true → n ≡ m
+same-length n m h = grind (arith, h)
 
-text-begun-good : (cs : List Code) (before : Tree) (text : List Code) (o : Option Begun) → is_line cs ≡ true → is_blank_line cs ≡ false → GoodTree before → lines_begin true text ≡ true → BegunGood o
-    → GoodTree (with_text_begun cs before text o)
-text-begun-good cs before text (Some b) h e g k n = with-begun-good b (and_leaf before (paragraph text)) (g, k) n
-text-begun-good cs before text None h e g k n = (g, joined-starts true text (trimmed cs) k (filled-starts cs h e))
+abbrev Unended : List Code → Type 0
+Unended cs = list_any is_line_ending cs ≡ false
 
-text-level-good : (cs : List Code) (before : Tree) (text : List Code) (o : Option ℕ) → is_line cs ≡ true → is_blank_line cs ≡ false → GoodTree before → lines_begin true text ≡ true
-    → GoodTree (with_text_level cs before text o)
-text-level-good cs before text (Some level) h e g k = (g, (end-starts is_whitespace_code true text k, end-twice is_whitespace_code text))
-text-level-good cs before text None h e g k = text-begun-good cs before text (begun true true cs) h e g k (begun-good true true cs h)
+first-false : (a b : Bool) → (a || b) ≡ false → a ≡ false
+first-false true b h = false-true (sym h)
+first-false false b h = refl
 
-text-line-good : (has_text : List Code → Bool) (cs : List Code) (before : Tree) (text : List Code) → is_line cs ≡ true → GoodTree before → lines_begin true text ≡ true
-    → GoodTree (with_text_line has_text cs before text)
-text-line-good has_text cs before text h g k = by_case (is_blank_line cs) refl
+-- without the whitespace at its end a line has no line ending
+end-unended : (cs : List Code) → is_line cs ≡ true → Unended (trimmed_end cs)
+end-unended [] h = refl
+end-unended (c ∷ cs) h = by_case (is_line_ending c) refl (end-unended cs (tail-line c cs h))
   where
-    by_case : (b : Bool) → is_blank_line cs ≡ b → GoodTree (if b then and_leaf (and_leaf before (paragraph text)) blank else with_text_level cs before text (heading_level has_text cs text))
-    by_case true e = ((g, k), tt)
-    by_case false e = text-level-good cs before text (heading_level has_text cs text) h e g k
+    onto : (r : List Code) → is_line_ending c ≡ false → Unended r → Unended (onto_end is_whitespace_code c r)
+    onto [] e k = by_test (is_whitespace_code c)
+      where
+        by_test : (b : Bool) → Unended (if b then [] else c ∷ [])
+        by_test true = refl
+        by_test false = ap (λ v. v || false) e
+    onto (d ∷ ds) e k = ap (λ v. v || list_any is_line_ending (d ∷ ds)) e ∙ k
 
-leaf-line-good : (has_text : List Code → Bool) (cs : List Code) (before : Tree) (l : Leaf) → is_line cs ≡ true → GoodTree before → GoodLeaf l → GoodTree (with_leaf_line has_text cs before l)
-leaf-line-good has_text cs before (paragraph text) h g k = text-line-good has_text cs before text h g k
-leaf-line-good has_text cs before blank h g k = next-or-line-good cs before blank (with_next blank cs) h g k (next-good blank cs)
-leaf-line-good has_text cs before thematic_break h g k = next-or-line-good cs before thematic_break (with_next thematic_break cs) h g k (next-good thematic_break cs)
-leaf-line-good has_text cs before (heading n text) h g k = next-or-line-good cs before (heading n text) (with_next (heading n text) cs) h g k (next-good (heading n text) cs)
-leaf-line-good has_text cs before (underlined n text) h g k = next-or-line-good cs before (underlined n text) (with_next (underlined n text) cs) h g k (next-good (underlined n text) cs)
-leaf-line-good has_text cs before (indented_code ls) h g k = next-or-line-good cs before (indented_code ls) (with_next (indented_code ls) cs) h g k (next-good (indented_code ls) cs)
-leaf-line-good has_text cs before (fenced_code f info ls ended) h g k =
-    next-or-line-good cs before (fenced_code f info ls ended) (with_next (fenced_code f info ls ended) cs) h g k (next-good (fenced_code f info ls ended) cs)
-leaf-line-good has_text cs before (html n text ended) h g k = next-or-line-good cs before (html n text ended) (with_next (html n text ended) cs) h g k (next-good (html n text ended) cs)
+    alone : is_line_ending c ≡ true → Unended (onto_end is_whitespace_code c [])
+    alone e = by_test (is_blank c)
+      where
+        by_test : (b : Bool) → Unended (if b || is_line_ending c then [] else c ∷ [])
+        by_test true = refl
+        by_test false = ap (λ v. list_any is_line_ending (if v then [] else c ∷ [])) e
+
+    by_case : (b : Bool) → is_line_ending c ≡ b → Unended (trimmed_end cs) → Unended (onto_end is_whitespace_code c (trimmed_end cs))
+    by_case true e k = subst (λ r. Unended (onto_end is_whitespace_code c (trimmed_end r))) (sym (last-ending c cs e h)) (alone e)
+    by_case false e k = onto (trimmed_end cs) e k
+
+unended-starts : (cs : List Code) → Unended cs → lines_begin false cs ≡ true
+unended-starts [] h = refl
+unended-starts (c ∷ cs) h =
+    ap (λ v. lines_begin v cs) (first-false (is_line_ending c) (list_any is_line_ending cs) h) ∙ unended-starts cs (second-false (is_line_ending c) (list_any is_line_ending cs) h)
+
+ink-starts : (cs : List Code) → next_is is_whitespace_code cs ≡ false → Unended cs → lines_begin true cs ≡ true
+ink-starts [] h e = refl
+ink-starts (c ∷ cs) h e = both-true (not (is_whitespace_code c)) (lines_begin false cs) (ap not h) (unended-starts cs (second-false (is_line_ending c) (list_any is_line_ending cs) e))
+
+cell-good : (part : List Code) → is_line part ≡ true → IsText (cell_text part) × Unended (cell_text part)
+cell-good part h =
+    let u : Unended (cell_text part) = end-unended (trimmed part) (trimmed-line part h) in
+    let f : next_is is_whitespace_code (cell_text part) ≡ false = no-space-first (cell_text part) (trimmed-starts part h) in
+    (is-text (cell_text part) (ink-starts (cell_text part) f u) (end-twice is_whitespace_code (trimmed part)), u)
+
+-- the parts of a line are lines
+
+abbrev AreParts : List (List Code) → Type 0
+AreParts [] = Unit {0}
+AreParts (p ∷ ps) = (is_line p ≡ true) × AreParts ps
+
+onto-part-lines : (c : Code) (ps : List (List Code)) → is_line_ending c ≡ false → AreParts ps → AreParts (onto_part c ps)
+onto-part-lines c [] e h = (ap (λ v. if v then true else true) e, tt)
+onto-part-lines c (p ∷ ps) e h = (ap (λ v. if v then is_empty p else is_line p) e ∙ h.0, h.1)
+
+-- a line ending stands last, so nothing is parted behind it
+ending-lines : (b : Bool) (c : Code) → AreParts (onto_part c (parts_of b []))
+ending-lines b c = (by_test (is_line_ending c), tt)
+  where
+    by_test : (v : Bool) → (if v then true else true) ≡ true
+    by_test true = refl
+    by_test false = refl
+
+parts-lines : (escaped : Bool) (cs : List Code) → is_line cs ≡ true → AreParts (parts_of escaped cs)
+parts-lines escaped [] h = (refl, tt)
+parts-lines escaped (c ∷ cs) h =
+    by_test (is_value (byte "|") c && not escaped) (parts-lines false cs (tail-line c cs h)) (parts-lines next cs (tail-line c cs h))
+  where
+    next : Bool
+    next = is_value (byte "\\") c
+
+    by_case : (b : Bool) → is_line_ending c ≡ b → AreParts (parts_of next cs) → AreParts (onto_part c (parts_of next cs))
+    by_case true e k = subst (λ x. AreParts (onto_part c (parts_of next x))) (sym (last-ending c cs e h)) (ending-lines next c)
+    by_case false e k = onto-part-lines c (parts_of next cs) e k
+
+    by_test : (b : Bool) → AreParts (parts_of false cs) → AreParts (parts_of next cs) → AreParts (if b then [] ∷ parts_of false cs else onto_part c (parts_of next cs))
+    by_test true k l = (refl, k)
+    by_test false k l = by_case (is_line_ending c) refl l
+
+blank-end-lines : (ps : List (List Code)) → AreParts ps → AreParts (without_blank_end ps)
+blank-end-lines [] h = tt
+blank-end-lines (p ∷ []) h = by_test (is_blank_line p)
+  where
+    by_test : (b : Bool) → AreParts (if b then [] else p ∷ [])
+    by_test true = tt
+    by_test false = h
+blank-end-lines (p ∷ q ∷ ps) h = (h.0, blank-end-lines (q ∷ ps) h.1)
+
+each-good : (ps : List (List Code)) → AreParts ps → AreCells (map cell_text ps)
+each-good [] h = tt
+each-good (p ∷ ps) h = let c = cell-good p h.0 in (c.0, c.1, each-good ps h.1)
+
+cells-of-good : (cs : List Code) → is_line cs ≡ true → AreCells (cells_of cs)
+cells-of-good cs h =
+    let behind = after_one (byte "|") (trimmed cs) in
+    each-good (without_blank_end (parts_of false behind))
+    (blank-end-lines (parts_of false behind) (parts-lines false behind (drop-line _ (trimmed cs) (trimmed-line cs h))))
+
+empty-text : IsText []
+empty-text = record { filled = refl; begins = refl; ends = refl }
+
+fitted-good : (columns : List Alignment) (cells : List (List Code)) → AreCells cells → AreCells (fitted columns cells)
+fitted-good [] cells h = tt
+fitted-good (a ∷ columns) [] h = (empty-text, refl, fitted-good columns [] h)
+fitted-good (a ∷ columns) (c ∷ cells) h = (h.0, h.1, fitted-good columns cells h.2)
+
+fitted-length : (columns : List Alignment) (cells : List (List Code)) → length (fitted columns cells) ≡ length columns
+fitted-length [] cells = refl
+fitted-length (a ∷ columns) [] = ap suc (fitted-length columns [])
+fitted-length (a ∷ columns) (c ∷ cells) = ap suc (fitted-length columns cells)
+
+one-row-more : (n : ℕ) (rows : List (List (List Code))) (row : List (List Code)) → AreRows n rows → (length row ≡ n) × AreCells row → AreRows n (rows ++ (row ∷ []))
+one-row-more n [] row h k = (k, tt)
+one-row-more n (r ∷ rows) row h k = (h.0, one-row-more n rows row h.1 k)
+
+cells-good : (columns : List Alignment) (rows : List (List (List Code))) (cells : List (List Code)) → AreCells cells → AreRows (length columns) rows → LeafGood (with_cells columns rows cells)
+cells-good columns rows [] a h = tt
+cells-good columns rows (c ∷ cells) a h =
+    one-row-more (length columns) rows (fitted columns (c ∷ cells)) h (fitted-length columns (c ∷ cells), fitted-good columns (c ∷ cells) a)
+
+row-good : (columns : List Alignment) (rows : List (List (List Code))) (cs : List Code) → is_line cs ≡ true → AreRows (length columns) rows → (o : Option Begun) → LeafGood (with_table_line columns rows cs o)
+row-good columns rows cs l h (Some b) = tt
+row-good columns rows cs l h None = cells-good columns rows (cells_of cs) (cells-of-good cs l) h
+
+map-length : (ds : List (List Code)) → length (map alignment_of ds) ≡ length ds
+map-length [] = refl
+map-length (d ∷ ds) = ap suc (map-length ds)
+
+header-good : (header delimiters : List (List Code)) (a c b : Bool) → AreCells header → (b ≡ true → length header ≡ length delimiters)
+    → LeafGood (only_if (a && (c && b)) (table (map alignment_of delimiters) (header ∷ [])))
+header-good header delimiters true true true g h = ((h refl ∙ sym (map-length delimiters), g), tt)
+header-good header delimiters true true false g h = tt
+header-good header delimiters true false b g h = tt
+header-good header delimiters false c b g h = tt
+
+table-good : (line cs : List Code) → is_line line ≡ true → LeafGood (table_at line cs)
+table-good line cs l = by_test (nat_lt (indent cs) 4)
+  where
+    by_test : (b : Bool) → LeafGood (if b then table_of (cells_of line) (cells_of cs) else None)
+    by_test true =
+        header-good (cells_of line) (cells_of cs) (nat_le 1 (length (cells_of line))) (list_all is_delimiter (cells_of cs)) (length (cells_of line) == length (cells_of cs))
+        (cells-of-good line l) (same-length (length (cells_of line)) (length (cells_of cs)))
+    by_test false = tt
+
+table-if-good : (b : Bool) (line cs : List Code) → is_line line ≡ true → LeafGood (if b then table_at line cs else None)
+table-if-good true line cs l = table-good line cs l
+table-if-good false line cs l = tt
+
+last-line : (ls : List (List Code)) → AreTextLines ls → is_line (split_last ls).1 ≡ true
+last-line [] h = refl
+last-line (l ∷ []) h = h.0
+last-line (l ∷ k ∷ ls) h = last-line (k ∷ ls) h.1
+
+next-good : (x : Extensions) → (l : Leaf) (cs : List Code) → is_line cs ≡ true → GoodLeaf l → LeafGood (with_next x l cs)
+next-good x (fenced_code f info ls ended) cs h g = leaf-if (not ended) (with_fenced_line (is_closing f cs) f info ls cs) (fenced-good (is_closing f cs) f info ls cs)
+next-good x (indented_code ls) cs h g = indented-good (nat_le 4 (indent cs)) ls cs
+next-good x (html k text ended) cs h g = leaf-if (not (ended || (nat_le 6 k && is_blank_line cs))) (html k (text ++ cs) (ends_html k cs)) tt
+next-good x blank cs h g = tt
+next-good x thematic_break cs h g = tt
+next-good x (heading n text) cs h g = tt
+next-good x (underlined n text) cs h g = tt
+next-good x (paragraph text) cs h g = tt
+next-good x (table columns rows) cs h g = row-good columns rows cs h g (begun x false false cs)
+next-good x (front_matter ls) cs h g = tt
+
+next-or-line-good : (x : Extensions) → (cs : List Code) (before : Tree) (l : Leaf) (o : Option Leaf) → is_line cs ≡ true → GoodTree before → GoodLeaf l → LeafGood o → GoodTree (with_next_or_line x cs before l o)
+next-or-line-good x cs before l (Some next) h g k n = (g, n)
+next-or-line-good x cs before l None h g k n = line-good x cs (and_leaf before l) h (g, k)
+
+with-table-good : (before : Tree) (lines : List Code) (t : Leaf) → GoodTree before → lines_begin true lines ≡ true → GoodLeaf t → GoodTree (with_table before lines t)
+with-table-good before [] t g k n = (g, n)
+with-table-good before (c ∷ cs) t g k n = ((g, k), n)
+
+text-table-good : (cs : List Code) (before : Tree) (text : List Code) (o : Option Leaf) → is_line cs ≡ true → is_blank_line cs ≡ false → GoodTree before → lines_begin true text ≡ true → LeafGood o
+    → GoodTree (with_text_table cs before text o)
+text-table-good cs before text (Some t) h e g k n =
+    with-table-good before (split_last (lines_of text)).0 t g
+    (front-starts true (split_last (lines_of text)).0 (split_last (lines_of text)).1 (subst (λ z. lines_begin true z ≡ true) (sym (split-is (lines_of text) ∙ lines-cover text)) k)) n
+text-table-good cs before text None h e g k n = (g, joined-starts true text (trimmed cs) k (filled-starts cs h e))
+
+text-begun-good : (x : Extensions) → (cs : List Code) (before : Tree) (text : List Code) (o : Option Begun) → is_line cs ≡ true → is_blank_line cs ≡ false → GoodTree before → lines_begin true text ≡ true → BegunGood o
+    → GoodTree (with_text_begun x cs before text o)
+text-begun-good x cs before text (Some b) h e g k n = with-begun-good x b (and_leaf before (paragraph text)) (g, k) n
+text-begun-good x cs before text None h e g k n =
+    text-table-good cs before text (if x.tables then table_at (split_last (lines_of text)).1 cs else None) h e g k (table-if-good x.tables (split_last (lines_of text)).1 cs (last-line (lines_of text) (are-lines text)))
+
+text-level-good : (x : Extensions) → (cs : List Code) (before : Tree) (text : List Code) (o : Option ℕ) → is_line cs ≡ true → is_blank_line cs ≡ false → GoodTree before → lines_begin true text ≡ true
+    → GoodTree (with_text_level x cs before text o)
+text-level-good x cs before text (Some level) h e g k = (g, (end-starts is_whitespace_code true text k, end-twice is_whitespace_code text))
+text-level-good x cs before text None h e g k = text-begun-good x cs before text (begun x true true cs) h e g k (begun-good x true true cs h)
+
+text-line-good : (x : Extensions) → (has_text : List Code → Bool) (cs : List Code) (before : Tree) (text : List Code) → is_line cs ≡ true → GoodTree before → lines_begin true text ≡ true
+    → GoodTree (with_text_line x has_text cs before text)
+text-line-good x has_text cs before text h g k = by_case (is_blank_line cs) refl
+  where
+    by_case : (b : Bool) → is_blank_line cs ≡ b → GoodTree (if b then and_leaf (and_leaf before (paragraph text)) blank else with_text_level x cs before text (heading_level has_text cs text))
+    by_case true e = ((g, k), tt)
+    by_case false e = text-level-good x cs before text (heading_level has_text cs text) h e g k
+
+leaf-line-good : (x : Extensions) → (has_text : List Code → Bool) (cs : List Code) (before : Tree) (l : Leaf) → is_line cs ≡ true → GoodTree before → GoodLeaf l → GoodTree (with_leaf_line x has_text cs before l)
+leaf-line-good x has_text cs before (paragraph text) h g k = text-line-good x has_text cs before text h g k
+leaf-line-good x has_text cs before blank h g k = next-or-line-good x cs before blank (with_next x blank cs) h g k (next-good x blank cs h k)
+leaf-line-good x has_text cs before thematic_break h g k = next-or-line-good x cs before thematic_break (with_next x thematic_break cs) h g k (next-good x thematic_break cs h k)
+leaf-line-good x has_text cs before (heading n text) h g k = next-or-line-good x cs before (heading n text) (with_next x (heading n text) cs) h g k (next-good x (heading n text) cs h k)
+leaf-line-good x has_text cs before (underlined n text) h g k = next-or-line-good x cs before (underlined n text) (with_next x (underlined n text) cs) h g k (next-good x (underlined n text) cs h k)
+leaf-line-good x has_text cs before (indented_code ls) h g k = next-or-line-good x cs before (indented_code ls) (with_next x (indented_code ls) cs) h g k (next-good x (indented_code ls) cs h k)
+leaf-line-good x has_text cs before (fenced_code f info ls ended) h g k =
+    next-or-line-good x cs before (fenced_code f info ls ended) (with_next x (fenced_code f info ls ended) cs) h g k (next-good x (fenced_code f info ls ended) cs h k)
+leaf-line-good x has_text cs before (table columns rows) h g k =
+    next-or-line-good x cs before (table columns rows) (with_next x (table columns rows) cs) h g k (next-good x (table columns rows) cs h k)
+leaf-line-good x has_text cs before (front_matter ls) h g k = next-or-line-good x cs before (front_matter ls) (with_next x (front_matter ls) cs) h g k (next-good x (front_matter ls) cs h k)
+leaf-line-good x has_text cs before (html n text ended) h g k = next-or-line-good x cs before (html n text ended) (with_next x (html n text ended) cs) h g k (next-good x (html n text ended) cs h k)
 
 -- containers
 
@@ -635,6 +838,7 @@ unless-line false o h = h
 
 inside-line : (c : Container) (inside : Tree) (cs : List Code) → is_line cs ≡ true → RestGood (rest_inside c inside cs)
 inside-line quote inside cs h = behind-quote-line cs h
+inside-line (footnote label) inside cs h = in-item-line (nat_le 4 (indent cs)) 4 cs h
 inside-line (item m columns) inside cs h =
     unless-line (is_further_blank inside cs) (rest_in_item (nat_le columns (indent cs)) columns cs) (in-item-line (nat_le columns (indent cs)) columns cs h)
 
@@ -648,30 +852,37 @@ lazy-good cs (and_leaf before (underlined n text)) h e g = g
 lazy-good cs (and_leaf before (indented_code ls)) h e g = g
 lazy-good cs (and_leaf before (fenced_code f info ls ended)) h e g = g
 lazy-good cs (and_leaf before (html k text ended)) h e g = g
+lazy-good cs (and_leaf before (table columns rows)) h e g = g
+lazy-good cs (and_leaf before (front_matter ls)) h e g = g
 lazy-good cs (and_container before c inside) h e g = (g.0, lazy-good cs inside h e g.1)
 
 lazy-filled : (a x y : Bool) → (a && not (x || y)) ≡ true → x ≡ false
 lazy-filled a true y h = false-true (and-second a false h)
 lazy-filled a false y h = refl
 
-rest-inside-good : (inner : List Code → Tree) (cs : List Code) (before : Tree) (c : Container) (inside : Tree) → ((rest : List Code) → is_line rest ≡ true → GoodTree (inner rest))
-    → (o : Option (List Code)) → is_line cs ≡ true → GoodTree before → GoodTree inside → RestGood o → GoodTree (with_rest_inside inner cs before c inside o)
-rest-inside-good inner cs before c inside i (Some rest) h g k n = (g, i rest n)
-rest-inside-good inner cs before c inside i None h g k n = by_case (is_lazy cs inside) refl
+rest-inside-good : (x : Extensions) → (inner : List Code → Tree) (cs : List Code) (before : Tree) (c : Container) (inside : Tree) → ((rest : List Code) → is_line rest ≡ true → GoodTree (inner rest))
+    → (o : Option (List Code)) → is_line cs ≡ true → GoodTree before → GoodTree inside → RestGood o → GoodTree (with_rest_inside x inner cs before c inside o)
+rest-inside-good x inner cs before c inside i (Some rest) h g k n = (g, i rest n)
+rest-inside-good x inner cs before c inside i None h g k n = by_case (is_lazy x cs inside) refl
   where
-    by_case : (b : Bool) → is_lazy cs inside ≡ b → GoodTree (if b then and_container before c (with_lazy_line cs inside) else with_line cs (and_container before c inside))
-    by_case true e = (g, lazy-good cs inside h (lazy-filled (ends_in_text inside) (is_blank_line cs) (is_some (begun false true cs)) e) k)
-    by_case false e = line-good cs (and_container before c inside) h (g, k)
+    by_case : (b : Bool) → is_lazy x cs inside ≡ b → GoodTree (if b then and_container before c (with_lazy_line cs inside) else with_line x cs (and_container before c inside))
+    by_case true e = (g, lazy-good cs inside h (lazy-filled (ends_in_text inside) (is_blank_line cs) (is_some (begun x false true cs)) e) k)
+    by_case false e = line-good x cs (and_container before c inside) h (g, k)
 
-read-good : (has_text : List Code → Bool) (cs : List Code) (t : Tree) → is_line cs ≡ true → GoodTree t → GoodTree (read_line has_text cs t)
-read-good has_text cs nothing h g = line-good cs nothing h g
-read-good has_text cs (and_leaf before l) h g = leaf-line-good has_text cs before l h g.0 g.1
-read-good has_text cs (and_container before c inside) h g =
-    rest-inside-good (λ rest. read_line has_text rest inside) cs before c inside (λ rest k. read-good has_text rest inside k g.1) (rest_inside c inside cs) h g.0 g.1 (inside-line c inside cs h)
+read-good : (x : Extensions) → (has_text : List Code → Bool) (cs : List Code) (t : Tree) → is_line cs ≡ true → GoodTree t → GoodTree (read_line x has_text cs t)
+read-good x has_text cs nothing h g = line-good x cs nothing h g
+read-good x has_text cs (and_leaf before l) h g = leaf-line-good x has_text cs before l h g.0 g.1
+read-good x has_text cs (and_container before c inside) h g =
+    rest-inside-good x (λ rest. read_line x has_text rest inside) cs before c inside (λ rest k. read-good x has_text rest inside k g.1) (rest_inside c inside cs) h g.0 g.1 (inside-line c inside cs h)
 
-all-good : (has_text : List Code → Bool) (ls : List (List Code)) (t : Tree) → AreTextLines ls → GoodTree t → GoodTree (read_lines has_text ls t)
-all-good has_text [] t h g = g
-all-good has_text (l ∷ ls) t h g = all-good has_text ls (read_line has_text l t) h.1 (read-good has_text l t h.0 g)
+all-good : (x : Extensions) → (has_text : List Code → Bool) (ls : List (List Code)) (t : Tree) → AreTextLines ls → GoodTree t → GoodTree (read_lines x has_text ls t)
+all-good x has_text [] t h g = g
+all-good x has_text (l ∷ ls) t h g = all-good x has_text ls (read_line x has_text l t) h.1 (read-good x has_text l t h.0 g)
+
+-- the lines behind front matter
+abbrev MatterLines : Option (List (List Code) × List (List Code)) → Type 0
+MatterLines None = Unit {0}
+MatterLines (Some r) = AreTextLines r.1
 
 -- Without definitions.
 
@@ -684,11 +895,41 @@ text-of-leaf-good thematic_break h = tt
 text-of-leaf-good (indented_code ls) h = tt
 text-of-leaf-good (fenced_code f info ls ended) h = tt
 text-of-leaf-good (html k text ended) h = tt
+text-of-leaf-good (table columns rows) h = h
+text-of-leaf-good (front_matter ls) h = tt
 
 resolved-good : (t : Tree) → GoodTree t → HaveTexts (resolved t)
 resolved-good nothing h = tt
 resolved-good (and_leaf before l) h = (resolved-good before h.0, text-of-leaf-good l h.1)
 resolved-good (and_container before c inside) h = (resolved-good before h.0, resolved-good inside h.1)
 
+before-fence-lines : (n : ℕ) (ls : List (List Code)) → AreTextLines ls → MatterLines (matter_before n ls)
+before-fence-lines n [] h = tt
+before-fence-lines n (l ∷ ls) h = by_test (is_matter_fence n l) (before-fence-lines n ls h.1)
+  where
+    onto : (o : Option (List (List Code) × List (List Code))) → MatterLines o → MatterLines (onto_matter l o)
+    onto None k = tt
+    onto (Some r) k = k
+
+    by_test : (b : Bool) → MatterLines (matter_before n ls) → MatterLines (if b then Some ([], ls) else onto_matter l (matter_before n ls))
+    by_test true k = h.1
+    by_test false k = onto (matter_before n ls) k
+
+matter-lines : (b : Bool) (ls : List (List Code)) → AreTextLines ls → MatterLines (if b then matter_at ls else None)
+matter-lines false ls h = tt
+matter-lines true [] h = tt
+matter-lines true (l ∷ ls) h = by_test (begins_matter (first_value l) l)
+  where
+    by_test : (b : Bool) → MatterLines (if b then matter_before (first_value l) ls else None)
+    by_test true = before-fence-lines (first_value l) ls h.1
+    by_test false = tt
+
+behind-good : (x : Extensions) (has_text : List Code → Bool) (ls : List (List Code)) (o : Option (List (List Code) × List (List Code))) → AreTextLines ls → MatterLines o → GoodTree (read_behind x has_text ls o)
+behind-good x has_text ls None h k = all-good x has_text ls nothing h tt
+behind-good x has_text ls (Some r) h k = all-good x has_text r.1 (and_leaf nothing (front_matter r.0)) k (tt, tt)
+
 pub texts_are_contents : TextsAreContents
-texts_are_contents bytes = resolved-good (blocks_of has_text bytes) (all-good has_text (lines_of (codes_of bytes)) nothing (are-lines (codes_of bytes)) tt)
+texts_are_contents x bytes =
+    let ls = lines_of (document_codes bytes) in
+    resolved-good (blocks_of x has_text bytes)
+    (behind-good x has_text ls (if x.front_matter then matter_at ls else None) (are-lines (document_codes bytes)) (matter-lines x.front_matter ls (are-lines (document_codes bytes))))

@@ -1,11 +1,12 @@
--- The containers that begin with a line (CommonMark 5.1 and 5.2), each with the rest of the line inside it.
+-- The containers that begin with a line (CommonMark 5.1 and 5.2, and footnote definitions), each with the rest of the line inside it.
 use Rattle.std.specs.Prelude.{ℕ, ◌+◌, ◌-◌, ◌*◌, Bool, true, false, ◌&&◌, ◌||◌, not, nat_lt, nat_le, ◌==◌, List, [], ◌∷◌, length, drop, Option, Some, None, if◌then◌else◌}
 use Rattle.std.specs.Str.{byte}
 use Rattle.markdown_content.specs.Codes.{Code}
-use Rattle.markdown_model.specs.CodeTests.{is_value, is_between, next_is, is_digit}
+use Rattle.markdown_model.specs.CodeTests.{is_value, is_between, is_empty, next_is, is_digit, is_whitespace_code, values_of}
 use Rattle.markdown_model.specs.Grammar.{span}
+use Rattle.markdown_model.specs.LabelEnd.{is_too_long}
 use Rattle.markdown_block_model.specs.LineRests.{indent, trimmed, is_blank_line, skip, is_gap, first_value, only_if}
-use Rattle.markdown_block_model.specs.BlockTree.{Marker, bullet, ordered, Container, quote, item}
+use Rattle.markdown_block_model.specs.BlockTree.{Marker, bullet, ordered, Container, quote, item, footnote}
 
 -- Block quotes (5.1): `>` behind three columns at most, and one column more if it is blank.
 
@@ -18,6 +19,32 @@ in_quote (Some rest) = Some (quote, rest)
 
 abbrev pub quote_at : List Code → Option (Container × List Code)
 quote_at cs = in_quote (behind_quote cs)
+
+-- Footnote definitions, as on GitHub: `[^`, a label, and `]:`. A label has no whitespace, and a bracket in it has to be escaped. The spaces and tabs after the
+-- colon are part of the marker.
+
+-- a label's codes, as far as they go, and the rest of the line; `taken` says that the first code is escaped by the backslash before it
+abbrev pub onto_label : Code → List Code × List Code → List Code × List Code
+onto_label c r = (c ∷ r.0, r.1)
+
+abbrev pub ends_label : Bool → Code → Bool
+ends_label taken c = is_whitespace_code c || (not taken && (is_value (byte "[") c || is_value (byte "]") c))
+
+abbrev pub label_from : Bool → List Code → List Code × List Code
+label_from taken [] = ([], [])
+label_from taken (c ∷ cs) = if ends_label taken c then ([], c ∷ cs) else onto_label c (label_from (not taken && is_value (byte "\\") c) cs)
+
+-- `found` is the label and the rest of the line: the label is closed, and neither empty nor too long (at most 999 characters, as in CommonMark 6.3)
+abbrev pub is_closed_label : List Code × List Code → Bool
+is_closed_label found =
+    (next_is (is_value (byte "]")) found.1 && next_is (is_value (byte ":")) (drop 1 found.1)) && not (is_empty found.0 || is_too_long (values_of found.0))
+
+abbrev pub footnote_if : Bool → List Code × List Code → Option (Container × List Code)
+footnote_if begins found = only_if (begins && is_closed_label found) (footnote found.0, trimmed (drop 2 found.1))
+
+-- the definition that begins after an indent
+abbrev pub footnote_at : List Code → Option (Container × List Code)
+footnote_at cs = footnote_if (next_is (is_value (byte "[")) cs && next_is (is_value (byte "^")) (drop 1 cs)) (label_from false (drop 2 cs))
 
 -- List items (5.2): a marker, and whitespace or the end behind it.
 

@@ -4,7 +4,7 @@ use Rattle.std.specs.Str.{byte}
 use Rattle.std.specs.List.{list_any}
 use Rattle.markdown_content.specs.Codes.{Code}
 use Rattle.markdown_model.specs.CodeTests.{is_value, is_empty, next_is, is_letter}
-use Rattle.markdown_model.specs.Grammar.{Reading, either, one, word, optional, ◌then_◌}
+use Rattle.markdown_model.specs.Grammar.{Reading, either, one, word, ◌then_◌}
 use Rattle.markdown_model.specs.HtmlText.{tag_name, open_tag, closing_tag}
 use Rattle.markdown_model.specs.GfmAutolinkLiteral.{letters, one_word_of}
 use Rattle.markdown_block_model.specs.LineRests.{trimmed, is_blank_line, is_gap, only_if}

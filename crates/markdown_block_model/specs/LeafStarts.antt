@@ -1,11 +1,11 @@
 -- The leaves that begin with a line, but for HTML and paragraphs (CommonMark 4.1 to 4.3 and 4.5). Each word here reads the line behind its indent.
-use Rattle.std.specs.Prelude.{ℕ, ◌+◌, Bool, true, false, ◌&&◌, ◌||◌, not, nat_lt, nat_le, ◌==◌, List, [], length, drop, Option, Some, None, if◌then◌else◌}
+use Rattle.std.specs.Prelude.{ℕ, Bool, true, false, ◌&&◌, ◌||◌, not, nat_lt, nat_le, ◌==◌, List, [], length, drop, Option, Some, None, if◌then◌else◌}
 use Rattle.std.specs.Str.{byte}
 use Rattle.std.specs.List.{list_any, list_all, count_by}
 use Rattle.markdown_content.specs.Codes.{Code, is_blank}
 use Rattle.markdown_model.specs.CodeTests.{is_value, is_between, is_empty, is_whitespace_code}
 use Rattle.markdown_block_model.specs.LineRests.{indent, trimmed, is_blank_line, is_gap, count_first, first_value, without_end, trimmed_end, only_if}
-use Rattle.markdown_block_model.specs.BlockTree.{Leaf, heading, fenced_code, Fence}
+use Rattle.markdown_block_model.specs.BlockTree.{Extensions, Leaf, heading, fenced_code, Fence}
 
 -- Thematic breaks (4.1): three or more of one marker, and nothing else but whitespace.
 
@@ -48,18 +48,23 @@ level_of false minus = only_if minus 2
 abbrev pub underline : List Code → Option ℕ
 underline cs = if nat_lt (indent cs) 4 then level_of (is_row_of (byte "=") (trimmed cs)) (is_row_of (byte "-") (trimmed cs)) else None
 
--- Fenced code blocks (4.5): three or more grave accents or tildes, and the info string, which behind grave accents has none of them.
+-- Fenced code blocks (4.5): three or more grave accents or tildes, and the info string, which behind grave accents has none of them. Math, as in the crate
+-- `markdown`, has fences of two or more dollar signs, and no dollar sign in its info string.
 
-abbrev pub may_be_info : ℕ → List Code → Bool
-may_be_info n cs = n == byte "~" || (n == byte "`" && not (list_any (is_value n) cs))
+abbrev pub may_be_info : Extensions → ℕ → List Code → Bool
+may_be_info e n cs = n == byte "~" || ((n == byte "`" || (e.math && n == byte "$")) && not (list_any (is_value n) cs))
 
-abbrev pub fence_of : ℕ → ℕ → ℕ → List Code → Option Leaf
-fence_of columns n count info =
-    only_if (nat_le 3 count && may_be_info n info) (fenced_code (record { value = n; count = count; columns = columns }) (trimmed_end (trimmed info)) [] false)
+-- how long a fence is at least
+abbrev pub fence_least : ℕ → ℕ
+fence_least n = if n == byte "$" then 2 else 3
+
+abbrev pub fence_of : Extensions → ℕ → ℕ → ℕ → List Code → Option Leaf
+fence_of e columns n count info =
+    only_if (nat_le (fence_least n) count && may_be_info e n info) (fenced_code (record { value = n; count = count; columns = columns }) (trimmed_end (trimmed info)) [] false)
 
 -- `columns` is the indent
-abbrev pub fence_at : ℕ → List Code → Option Leaf
-fence_at columns cs = fence_of columns (first_value cs) (count_first (first_value cs) cs) (drop (count_first (first_value cs) cs) cs)
+abbrev pub fence_at : Extensions → ℕ → List Code → Option Leaf
+fence_at e columns cs = fence_of e columns (first_value cs) (count_first (first_value cs) cs) (drop (count_first (first_value cs) cs) cs)
 
 -- a whole line ends the code: as many of the value at least, and nothing else
 abbrev pub is_closing : Fence → List Code → Bool

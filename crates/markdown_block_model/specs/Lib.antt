@@ -1,13 +1,21 @@
 -- The definitions of this crate, in the order in which one reads them.
 pub mod BlockTree
+pub mod ByteOrderMark
 pub mod LineRests
 pub mod LeafStarts
 pub mod HtmlStarts
+pub mod Tables
+pub mod FrontMatter
 pub mod ContainerStarts
 pub mod BlockStarts
 pub mod DocumentBlocks
+pub mod FirstOnes
 pub mod LinkDefinitions
+pub mod Footnotes
 pub mod LooseLists
 pub mod BlockLines
 pub mod TextStarts
 pub mod BlockLaws
+pub mod SiblingTrees
+pub mod BlockPlaces
+pub mod WholeForests

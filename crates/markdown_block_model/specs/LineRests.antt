@@ -1,5 +1,5 @@
 -- Lines, and the rest of a line: its codes from a place on (CommonMark 2.1 and 2.2). A tab is as many codes as it has columns, so a column is a code.
-use Rattle.std.specs.Prelude.{ℕ, zero, suc, ◌+◌, Bool, true, false, ◌||◌, List, [], ◌∷◌, length, Option, Some, None, if◌then◌else◌}
+use Rattle.std.specs.Prelude.{ℕ, zero, suc, Bool, true, false, ◌||◌, List, [], ◌∷◌, length, Option, Some, None, if◌then◌else◌}
 use Rattle.std.specs.List.{list_all}
 use Rattle.markdown_content.specs.Codes.{Code, is_line_ending, is_blank}
 use Rattle.markdown_model.specs.CodeTests.{is_value, is_empty, next_is, is_whitespace_code}

@@ -1,15 +1,15 @@
 -- Link reference definitions (CommonMark 4.7). Those at the front of a paragraph are no text of it.
-use Rattle.std.specs.Prelude.{ℕ, zero, suc, ◌-◌, Bool, true, not, List, [], ◌∷◌, ◌++◌, length, drop, take, filter, Option, Some, None, if◌then◌else◌}
-use Rattle.std.specs.Str.{byte, bytes_eq}
+use Rattle.std.specs.Prelude.{ℕ, zero, suc, ◌-◌, Bool, true, not, List, [], ◌∷◌, ◌++◌, length, drop, take, Option, Some, None, if◌then◌else◌}
+use Rattle.std.specs.Str.{byte}
 use Rattle.markdown_content.specs.Codes.{Code, is_blank, is_line_ending}
-use Rattle.markdown_content.specs.Tree.{Forest, leaf_codes}
+use Rattle.markdown_content.specs.Tree.{leaf_codes}
 use Rattle.markdown_util.specs.Identifier.{identifier_by}
 use Rattle.markdown_model.specs.CodeTests.{is_value, is_empty, next_is, values_of}
 use Rattle.markdown_model.specs.Grammar.{Reading, ◌>>=◌, ◌>>◌, gives, either, provided, one, any_number, before, optional_tree}
 use Rattle.markdown_model.specs.Whitespace.{space_or_tab_eol}
 use Rattle.markdown_model.specs.Resource.{label, reference_names, destination, resource_names, begins_title, title, title_names}
 use Rattle.markdown_block_model.specs.LineRests.{trimmed_end}
-use Rattle.markdown_block_model.specs.BlockTree.{Leaf, underlined, paragraph, Tree, nothing, and_leaf, and_container}
+use Rattle.markdown_block_model.specs.BlockTree.{Extensions, Leaf, underlined, paragraph, Tree, nothing, and_leaf, and_container}
 use Rattle.markdown_block_model.specs.DocumentBlocks.{blocks_of}
 
 -- the texts of its label, its destination and its title
@@ -88,21 +88,13 @@ definitions_within (and_leaf before leaf) = definitions_within before ++ definit
 definitions_within (and_container before c inside) = definitions_within before ++ definitions_within inside
 
 -- the tree of a document
-abbrev pub document_tree : List ℕ → Tree
-document_tree bytes = resolved (blocks_of has_text bytes)
+abbrev pub document_tree : Extensions → List ℕ → Tree
+document_tree e bytes = resolved (blocks_of e has_text bytes)
 
 -- its definitions
-abbrev pub definitions : List ℕ → List Definition
-definitions bytes = definitions_within (blocks_of has_text bytes)
+abbrev pub definitions : Extensions → List ℕ → List Definition
+definitions e bytes = definitions_within (blocks_of e has_text bytes)
 
--- Which of them count: of several with one identifier the first.
-
+-- by which links and images find it; of several with one identifier the first counts
 abbrev pub identifier : Definition → List ℕ
 identifier d = identifier_by true (values_of d.label)
-
-abbrev pub is_called : List ℕ → Definition → Bool
-is_called name d = bytes_eq name (identifier d)
-
-abbrev pub first_ones : List Definition → List Definition
-first_ones [] = []
-first_ones (d ∷ ds) = d ∷ filter (λ e. not (is_called (identifier d) e)) (first_ones ds)

@@ -4,7 +4,7 @@ use Rattle.std.specs.Prelude.{if◌then◌else◌, MatchOption}
 use Rattle.markdown_content.specs.Codes.{Code}
 use Rattle.markdown_block_model.specs.LineRests.{is_blank_line, trimmed}
 use Rattle.markdown_block_model.specs.BlockTree as model
-use Rattle.markdown_block_model.specs.BlockTree.{Tree, nothing, and_leaf, and_container}
+use Rattle.markdown_block_model.specs.BlockTree.{no_extensions, Tree, nothing, and_leaf, and_container}
 use Rattle.markdown_block_model.specs.BlockStarts as block_starts
 use Rattle.markdown_block_model.specs.BlockStarts.{with_rest, with_found, with_begun, begun}
 use Rattle.markdown_blocks.specs.TreeDepth.{inside_at, at_depth}
@@ -13,52 +13,52 @@ use Rattle.markdown_blocks.specs.declared.block.Leaf.{Leaf as Written}
 use Rattle.markdown_blocks.specs.declared.reader.Reader.{Reader}
 use Rattle.markdown_blocks.proofs.DepthLemmas.{at_depth-same, at_depth-deeper, at_depth-id}
 
-rest-blank : (n : ℕ) (cs : List Code) (s : Tree) → begun false false cs ≡ None → is_blank_line cs ≡ true → with_rest (suc n) cs s ≡ s
-rest-blank n cs s h k = ap (with_found (λ rest. with_rest n rest nothing) cs s) h ∙ ap (λ b. if b then s else and_leaf s (model.paragraph (trimmed cs))) k
+rest-blank : (n : ℕ) (cs : List Code) (s : Tree) → begun no_extensions false false cs ≡ None → is_blank_line cs ≡ true → with_rest no_extensions (suc n) cs s ≡ s
+rest-blank n cs s h k = ap (with_found (λ rest. with_rest no_extensions n rest nothing) cs s) h ∙ ap (λ b. if b then s else and_leaf s (model.paragraph (trimmed cs))) k
 
-rest-leaf : (n : ℕ) (cs : List Code) (s : Tree) (l : model.Leaf) → begun false false cs ≡ Some (block_starts.leaf_begins l) → with_rest (suc n) cs s ≡ and_leaf s l
-rest-leaf n cs s l h = ap (with_found (λ rest. with_rest n rest nothing) cs s) h
+rest-leaf : (n : ℕ) (cs : List Code) (s : Tree) (l : model.Leaf) → begun no_extensions false false cs ≡ Some (block_starts.leaf_begins l) → with_rest no_extensions (suc n) cs s ≡ and_leaf s l
+rest-leaf n cs s l h = ap (with_found (λ rest. with_rest no_extensions n rest nothing) cs s) h
 
-rest-container : (n : ℕ) (cs rest : List Code) (s : Tree) (c : model.Container) → begun false false cs ≡ Some (block_starts.container_begins c rest)
-    → with_rest (suc n) cs s ≡ and_container s c (with_rest n rest nothing)
-rest-container n cs rest s c h = ap (with_found (λ r. with_rest n r nothing) cs s) h
+rest-container : (n : ℕ) (cs rest : List Code) (s : Tree) (c : model.Container) → begun no_extensions false false cs ≡ Some (block_starts.container_begins c rest)
+    → with_rest no_extensions (suc n) cs s ≡ and_container s c (with_rest no_extensions n rest nothing)
+rest-container n cs rest s c h = ap (with_found (λ r. with_rest no_extensions n r nothing) cs s) h
 
-pub finished-leaf : (bytes : List ℕ) (line : List Code) (r a : Reader) (m : block_starts.Begun) → begun false false line ≡ Some m → HasLeaf bytes m r a → IsFinished bytes line r a
+pub finished-leaf : (bytes : List ℕ) (line : List Code) (r a : Reader) (m : block_starts.Begun) → begun no_extensions false false line ≡ Some m → HasLeaf bytes m r a → IsFinished bytes line r a
 finished-leaf bytes line r a m h l = record {
-  tree = λ n. l.tree ∙ at_depth-same (depth r) (λ s. and_leaf s l.leaf) (with_rest (suc n) line) (closed_tree bytes r) (sym (rest-leaf n line (inside_at (depth r) (closed_tree bytes r)) l.leaf (h ∙ ap (λ x. Some x) l.is)));
+  tree = λ n. l.tree ∙ at_depth-same (depth r) (λ s. and_leaf s l.leaf) (with_rest no_extensions (suc n) line) (closed_tree bytes r) (sym (rest-leaf n line (inside_at (depth r) (closed_tree bytes r)) l.leaf (h ∙ ap (λ x. Some x) l.is)));
   between = l.between;
 }
 
-pub finished-blank : (bytes : List ℕ) (line : List Code) (r : Reader) → IsStanding bytes r → inside_at (depth r) (closed_tree bytes r) ≡ nothing → begun false false line ≡ None → is_blank_line line ≡ true
+pub finished-blank : (bytes : List ℕ) (line : List Code) (r : Reader) → IsStanding bytes r → inside_at (depth r) (closed_tree bytes r) ≡ nothing → begun no_extensions false false line ≡ None → is_blank_line line ≡ true
     → IsFinished bytes line r r
 finished-blank bytes line r f e h k = record {
-  tree = λ n. rw f.open_none (sym (at_depth-same (depth r) (with_rest (suc n) line) (λ s. s) (closed_tree bytes r) (rest-blank n line (inside_at (depth r) (closed_tree bytes r)) h k) ∙ at_depth-id (depth r) (closed_tree bytes r)));
+  tree = λ n. rw f.open_none (sym (at_depth-same (depth r) (with_rest no_extensions (suc n) line) (λ s. s) (closed_tree bytes r) (rest-blank n line (inside_at (depth r) (closed_tree bytes r)) h k) ∙ at_depth-id (depth r) (closed_tree bytes r)));
   between = record { is_front = f.is_front; empty = λ _. e };
 }
 
-pub entered : (bytes : List ℕ) (line : List Code) (k : ℕ) (r a : Reader) (m : block_starts.Begun) → begun false false line ≡ Some m → 0 < k → k ≤ length line → HasContainer bytes m (drop k line) r a
+pub entered : (bytes : List ℕ) (line : List Code) (k : ℕ) (r a : Reader) (m : block_starts.Begun) → begun no_extensions false false line ≡ Some m → 0 < k → k ≤ length line → HasContainer bytes m (drop k line) r a
     → IsEntered bytes line (drop k line) r a
 entered bytes line k r a m h low high c = record {
   shorter = omega (arith, length-drop k line);
   standing = c.deeper.standing;
   empty = c.deeper.empty;
-  tree = λ n. rw (c.deeper.deeper, c.deeper.tree) (at_depth-deeper (depth r) (with_rest n (drop k line)) c.container (closed_tree bytes r)
-      ∙ at_depth-same (depth r) (λ s. and_container s c.container (with_rest n (drop k line) nothing)) (with_rest (suc n) line) (closed_tree bytes r)
+  tree = λ n. rw (c.deeper.deeper, c.deeper.tree) (at_depth-deeper (depth r) (with_rest no_extensions n (drop k line)) c.container (closed_tree bytes r)
+      ∙ at_depth-same (depth r) (λ s. and_container s c.container (with_rest no_extensions n (drop k line) nothing)) (with_rest no_extensions (suc n) line) (closed_tree bytes r)
       (sym (rest-container n line (drop k line) (inside_at (depth r) (closed_tree bytes r)) c.container (h ∙ ap (λ x. Some x) c.is))));
 }
 
 pub begins-all : (bytes : List ℕ) (line : List Code) (r : Reader) → IsStanding bytes r → (is_blank_line line ≡ true → inside_at (depth r) (closed_tree bytes r) ≡ nothing)
-    → Begins bytes line r (at_depth (depth r) (with_rest (suc (length line)) line) (closed_tree bytes r))
+    → Begins bytes line r (at_depth (depth r) (with_rest no_extensions (suc (length line)) line) (closed_tree bytes r))
 begins-all bytes line r f e = record { steps = suc (length line); enough = omega arith; standing = f; empty = e; tree = refl }
 
-finished-with : (bytes : List ℕ) (line : List Code) (r a : Reader) (t : Tree) (k : ℕ) → length line < k → at_depth (depth r) (with_rest k line) (closed_tree bytes r) ≡ t → IsFinished bytes line r a → whole_tree bytes a ≡ t
+finished-with : (bytes : List ℕ) (line : List Code) (r a : Reader) (t : Tree) (k : ℕ) → length line < k → at_depth (depth r) (with_rest no_extensions k line) (closed_tree bytes r) ≡ t → IsFinished bytes line r a → whole_tree bytes a ≡ t
 finished-with bytes line r a t zero h e f = absurd (omega arith)
 finished-with bytes line r a t (suc n) h e f = f.tree n ∙ e
 
 pub begins-finished : (bytes : List ℕ) (line : List Code) (r a : Reader) (t : Tree) → Begins bytes line r t → IsFinished bytes line r a → whole_tree bytes a ≡ t
 begins-finished bytes line r a t g f = finished-with bytes line r a t g.steps g.enough g.tree f
 
-entered-with : (bytes : List ℕ) (line rest : List Code) (r a : Reader) (t : Tree) (k : ℕ) → length line < k → at_depth (depth r) (with_rest k line) (closed_tree bytes r) ≡ t → IsEntered bytes line rest r a
+entered-with : (bytes : List ℕ) (line rest : List Code) (r a : Reader) (t : Tree) (k : ℕ) → length line < k → at_depth (depth r) (with_rest no_extensions k line) (closed_tree bytes r) ≡ t → IsEntered bytes line rest r a
     → Begins bytes rest a t
 entered-with bytes line rest r a t zero h e f = absurd (omega arith)
 entered-with bytes line rest r a t (suc n) h e f =
@@ -68,7 +68,7 @@ pub begins-entered : (bytes : List ℕ) (line rest : List Code) (r a : Reader) (
 begins-entered bytes line rest r a t g f = entered-with bytes line rest r a t g.steps g.enough g.tree f
 
 -- a leaf or a container has begun
-pub next-begun : (bytes : List ℕ) (line : List Code) (r a : Reader) (m : block_starts.Begun) (o : Option ℕ) → begun false false line ≡ Some m
+pub next-begun : (bytes : List ℕ) (line : List Code) (r a : Reader) (m : block_starts.Begun) (o : Option ℕ) → begun no_extensions false false line ≡ Some m
     → MatchOption o (HasLeaf bytes m r a) (λ k. (0 < k) × (k ≤ length line) × HasContainer bytes m (drop k line) r a)
     → MatchOption o (IsFinished bytes line r a) (λ k. (k ≤ length line) × IsEntered bytes line (drop k line) r a)
 next-begun bytes line r a m None h e = finished-leaf bytes line r a m h e
@@ -77,11 +77,11 @@ next-begun bytes line r a m (Some k) h e = (e.1, entered bytes line k r a m h e.
 -- What begins, and what the line begins inside it.
 
 pub all-container : (bytes : List ℕ) (rest : List Code) (r a b : Reader) (m : block_starts.Begun) → HasContainer bytes m rest r a
-    → whole_tree bytes b ≡ at_depth (depth a) (with_rest (suc (length rest)) rest) (closed_tree bytes a) → whole_tree bytes b ≡ at_depth (depth r) (with_begun m) (closed_tree bytes r)
+    → whole_tree bytes b ≡ at_depth (depth a) (with_rest no_extensions (suc (length rest)) rest) (closed_tree bytes a) → whole_tree bytes b ≡ at_depth (depth r) (with_begun no_extensions m) (closed_tree bytes r)
 all-container bytes rest r a b m c e =
-    e ∙ rw (c.deeper.deeper, c.deeper.tree) (at_depth-deeper (depth r) (with_rest (suc (length rest)) rest) c.container (closed_tree bytes r)
-    ∙ at_depth-same (depth r) (λ s. and_container s c.container (with_rest (suc (length rest)) rest nothing)) (with_begun m) (closed_tree bytes r)
-    (ap (λ x. with_begun x (inside_at (depth r) (closed_tree bytes r))) (sym c.is)))
+    e ∙ rw (c.deeper.deeper, c.deeper.tree) (at_depth-deeper (depth r) (with_rest no_extensions (suc (length rest)) rest) c.container (closed_tree bytes r)
+    ∙ at_depth-same (depth r) (λ s. and_container s c.container (with_rest no_extensions (suc (length rest)) rest nothing)) (with_begun no_extensions m) (closed_tree bytes r)
+    (ap (λ x. with_begun no_extensions x (inside_at (depth r) (closed_tree bytes r))) (sym c.is)))
 
 -- a leaf is opened
 pub opened-leaf : (bytes : List ℕ) (r a : Reader) (l : Written) (m : model.Leaf) (b : block_starts.Begun) → a ≡ record r { «open» = Some l } → IsStanding bytes r → b ≡ block_starts.leaf_begins m → leaf_of bytes l ≡ m

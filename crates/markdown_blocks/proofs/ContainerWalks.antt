@@ -2,7 +2,7 @@
 use Rattle.std.proofs.Common.{◌≡◌, ℕ, zero, suc, ◌≤◌, ◌<◌, refl, ap, ◌∙◌, List, [], ◌∷◌, length, take, map, Bool, true, false, Some, None, arith}
 use Rattle.std.specs.Prelude.{if◌then◌else◌}
 use Rattle.markdown_content.specs.Codes.{Code}
-use Rattle.markdown_block_model.specs.BlockTree.{Tree, nothing, and_leaf, and_container}
+use Rattle.markdown_block_model.specs.BlockTree.{no_extensions, Tree, nothing, and_leaf, and_container}
 use Rattle.markdown_block_model.specs.BlockStarts.{with_line}
 use Rattle.markdown_block_model.specs.DocumentBlocks.{read_line, with_rest_inside, rest_inside, is_lazy, with_lazy_line, ends_in_text, is_nothing}
 use Rattle.markdown_block_line.specs.LineBlocks.{container_of}
@@ -12,39 +12,39 @@ use Rattle.markdown_blocks.specs.BlockRows.{container_in}
 
 -- the line continues the container that stands so deep
 pub walk-step : (has_text : List Code → Bool) (n : ℕ) (t : Tree) (ps : List Written) (cs r : List Code) → take (length ps) (spine t) ≡ map container_of ps → n < length ps
-    → rest_inside (container_in n ps) (inside_at (suc n) t) cs ≡ Some r → at_depth n (read_line has_text cs) t ≡ at_depth (suc n) (read_line has_text r) t
+    → rest_inside (container_in n ps) (inside_at (suc n) t) cs ≡ Some r → at_depth n (read_line no_extensions has_text cs) t ≡ at_depth (suc n) (read_line no_extensions has_text r) t
 walk-step has_text n t [] cs r h k e = absurd (omega arith)
 walk-step has_text n nothing (p ∷ ps) cs r h k e = absurd (omega (arith, ap length h))
 walk-step has_text n (and_leaf b l) (p ∷ ps) cs r h k e = absurd (omega (arith, ap length h))
 walk-step has_text zero (and_container b c i) (p ∷ ps) cs r h k e =
     let q : c ≡ container_of p = cc in
     let x : rest_inside c i cs ≡ Some r = rw q e in
-    ap (with_rest_inside (λ rest. read_line has_text rest i) cs b c i) x
+    ap (with_rest_inside no_extensions (λ rest. read_line no_extensions has_text rest i) cs b c i) x
 walk-step has_text (suc n) (and_container b c i) (p ∷ ps) cs r h k e =
     ap (λ s. and_container b c s) (walk-step has_text n i ps cs r (cc) (omega arith) e)
 
 -- the line does not continue it
 pub walk-lazy : (has_text : List Code → Bool) (n : ℕ) (t : Tree) (ps : List Written) (cs : List Code) → take (length ps) (spine t) ≡ map container_of ps → n < length ps
-    → rest_inside (container_in n ps) (inside_at (suc n) t) cs ≡ None → is_lazy cs t ≡ true → at_depth n (read_line has_text cs) t ≡ with_lazy_line cs t
+    → rest_inside (container_in n ps) (inside_at (suc n) t) cs ≡ None → is_lazy no_extensions cs t ≡ true → at_depth n (read_line no_extensions has_text cs) t ≡ with_lazy_line cs t
 walk-lazy has_text n t [] cs h k e z = absurd (omega arith)
 walk-lazy has_text n nothing (p ∷ ps) cs h k e z = absurd (omega (arith, ap length h))
 walk-lazy has_text n (and_leaf b l) (p ∷ ps) cs h k e z = absurd (omega (arith, ap length h))
 walk-lazy has_text zero (and_container b c i) (p ∷ ps) cs h k e z =
     let q : c ≡ container_of p = cc in
     let x : rest_inside c i cs ≡ None = rw q e in
-    ap (with_rest_inside (λ rest. read_line has_text rest i) cs b c i) x ∙ ap (λ v. if v then and_container b c (with_lazy_line cs i) else with_line cs (and_container b c i)) z
+    ap (with_rest_inside no_extensions (λ rest. read_line no_extensions has_text rest i) cs b c i) x ∙ ap (λ v. if v then and_container b c (with_lazy_line cs i) else with_line no_extensions cs (and_container b c i)) z
 walk-lazy has_text (suc n) (and_container b c i) (p ∷ ps) cs h k e z =
     ap (λ s. and_container b c s) (walk-lazy has_text n i ps cs (cc) (omega arith) e z)
 
 pub walk-stand : (has_text : List Code → Bool) (n : ℕ) (t : Tree) (ps : List Written) (cs : List Code) → take (length ps) (spine t) ≡ map container_of ps → n < length ps
-    → rest_inside (container_in n ps) (inside_at (suc n) t) cs ≡ None → is_lazy cs t ≡ false → at_depth n (read_line has_text cs) t ≡ at_depth n (with_line cs) t
+    → rest_inside (container_in n ps) (inside_at (suc n) t) cs ≡ None → is_lazy no_extensions cs t ≡ false → at_depth n (read_line no_extensions has_text cs) t ≡ at_depth n (with_line no_extensions cs) t
 walk-stand has_text n t [] cs h k e z = absurd (omega arith)
 walk-stand has_text n nothing (p ∷ ps) cs h k e z = absurd (omega (arith, ap length h))
 walk-stand has_text n (and_leaf b l) (p ∷ ps) cs h k e z = absurd (omega (arith, ap length h))
 walk-stand has_text zero (and_container b c i) (p ∷ ps) cs h k e z =
     let q : c ≡ container_of p = cc in
     let x : rest_inside c i cs ≡ None = rw q e in
-    ap (with_rest_inside (λ rest. read_line has_text rest i) cs b c i) x ∙ ap (λ v. if v then and_container b c (with_lazy_line cs i) else with_line cs (and_container b c i)) z
+    ap (with_rest_inside no_extensions (λ rest. read_line no_extensions has_text rest i) cs b c i) x ∙ ap (λ v. if v then and_container b c (with_lazy_line cs i) else with_line no_extensions cs (and_container b c i)) z
 walk-stand has_text (suc n) (and_container b c i) (p ∷ ps) cs h k e z =
     ap (λ s. and_container b c s) (walk-stand has_text n i ps cs (cc) (omega arith) e z)
 

@@ -4,7 +4,7 @@ use Rattle.std.specs.Prelude.{nat_le, if◌then◌else◌}
 use Rattle.markdown_content.specs.Codes.{Code, is_blank}
 use Rattle.markdown_model.specs.CodeTests.{values_of, is_whitespace_code}
 use Rattle.markdown_block_model.specs.LineRests.{indent, trimmed, is_blank_line, skip, only_if}
-use Rattle.markdown_block_model.specs.BlockTree.{Container, quote, item, Tree}
+use Rattle.markdown_block_model.specs.BlockTree.{no_extensions, Container, quote, item, footnote, Tree}
 use Rattle.markdown_block_model.specs.DocumentBlocks.{read_line, rest_inside, rest_in_item, is_nothing}
 use Rattle.markdown_block_line.specs.LineBlocks.{container_of}
 use Rattle.markdown_block_line.specs.declared.containers.Container.{Container as Written}
@@ -21,6 +21,7 @@ use Rattle.markdown_blocks.proofs.ReaderTrees.{whole-front, nothing-outside}
 -- it continues an item that holds something, and is left as it is
 item-kept : (c : Container) (inside : Tree) (cs : List Code) → is_list_item c ≡ true → is_nothing inside ≡ false → IsBare cs → rest_inside c inside cs ≡ Some cs
 item-kept quote inside cs i n b = absurd (cc)
+item-kept (footnote label) inside cs i n b = absurd (cc)
 item-kept (item m columns) inside cs i n b =
     ap (λ v. if (v && is_blank_line cs) then None else rest_in_item (nat_le columns (indent cs)) columns cs) n
     ∙ by_bool (nat_le columns (indent cs))
@@ -30,7 +31,7 @@ item-kept (item m columns) inside cs i n b =
 
 pub items-row : (has_text : List Code → Bool) (m n : ℕ) (t : Tree) (ps : List Written) (cs : List Code) → take (length ps) (spine t) ≡ map container_of ps → n + m ≤ length ps
     → ((k : ℕ) → k < m → is_list_item (container_in (n + k) ps) ≡ true) → ((k : ℕ) → k < m → is_nothing (inside_at (suc (n + k)) t) ≡ false)
-    → IsBare cs → at_depth n (read_line has_text cs) t ≡ at_depth (n + m) (read_line has_text cs) t
+    → IsBare cs → at_depth n (read_line no_extensions has_text cs) t ≡ at_depth (n + m) (read_line no_extensions has_text cs) t
 items-row has_text zero n t ps cs h l i f b = let x : n + 0 ≡ n = omega arith in rw x refl
 items-row has_text (suc m) n t ps cs h l i f b =
     let a : n + m < length ps = omega arith in
@@ -75,7 +76,7 @@ item-in (p ∷ ps) (suc k) h e = item-in ps k (omega arith) e
 
 -- a bare line continues the last row but its last item at once
 pub leap : (has_text : List Code → Bool) (bytes : List ℕ) (r : Reader) (cs : List Code) (n row : ℕ) → IsBetween bytes r → IsBare cs → EndsWithItems row r.path → n < depth r → depth r ≤ n + row
-    → at_depth n (read_line has_text cs) (whole_tree bytes r) ≡ at_depth (depth r - 1) (read_line has_text cs) (whole_tree bytes r)
+    → at_depth n (read_line no_extensions has_text cs) (whole_tree bytes r) ≡ at_depth (depth r - 1) (read_line no_extensions has_text cs) (whole_tree bytes r)
 leap has_text bytes r cs n row h q e l m =
     let x : n + (depth r - 1 - n) ≡ depth r - 1 = omega arith in
     rw (← x) (items-row has_text (depth r - 1 - n) n (whole_tree bytes r) r.path cs (whole-front bytes r h) (omega arith)

@@ -3,7 +3,7 @@ use Rattle.std.proofs.Common.{◌≡◌, ℕ, ◌≤◌, refl, ap, ◌∙◌, sy
 use Rattle.std.specs.Prelude.{is_some}
 use Rattle.markdown_content.specs.Codes.{Code}
 use Rattle.markdown_block_model.specs.LineRests.{is_blank_line}
-use Rattle.markdown_block_model.specs.BlockTree.{Tree, and_leaf, Leaf, blank, thematic_break, heading, underlined, paragraph, indented_code, fenced_code, html}
+use Rattle.markdown_block_model.specs.BlockTree.{no_extensions, Tree, and_leaf, Leaf, blank, thematic_break, heading, underlined, paragraph, indented_code, fenced_code, html, table, front_matter}
 use Rattle.markdown_block_model.specs.BlockStarts.{begun}
 use Rattle.markdown_block_model.specs.DocumentBlocks.{is_lazy, ends_in_text, with_lazy_line}
 use Rattle.markdown_blocks.specs.TreeDepth.{spine, inside_at, at_depth}
@@ -23,6 +23,8 @@ ends-leaf s (paragraph t) = refl
 ends-leaf s (indented_code ls) = refl
 ends-leaf s (fenced_code f i ls e) = refl
 ends-leaf s (html k t e) = refl
+ends-leaf s (table columns rows) = refl
+ends-leaf s (front_matter ls) = refl
 
 lazy-leaf : (cs : List Code) (s : Tree) (l : Leaf) → with_lazy_line cs (and_leaf s l) ≡ and_leaf s (lazy_leaf cs l)
 lazy-leaf cs s blank = refl
@@ -33,6 +35,8 @@ lazy-leaf cs s (paragraph t) = refl
 lazy-leaf cs s (indented_code ls) = refl
 lazy-leaf cs s (fenced_code f i ls e) = refl
 lazy-leaf cs s (html k t e) = refl
+lazy-leaf cs s (table columns rows) = refl
+lazy-leaf cs s (front_matter ls) = refl
 
 ends-none : (bytes : List ℕ) (r : Reader) → IsBetween bytes r → r.open ≡ None → ends_in_text (whole_tree bytes r) ≡ false
 ends-none bytes r h o = rw o (ends-deep (depth r) (closed_tree bytes r) (closed-le bytes r h.is_front) ∙ ap ends_in_text (h.empty o))
@@ -42,17 +46,17 @@ ends-some bytes r l h o =
     ends-deep (depth r) (whole_tree bytes r) (whole-le bytes r h)
     ∙ rw o (ap ends_in_text (inside-at_depth (depth r) (λ s. and_leaf s (leaf_of bytes l)) (closed_tree bytes r) (closed-le bytes r h.is_front)) ∙ ends-leaf (inside_at (depth r) (closed_tree bytes r)) (leaf_of bytes l))
 
-lazy-by : (bytes : List ℕ) (r : Reader) (cs : List Code) (b : Bool) → ends_in_text (whole_tree bytes r) ≡ b → is_lazy cs (whole_tree bytes r) ≡ (b && not (is_blank_line cs || is_some (begun false true cs)))
-lazy-by bytes r cs b h = ap (λ v. v && not (is_blank_line cs || is_some (begun false true cs))) h
+lazy-by : (bytes : List ℕ) (r : Reader) (cs : List Code) (b : Bool) → ends_in_text (whole_tree bytes r) ≡ b → is_lazy no_extensions cs (whole_tree bytes r) ≡ (b && not (is_blank_line cs || is_some (begun no_extensions false true cs)))
+lazy-by bytes r cs b h = ap (λ v. v && not (is_blank_line cs || is_some (begun no_extensions false true cs))) h
 
 pub lazy-where-text : (bytes : List ℕ) (r : Reader) (l : Written) (cs : List Code) → IsBetween bytes r → r.open ≡ Some l → is_text (leaf_of bytes l) ≡ true
-    → not (is_blank_line cs || is_some (begun false true cs)) ≡ is_lazy cs (whole_tree bytes r)
+    → not (is_blank_line cs || is_some (begun no_extensions false true cs)) ≡ is_lazy no_extensions cs (whole_tree bytes r)
 lazy-where-text bytes r l cs h o t = sym (lazy-by bytes r cs true (ends-some bytes r l h o ∙ t))
 
-pub not-lazy-where-other : (bytes : List ℕ) (r : Reader) (l : Written) (cs : List Code) → IsBetween bytes r → r.open ≡ Some l → is_text (leaf_of bytes l) ≡ false → false ≡ is_lazy cs (whole_tree bytes r)
+pub not-lazy-where-other : (bytes : List ℕ) (r : Reader) (l : Written) (cs : List Code) → IsBetween bytes r → r.open ≡ Some l → is_text (leaf_of bytes l) ≡ false → false ≡ is_lazy no_extensions cs (whole_tree bytes r)
 not-lazy-where-other bytes r l cs h o t = sym (lazy-by bytes r cs false (ends-some bytes r l h o ∙ t))
 
-pub not-lazy-where-none : (bytes : List ℕ) (r : Reader) (cs : List Code) → IsBetween bytes r → r.open ≡ None → false ≡ is_lazy cs (whole_tree bytes r)
+pub not-lazy-where-none : (bytes : List ℕ) (r : Reader) (cs : List Code) → IsBetween bytes r → r.open ≡ None → false ≡ is_lazy no_extensions cs (whole_tree bytes r)
 not-lazy-where-none bytes r cs h o = sym (lazy-by bytes r cs false (ends-none bytes r h o))
 
 pub joined-none : (bytes : List ℕ) (r : Reader) (cs : List Code) → IsBetween bytes r → r.open ≡ None → closed_tree bytes r ≡ with_lazy_line cs (whole_tree bytes r)
@@ -70,10 +74,18 @@ joined-some bytes r l m cs h o e =
     (lazy-leaf cs (inside_at (depth r) (closed_tree bytes r)) (leaf_of bytes l) ∙ ap (λ x. and_leaf (inside_at (depth r) (closed_tree bytes r)) x) (sym e))))
 
 -- such a line is not blank
-pub lazy-filled : (cs : List Code) (t : Tree) → is_lazy cs t ≡ true → is_blank_line cs ≡ false
-lazy-filled cs t h = by_tests (ends_in_text t) (is_blank_line cs) (is_some (begun false true cs)) h
+pub lazy-filled : (cs : List Code) (t : Tree) → is_lazy no_extensions cs t ≡ true → is_blank_line cs ≡ false
+lazy-filled cs t h = by_tests (ends_in_text t) (is_blank_line cs) (is_some (begun no_extensions false true cs)) h
   where
     by_tests : (a b d : Bool) → (a && not (b || d)) ≡ true → b ≡ false
     by_tests true true d h = sym h
     by_tests true false d h = refl
     by_tests false b d h = absurd (cc)
+
+-- and goes on with a paragraph
+pub lazy-text : (bytes : List ℕ) (r : Reader) (l : Written) (cs : List Code) → IsBetween bytes r → r.open ≡ Some l → is_lazy no_extensions cs (whole_tree bytes r) ≡ true → is_text (leaf_of bytes l) ≡ true
+lazy-text bytes r l cs h o e = sym (ends-some bytes r l h o) ∙ by_tests (ends_in_text (whole_tree bytes r)) (not (is_blank_line cs || is_some (begun no_extensions false true cs))) e
+  where
+    by_tests : (a b : Bool) → (a && b) ≡ true → a ≡ true
+    by_tests true b k = refl
+    by_tests false b k = k

@@ -1,5 +1,6 @@
 -- The proofs of this crate.
 pub mod BeginLines
+pub mod CodePieceLemmas
 pub mod ContainerWalks
 pub mod DepthLemmas
 pub mod DocumentTrees
@@ -16,3 +17,4 @@ pub mod ReaderCounts
 pub mod ReaderTrees
 pub mod TextEndLemmas
 pub mod TextPieces
+pub mod TextStartLemmas

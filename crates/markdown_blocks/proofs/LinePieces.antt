@@ -22,8 +22,8 @@ use Rattle.markdown_block_line.proofs.BreakPlaces.{breaks-behind}
 use Rattle.markdown_block_line.proofs.RestValues.{values-drop, values-length}
 use Rattle.markdown_block_line.specs.LineBreaks.{IsBreakLens}
 use Rattle.markdown_blocks.specs.LineRest.{IsRest}
-use Rattle.markdown_blocks.specs.TextRows.{is_outer, begins_ascii, ArePlaced, IsLineEnd}
-use Rattle.markdown_blocks.proofs.PlacedPieces.{IsPieceOf, placed, line-end}
+use Rattle.markdown_blocks.specs.TextRows.{is_outer, begins_ascii, AreLinePieces, ArePlaced, IsLineRest, IsLineEnd}
+use Rattle.markdown_blocks.proofs.PlacedPieces.{IsPieceOf, placed, inside-line, line-rest}
 
 -- the codes from a place on that stands behind so many
 after-past : (bytes : List ℕ) (start p : Point) (k : ℕ) → IsPoint bytes start → IsPoint bytes p → p ≡ stop_of start (take k (codes_after bytes (place_of start)))
@@ -143,22 +143,45 @@ piece-placed bytes start p q values breaks at from len h l g e k f o b w =
     (ap (lines_begin true) (piece-is bytes start p q values breaks at from len h l g e f) ∙ w)
     (ap is_line (piece-is bytes start p q values breaks at from len h l g e f) ∙ take-line len (drop from (drop at line)) (drop-line from (drop at line) (rest-is-line bytes start at)))
 
-pub piece-line : (bytes : List ℕ) (start p q : Point) (values : List ℕ) (breaks : BreakLens) (at from len : ℕ) → IsRest bytes start values breaks at → at + from + len ≤ length values
+pub piece-inside : (bytes : List ℕ) (start p q : Point) (values : List ℕ) (breaks : BreakLens) (at from len : ℕ) → IsRest bytes start values breaks at → at + from + len ≤ length values
     → IsPoint bytes p → p ≡ stop_of start (take (at + from) (codes_after bytes (place_of start))) → IsPoint bytes q → q ≡ stop_of p (take len (codes_after bytes (place_of p)))
-    → list_all is_outer (take from (drop at (line_from bytes start))) ≡ true → from + len ≡ length (drop at (line_from bytes start)) → 0 < len
-    → lines_begin true (drop from (drop at (line_from bytes start))) ≡ true
-    → IsLineEnd bytes start (record { start = place_of p; end = place_of q })
-piece-line bytes start p q values breaks at from len h l g e k f o m some w =
+    → list_all is_outer (take from (drop at (line_from bytes start))) ≡ true → begins_ascii (drop (from + len) (drop at (line_from bytes start))) ≡ true
+    → AreLinePieces bytes (record { start = place_of p; end = place_of q } ∷ [])
+piece-inside bytes start p q values breaks at from len h l g e k f o b =
+    let line : List Code = line_from bytes start in
+    let sum : at + from + len ≡ at + (from + len) = omega arith in
+    let same : drop len (drop (at + from) line) ≡ drop (from + len) (drop at line) = drop-drop len (at + from) line ∙ ap (λ n. drop n line) sum ∙ sym (drop-drop (from + len) at line) in
+    inside-line bytes start p q _ _ _ h.begins.rest (piece-split bytes start p q values breaks at from len h l g e k f o) (ap begins_ascii same ∙ b)
+    (ap is_line (piece-is bytes start p q values breaks at from len h l g e f) ∙ take-line len (drop from (drop at line)) (drop-line from (drop at line) (rest-is-line bytes start at)))
+
+pub piece-rest : (bytes : List ℕ) (start p q : Point) (values : List ℕ) (breaks : BreakLens) (at from len : ℕ) → IsRest bytes start values breaks at → at + from + len ≤ length values
+    → IsPoint bytes p → p ≡ stop_of start (take (at + from) (codes_after bytes (place_of start))) → IsPoint bytes q → q ≡ stop_of p (take len (codes_after bytes (place_of p)))
+    → list_all is_outer (take from (drop at (line_from bytes start))) ≡ true → from + len ≡ length (drop at (line_from bytes start))
+    → IsLineRest bytes start (record { start = place_of p; end = place_of q })
+piece-rest bytes start p q values breaks at from len h l g e k f o m =
     let line : List Code = line_from bytes start in
     let n : length values ≡ length line = sym (ap length h.same) ∙ values-length line in
     let left : length (drop (at + from) line) ≡ len = omega (arith, m, n, l, length-drop at line, length-drop (at + from) line) in
-    let all : take len (drop (at + from) line) ≡ drop (at + from) line = take-whole len (drop (at + from) line) (omega (arith, left)) in
-    line-end bytes start p q _ _ _ h.begins.rest (piece-split bytes start p q values breaks at from len h l g e k f o)
+    line-rest bytes start p q _ _ _ h.begins.rest (piece-split bytes start p q values breaks at from len h l g e k f o)
     (drop_all len (drop (at + from) line) (omega (arith, left)))
-    (omega (arith, ap length all, left, some))
+    h.filled
     (piece-is bytes start p q values breaks at from len h l g e f ∙ ap (take len) (drop-drop from at line))
-    (ap (lines_begin true) (all ∙ sym (drop-drop from at line)) ∙ w)
     (take-line len (drop (at + from) line) (rest-is-line bytes start (at + from)))
+
+pub piece-line : (bytes : List ℕ) (start p q : Point) (values : List ℕ) (breaks : BreakLens) (at from len : ℕ) → IsRest bytes start values breaks at → at + from + len ≤ length values
+    → IsPoint bytes p → p ≡ stop_of start (take (at + from) (codes_after bytes (place_of start))) → IsPoint bytes q → q ≡ stop_of p (take len (codes_after bytes (place_of p)))
+    → list_all is_outer (take from (drop at (line_from bytes start))) ≡ true → from + len ≡ length (drop at (line_from bytes start))
+    → lines_begin true (drop from (drop at (line_from bytes start))) ≡ true
+    → IsLineEnd bytes start (record { start = place_of p; end = place_of q })
+piece-line bytes start p q values breaks at from len h l g e k f o m w =
+    let line : List Code = line_from bytes start in
+    let n : length values ≡ length line = sym (ap length h.same) ∙ values-length line in
+    let left : length (drop from (drop at line)) ≡ len = omega (arith, m, n, l, length-drop at line, length-drop from (drop at line)) in
+    let all : take len (drop from (drop at line)) ≡ drop from (drop at line) = take-whole len (drop from (drop at line)) (omega (arith, left)) in
+    record {
+      rest = piece-rest bytes start p q values breaks at from len h l g e k f o m;
+      lines = ap (lines_begin true) (piece-is bytes start p q values breaks at from len h l g e f ∙ all) ∙ w;
+    }
   where
     take-whole : (j : ℕ) (xs : List Code) → length xs ≤ j → take j xs ≡ xs
     take-whole zero [] w = refl

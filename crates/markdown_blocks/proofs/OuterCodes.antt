@@ -10,13 +10,13 @@ use Rattle.markdown_content.specs.Codes.{Code, is_blank, is_line_ending}
 use Rattle.markdown_model.specs.CodeTests.{is_value, is_between, next_is, is_digit, is_whitespace_code}
 use Rattle.markdown_model.specs.Grammar.{span}
 use Rattle.markdown_block_model.specs.LineRests.{indent, trimmed, is_blank_line, past_blank, skip, is_gap, count_first, first_value, onto_end, without_end, trimmed_end, only_if}
-use Rattle.markdown_block_model.specs.BlockTree.{Marker, bullet, ordered, Container, quote, item, Leaf, blank, thematic_break, heading, underlined, paragraph, indented_code, fenced_code, html, Tree}
-use Rattle.markdown_block_model.specs.LeafStarts.{is_break, ends_blank, heading_text, may_be_info}
+use Rattle.markdown_block_model.specs.BlockTree.{no_extensions, Marker, bullet, ordered, Container, quote, item, footnote, Fence, Leaf, blank, thematic_break, heading, underlined, paragraph, indented_code, fenced_code, html, table, front_matter, Tree}
+use Rattle.markdown_block_model.specs.LeafStarts.{fence_least, is_break, ends_blank, heading_text, may_be_info, is_closing}
 use Rattle.markdown_block_model.specs.HtmlStarts.{html_kind, ends_html}
 use Rattle.markdown_block_model.specs.ContainerStarts.{behind_quote, in_quote, quote_at, number_from, bullet_at, ordered_of, ordered_at, or_else, marker_at, padding, may_begin, item_by, item_at}
 use Rattle.markdown_block_model.specs.BlockStarts.{Begun, leaf_begins, container_begins, leaf_begun, container_begun, first_of, begun}
-use Rattle.markdown_block_model.specs.DocumentBlocks.{is_further_blank, rest_in_item, rest_inside}
-use Rattle.markdown_block_line.specs.LineStarts.{heading_start}
+use Rattle.markdown_block_model.specs.DocumentBlocks.{is_further_blank, rest_in_item, rest_inside, with_fenced_line, with_indented_line, with_next}
+use Rattle.markdown_block_line.specs.LineStarts.{heading_start, fence_start}
 use Rattle.markdown_blocks.specs.TextRows.{is_outer, begins_ascii}
 
 -- what is left stands behind codes that may stand outside
@@ -189,6 +189,7 @@ inside-item false columns cs = by_test (is_blank_line cs)
 
 inside-behind : (c : Container) (inside : Tree) (cs : List Code) → RestOuter cs (rest_inside c inside cs)
 inside-behind quote inside cs = quote-behind cs
+inside-behind (footnote label) inside cs = inside-item (nat_le 4 (indent cs)) 4 cs
 inside-behind (item m columns) inside cs = by_test (is_further_blank inside cs)
   where
     by_test : (b : Bool) → RestOuter cs (if b then None else rest_in_item (nat_le columns (indent cs)) columns cs)
@@ -260,7 +261,16 @@ span-drop p (c ∷ cs) = by_test (p c) (span-drop p cs)
     by_test true h = h
     by_test false h = refl
 
--- What begins: the rest inside a container, and the text of a heading.
+-- What begins: the rest inside a container, the text of a heading, the info string of fenced code, and a line of indented code.
+
+-- the value of a fence may stand outside, and behind an info string stand codes that are ASCII
+record IsFenceLine (cs info : List Code) : Type 0 where
+  value : (nat_lt (first_value (trimmed cs)) 128 && not (first_value (trimmed cs) == 10)) ≡ true
+  text : IsBefore (trimmed (drop (count_first (first_value (trimmed cs)) (trimmed cs)) (trimmed cs))) info
+
+abbrev FirstBehind : List Code → List (List Code) → Type 0
+FirstBehind cs [] = Unit {0}
+FirstBehind cs (l ∷ ls) = IsBehind cs l
 
 abbrev BegunOuter : List Code → Option Begun → Type 0
 BegunOuter cs None = Unit {0}
@@ -270,9 +280,11 @@ BegunOuter cs (Some (leaf_begins blank)) = Unit {0}
 BegunOuter cs (Some (leaf_begins thematic_break)) = Unit {0}
 BegunOuter cs (Some (leaf_begins (underlined n text))) = Unit {0}
 BegunOuter cs (Some (leaf_begins (paragraph text))) = Unit {0}
-BegunOuter cs (Some (leaf_begins (indented_code ls))) = Unit {0}
-BegunOuter cs (Some (leaf_begins (fenced_code f info ls ended))) = Unit {0}
+BegunOuter cs (Some (leaf_begins (indented_code ls))) = FirstBehind cs ls
+BegunOuter cs (Some (leaf_begins (fenced_code f info ls ended))) = IsFenceLine cs info
 BegunOuter cs (Some (leaf_begins (html k text ended))) = Unit {0}
+BegunOuter cs (Some (leaf_begins (table columns rows))) = Unit {0}
+BegunOuter cs (Some (leaf_begins (front_matter ls))) = Unit {0}
 
 of-container : (t cs : List Code) (o : Option (Container × List Code)) → IsBehind cs t → InsideOuter t o → BegunOuter cs (container_begun o)
 of-container t cs None p h = tt
@@ -294,11 +306,14 @@ heading-begun : (cs : List Code) (b : Bool) (n : ℕ) (text : List Code) → IsB
 heading-begun cs true n text h = h
 heading-begun cs false n text h = tt
 
-fence-begun : (cs : List Code) (b : Bool) (l : Leaf) → BegunOuter cs (Some (leaf_begins l)) → BegunOuter cs (leaf_begun (only_if b l))
-fence-begun cs true l h = h
-fence-begun cs false l h = tt
+leaf-begun : (cs : List Code) (b : Bool) (l : Leaf) → (b ≡ true → BegunOuter cs (Some (leaf_begins l))) → BegunOuter cs (leaf_begun (only_if b l))
+leaf-begun cs true l h = h refl
+leaf-begun cs false l h = tt
 
-begun-has : (in_paragraph after_text : Bool) (cs : List Code) → BegunOuter cs (begun in_paragraph after_text cs)
+fence-number : (n : ℕ) (b : Bool) → (n == 126 || ((n == 96 || false) && b)) ≡ true → (nat_lt n 128 && not (n == 10)) ≡ true
+fence-number n b h = grind (arith, nat_tests)
+
+begun-has : (in_paragraph after_text : Bool) (cs : List Code) → BegunOuter cs (begun no_extensions in_paragraph after_text cs)
 begun-has in_paragraph after_text cs =
     let t = trimmed cs in
     let n = count_first (byte "#") t in
@@ -307,11 +322,16 @@ begun-has in_paragraph after_text cs =
     of-either cs (nat_lt (indent cs) 4) _ _
     (of-first cs _ _ (of-container cs cs (quote_at cs) (behind-none cs) (in-quote cs (behind_quote cs) (quote-behind cs)))
     (of-first cs _ _ (heading-begun cs (is_between 1 6 n && is_gap (drop n t)) n (heading_text (trimmed_end (trimmed (drop n t)))) (text-before (trimmed (drop n t))))
-    (of-first cs _ _ (fence-begun cs (nat_le 3 (count_first v t) && may_be_info v (drop (count_first v t) t)) (fenced_code (record { value = v; count = count_first v t; columns = indent cs }) (trimmed_end (trimmed (drop (count_first v t) t))) [] false) tt)
-    (of-first cs _ _ (fence-begun cs (not (k == 0 || (k == 7 && after_text))) (html k cs (ends_html k cs)) tt)
-    (of-first cs _ _ (fence-begun cs (is_break t) thematic_break tt)
-    (of-first cs _ [] (of-container t cs (item_at in_paragraph (indent cs) t) (trimmed-behind cs) (item-behind in_paragraph (indent cs) t (marker_at t) (marker-behind t (bullet_at t) (ordered_at t) (bullet-behind t) (ordered-behind t)))) tt))))))
-    (of-either cs (after_text || is_blank_line cs) None (Some (leaf_begins (indented_code (skip 4 cs ∷ [])))) tt tt)
+    (of-first cs _ _ (leaf-begun cs (nat_le (fence_least v) (count_first v t) && may_be_info no_extensions v (drop (count_first v t) t)) (fenced_code (record { value = v; count = count_first v t; columns = indent cs }) (trimmed_end (trimmed (drop (count_first v t) t))) [] false)
+    (λ e. record {
+      value = fence-number v _ (second-true (nat_le (fence_least v) (count_first v t)) (may_be_info no_extensions v (drop (count_first v t) t)) e);
+      text = trimmed-before (trimmed (drop (count_first v t) t));
+    }))
+    (of-first cs _ _ (leaf-begun cs (not (k == 0 || (k == 7 && after_text))) (html k cs (ends_html k cs)) (λ e. tt))
+    (of-first cs _ _ (leaf-begun cs (is_break t) thematic_break (λ e. tt))
+    (of-first cs None (container_begun (item_at in_paragraph (indent cs) t) ∷ []) tt
+    (of-first cs _ [] (of-container t cs (item_at in_paragraph (indent cs) t) (trimmed-behind cs) (item-behind in_paragraph (indent cs) t (marker_at t) (marker-behind t (bullet_at t) (ordered_at t) (bullet-behind t) (ordered-behind t)))) tt)))))))
+    (of-either cs (after_text || is_blank_line cs) None (Some (leaf_begins (indented_code (skip 4 cs ∷ [])))) tt (skip-behind 4 cs))
 
 -- Counted.
 
@@ -336,8 +356,8 @@ pub outside-continued : (c : Container) (inside : Tree) (cs : List Code) (k : �
 outside-continued c inside cs k l e = outer-taken cs (drop k cs) k l refl (some-same (RestOuter cs) (rest_inside c inside cs) (Some (drop k cs)) e (inside-behind c inside cs))
 
 -- and of one that begins
-pub outside-begun : (p a : Bool) (c : Container) (cs : List Code) (k : ℕ) → k ≤ length cs → begun p a cs ≡ Some (container_begins c (drop k cs)) → list_all is_outer (take k cs) ≡ true
-outside-begun p a c cs k l e = outer-taken cs (drop k cs) k l refl (some-same (BegunOuter cs) (begun p a cs) (Some (container_begins c (drop k cs))) e (begun-has p a cs))
+pub outside-begun : (p a : Bool) (c : Container) (cs : List Code) (k : ℕ) → k ≤ length cs → begun no_extensions p a cs ≡ Some (container_begins c (drop k cs)) → list_all is_outer (take k cs) ≡ true
+outside-begun p a c cs k l e = outer-taken cs (drop k cs) k l refl (some-same (BegunOuter cs) (begun no_extensions p a cs) (Some (container_begins c (drop k cs))) e (begun-has p a cs))
 
 indent-behind : (cs : List Code) → IsBehind cs (drop (indent cs) cs)
 indent-behind cs = subst (λ r. IsBehind cs r) (span-drop is_blank cs) (trimmed-behind cs)
@@ -345,23 +365,60 @@ indent-behind cs = subst (λ r. IsBehind cs r) (span-drop is_blank cs) (trimmed-
 pub outside-trimmed : (cs : List Code) → indent cs ≤ length cs → list_all is_outer (take (indent cs) cs) ≡ true
 outside-trimmed cs l = outer-taken cs (drop (indent cs) cs) (indent cs) l refl (indent-behind cs)
 
-heading-rest : (cs : List Code) → drop (indent cs + heading_start (trimmed cs)) cs ≡ trimmed (drop (count_first (byte "#") (trimmed cs)) (trimmed cs))
-heading-rest cs =
+-- behind a row of one value, and blanks
+row-rest : (v : ℕ) (cs : List Code)
+    → drop (indent cs + (count_first v (trimmed cs) + indent (drop (count_first v (trimmed cs)) (trimmed cs)))) cs ≡ trimmed (drop (count_first v (trimmed cs)) (trimmed cs))
+row-rest v cs =
     let t = trimmed cs in
-    let n = count_first (byte "#") t in
-    sym (drop-drop (heading_start t) (indent cs) cs ∙ ap (λ k. drop k cs) (omega arith))
-    ∙ ap (drop (heading_start t)) (sym (span-drop is_blank cs))
+    let n = count_first v t in
+    let m = n + indent (drop n t) in
+    sym (drop-drop m (indent cs) cs ∙ ap (λ k. drop k cs) (omega arith))
+    ∙ ap (drop m) (sym (span-drop is_blank cs))
     ∙ sym (drop-drop (indent (drop n t)) n t ∙ ap (λ k. drop k t) (omega arith))
     ∙ sym (span-drop is_blank (drop n t))
 
+outside-row : (v : ℕ) (cs : List Code) (k : ℕ) → (nat_lt v 128 && not (v == 10)) ≡ true → k ≤ length cs
+    → k ≡ indent cs + (count_first v (trimmed cs) + indent (drop (count_first v (trimmed cs)) (trimmed cs))) → list_all is_outer (take k cs) ≡ true
+outside-row v cs k o l e =
+    let t = trimmed cs in
+    let n = count_first v t in
+    let row : IsBehind t (drop n t) = subst (λ r. IsBehind t r) (span-drop (is_value v) t) (behind-span (is_value v) (λ c h. same-number c.value v h o) t) in
+    outer-taken cs (trimmed (drop n t)) k l (sym (ap (λ j. drop j cs) e ∙ row-rest v cs))
+    (behind-more cs t (trimmed (drop n t)) (trimmed-behind cs) (behind-more t (drop n t) (trimmed (drop n t)) row (trimmed-behind (drop n t))))
+
 -- before the text of a heading
 pub outside-heading : (cs : List Code) (k : ℕ) → k ≤ length cs → k ≡ indent cs + heading_start (trimmed cs) → list_all is_outer (take k cs) ≡ true
-outside-heading cs k l e =
-    let t = trimmed cs in
-    let n = count_first (byte "#") t in
-    let signs : IsBehind t (drop n t) = subst (λ r. IsBehind t r) (span-drop (is_value (byte "#")) t) (behind-span (is_value (byte "#")) (λ c h. same-number c.value 35 h refl) t) in
-    outer-taken cs (trimmed (drop n t)) k l (sym (ap (λ j. drop j cs) e ∙ heading-rest cs))
-    (behind-more cs t (trimmed (drop n t)) (trimmed-behind cs) (behind-more t (drop n t) (trimmed (drop n t)) signs (trimmed-behind (drop n t))))
+outside-heading cs k l e = outside-row 35 cs k refl l e
+
+-- before an info string
+fence-line : (p a : Bool) (cs : List Code) (f : Fence) (info : List Code) → begun no_extensions p a cs ≡ Some (leaf_begins (fenced_code f info [] false)) → IsFenceLine cs info
+fence-line p a cs f info b = some-same (BegunOuter cs) (begun no_extensions p a cs) (Some (leaf_begins (fenced_code f info [] false))) b (begun-has p a cs)
+
+pub outside-info : (p a : Bool) (cs : List Code) (f : Fence) (info : List Code) (k : ℕ) → k ≤ length cs → k ≡ indent cs + fence_start (trimmed cs)
+    → begun no_extensions p a cs ≡ Some (leaf_begins (fenced_code f info [] false)) → list_all is_outer (take k cs) ≡ true
+outside-info p a cs f info k l e b = outside-row (first_value (trimmed cs)) cs k (fence-line p a cs f info b).value l e
+
+-- before a line of code
+pub outside-indented : (p a : Bool) (cs : List Code) → 4 ≤ length cs → begun no_extensions p a cs ≡ Some (leaf_begins (indented_code (drop 4 cs ∷ []))) → list_all is_outer (take 4 cs) ≡ true
+outside-indented p a cs l b = outer-taken cs (drop 4 cs) 4 l refl (some-same (BegunOuter cs) (begun no_extensions p a cs) (Some (leaf_begins (indented_code (drop 4 cs ∷ [])))) b (begun-has p a cs))
+
+pub outside-fenced : (f : Fence) (cs : List Code) (k : ℕ) → k ≤ length cs → with_next no_extensions (fenced_code f [] [] false) cs ≡ Some (fenced_code f [] (drop k cs ∷ []) false) → list_all is_outer (take k cs) ≡ true
+outside-fenced f cs k l e = by_case (is_closing f cs) e
+  where
+    by_case : (b : Bool) → ◌≡◌ {A = Option Leaf} (Some (with_fenced_line b f [] [] cs)) (Some (fenced_code f [] (drop k cs ∷ []) false)) → list_all is_outer (take k cs) ≡ true
+    by_case true h = absurd (cc)
+    by_case false h = outer-taken cs (skip f.columns cs) k l (cc) (skip-behind f.columns cs)
+
+pub outside-further : (cs : List Code) (k : ℕ) → k ≤ length cs → with_next no_extensions (indented_code []) cs ≡ Some (indented_code (drop k cs ∷ [])) → list_all is_outer (take k cs) ≡ true
+outside-further cs k l e = by_case (nat_le 4 (indent cs)) e
+  where
+    by_blank : (b : Bool) → ◌≡◌ {A = Option Leaf} (only_if b (indented_code (trimmed cs ∷ []))) (Some (indented_code (drop k cs ∷ []))) → list_all is_outer (take k cs) ≡ true
+    by_blank true h = outer-taken cs (trimmed cs) k l (cc) (trimmed-behind cs)
+    by_blank false h = absurd (cc)
+
+    by_case : (b : Bool) → ◌≡◌ {A = Option Leaf} (with_indented_line b [] cs) (Some (indented_code (drop k cs ∷ []))) → list_all is_outer (take k cs) ≡ true
+    by_case true h = outer-taken cs (skip 4 cs) k l (cc) (skip-behind 4 cs)
+    by_case false h = by_blank (is_blank_line cs) h
 
 first-ascii : (cs : List Code) → list_all is_ascii cs ≡ true → begins_ascii cs ≡ true
 first-ascii [] h = refl
@@ -371,21 +428,28 @@ first-ascii (c ∷ cs) h = by_test (is_ascii c) h
     by_test true k = refl
     by_test false k = k
 
--- behind it
-pub behind-heading : (p a : Bool) (cs : List Code) (n k len : ℕ) → k + len ≤ length cs → k ≡ indent cs + heading_start (trimmed cs) → begun p a cs ≡ Some (leaf_begins (heading n (take len (drop k cs))))
-    → begins_ascii (drop (k + len) cs) ≡ true
-behind-heading p a cs n k len l e b =
-    let u : List Code = trimmed (drop (count_first (byte "#") (trimmed cs)) (trimmed cs)) in
-    let same : drop k cs ≡ u = ap (λ j. drop j cs) e ∙ heading-rest cs in
-    let before : IsBefore u (take len (drop k cs)) = some-same (BegunOuter cs) (begun p a cs) (Some (leaf_begins (heading n (take len (drop k cs))))) b (begun-has p a cs) in
+length-taken : (j : ℕ) (xs : List Code) → j ≤ length xs → length (take j xs) ≡ j
+length-taken zero xs h = refl
+length-taken (suc j) [] h = absurd (omega arith)
+length-taken (suc j) (x ∷ xs) h = ap suc (length-taken j xs (omega arith))
+
+behind-row : (v : ℕ) (cs : List Code) (k len : ℕ) → k + len ≤ length cs → k ≡ indent cs + (count_first v (trimmed cs) + indent (drop (count_first v (trimmed cs)) (trimmed cs)))
+    → IsBefore (trimmed (drop (count_first v (trimmed cs)) (trimmed cs))) (take len (drop k cs)) → begins_ascii (drop (k + len) cs) ≡ true
+behind-row v cs k len l e before =
+    let same : drop k cs ≡ trimmed (drop (count_first v (trimmed cs)) (trimmed cs)) = ap (λ j. drop j cs) e ∙ row-rest v cs in
     let m : length (take len (drop k cs)) ≡ len = length-taken len (drop k cs) (omega (arith, l, length-drop k cs)) in
     ap begins_ascii (sym (drop-drop len k cs) ∙ ap (drop len) same ∙ ap (drop len) (sym before.whole) ∙ ap (λ j. drop j (take len (drop k cs) ++ before.back)) (sym m) ∙ drop-front (take len (drop k cs)) before.back)
     ∙ first-ascii before.back before.ascii
-  where
-    length-taken : (j : ℕ) (xs : List Code) → j ≤ length xs → length (take j xs) ≡ j
-    length-taken zero xs h = refl
-    length-taken (suc j) [] h = absurd (omega arith)
-    length-taken (suc j) (x ∷ xs) h = ap suc (length-taken j xs (omega arith))
+
+-- behind them
+pub behind-heading : (p a : Bool) (cs : List Code) (n k len : ℕ) → k + len ≤ length cs → k ≡ indent cs + heading_start (trimmed cs) → begun no_extensions p a cs ≡ Some (leaf_begins (heading n (take len (drop k cs))))
+    → begins_ascii (drop (k + len) cs) ≡ true
+behind-heading p a cs n k len l e b =
+    behind-row 35 cs k len l e (some-same (BegunOuter cs) (begun no_extensions p a cs) (Some (leaf_begins (heading n (take len (drop k cs))))) b (begun-has p a cs))
+
+pub behind-info : (p a : Bool) (cs : List Code) (f : Fence) (k len : ℕ) → k + len ≤ length cs → k ≡ indent cs + fence_start (trimmed cs)
+    → begun no_extensions p a cs ≡ Some (leaf_begins (fenced_code f (take len (drop k cs)) [] false)) → begins_ascii (drop (k + len) cs) ≡ true
+behind-info p a cs f k len l e b = behind-row (first_value (trimmed cs)) cs k len l e (fence-line p a cs f (take len (drop k cs)) b).text
 
 -- a line that is not blank has more than its indent
 pub filled-indent : (cs : List Code) → is_blank_line cs ≡ false → indent cs < length cs

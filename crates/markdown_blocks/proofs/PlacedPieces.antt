@@ -24,7 +24,7 @@ use Rattle.markdown_block_model.specs.LineRests.{onto_line, lines_of}
 use Rattle.markdown_block_model.specs.TextStarts.{lines_begin, is_line}
 use Rattle.markdown_block_model.proofs.TextsAreContents.{joined-starts}
 use Rattle.markdown_block_line.specs.DocumentLines.{first_line, line_from, IsLine}
-use Rattle.markdown_blocks.specs.TextRows.{IsLinePiece, ArePlaced, StandsBetween, is_outer, begins_ascii, line_stop, IsLineEnd, EndAt}
+use Rattle.markdown_blocks.specs.TextRows.{IsLinePiece, ArePlaced, StandsBetween, is_outer, begins_ascii, line_stop, AreLinePieces, IsLineRest, IsLineEnd, EndAt, LinesEnd}
 
 -- Tests.
 
@@ -278,24 +278,39 @@ module _ (bytes : List ℕ) (start p q : Point) (front inside back more : List C
     between_characters = λ u. All-cons (IsBetweenCharacters bytes) here [] (first-between u, last-between k u) (All-nil (IsBetweenCharacters bytes));
   }
 
-  pub line-end : back ≡ [] → 0 < length inside → piece_codes (codes_of bytes) (record { start = place_of p; end = place_of q }) ≡ inside
-      → lines_begin true inside ≡ true → is_line inside ≡ true → IsLineEnd bytes start (record { start = place_of p; end = place_of q })
-  line-end e n codes w m = record {
+  pub inside-line : begins_ascii back ≡ true → IsLinePiece bytes (record { start = place_of p; end = place_of q }) → AreLinePieces bytes (record { start = place_of p; end = place_of q } ∷ [])
+  inside-line k m = record {
+    one_line_each = All-cons (IsLinePiece bytes) here [] m (All-nil (IsLinePiece bytes));
+    in_order = and-true (is_piece bytes here && true) true (and-true (is_piece bytes here) true is-piece refl) refl;
+    between_characters = λ u. All-cons (IsBetweenCharacters bytes) here [] (first-between u, last-between k u) (All-nil (IsBetweenCharacters bytes));
+  }
+
+  -- what stands before a piece has no line ending
+  no-end : (xs : List Code) → list_all is_outer xs ≡ true → ends_line xs ≡ true → ⊥
+  no-end [] h k = cc
+  no-end (c ∷ []) h k = different (is_line_ending c) k (and-second (nat_lt c.value 128) (not (is_line_ending c)) (and-first (is_outer c) true h))
+    where
+      different : (b : Bool) → b ≡ true → not b ≡ true → ⊥
+      different true e f = cc
+      different false e f = cc
+  no-end (c ∷ d ∷ ds) h k = no-end (d ∷ ds) (and-second (is_outer c) (list_all is_outer (d ∷ ds)) h) k
+
+  pub line-rest : back ≡ [] → start.index < length bytes → piece_codes (codes_of bytes) (record { start = place_of p; end = place_of q }) ≡ inside
+      → is_line inside ≡ true → IsLineRest bytes start (record { start = place_of p; end = place_of q })
+  line-rest e filled codes m = record {
     is_line = ap is_line codes ∙ m;
-    lines = ap (lines_begin true) codes ∙ w;
-    begins = start-within front inside n at_start;
+    begins = filled;
     is = is-piece;
     between_characters = λ u. (first-between u, last-between (ap begins_ascii e) u);
     after = at_or_after-is (place_of start) (place_of p) ∙ ap not (ap (λ (x : Point). is_before (place_of x) (place_of start)) h.p_is ∙ stop-later start front (inside ++ (back ++ more)) chain-start);
     one_line = ap (λ xs. not (list_any is_line_ending xs)) before ∙ ap not (no-endings front h.outer);
     end = ap place_of (last-is e);
-    ends = λ lt. ap ends_line codes ∙ ends-behind front inside n (by_more more refl lt);
+    ends = λ lt. ap ends_line codes ∙ behind inside (by_more more refl lt);
   }
     where
-      start-within : (xs ys : List Code) → 0 < length ys → codes_at bytes start ≡ xs ++ (ys ++ (back ++ more)) → start.index < length bytes
-      start-within [] [] k e = absurd (omega arith)
-      start-within [] (y ∷ ys) k e = (first-of bytes start y (ys ++ (back ++ more)) (stands-point bytes start h.is_point) e).in_bytes
-      start-within (x ∷ xs) ys k e = (first-of bytes start x (xs ++ (ys ++ (back ++ more))) (stands-point bytes start h.is_point) e).in_bytes
+      behind : (xs : List Code) → ends_line (front ++ xs) ≡ true → ends_line xs ≡ true
+      behind [] k = absurd (no-end front h.outer (ap ends_line (sym (append-nil front)) ∙ k))
+      behind (x ∷ xs) k = ends-behind front (x ∷ xs) (omega arith) k
 
       before : piece_codes (codes_of bytes) (record { start = place_of start; end = place_of p }) ≡ front
       before =
@@ -317,42 +332,68 @@ module _ (bytes : List ℕ) (start p q : Point) (front inside back more : List C
 abbrev links : List ℕ → Piece → Piece → Bool
 links bytes a b = ends_line (piece_codes (codes_of bytes) a) && (is_at_or_after a.end b.start && is_one_line bytes a.end b.start)
 
-pub next-placed : (bytes : List ℕ) (p : Point) (ps : List Piece) (piece : Piece) → ArePlaced bytes ps → EndAt bytes p ps → IsLineEnd bytes p piece → ArePlaced bytes (ps ++ piece ∷ [])
-next-placed bytes p ps piece h e l = record {
+next-line : (bytes : List ℕ) (p : Point) (ps : List Piece) (piece : Piece) → IsLineRest bytes p piece → are_pieces bytes ps ≡ true → LinesEnd bytes p ps → are_pieces bytes (ps ++ piece ∷ []) ≡ true
+next-line bytes p [] piece l h e = and-true (is_piece bytes piece && true) true (and-true (is_piece bytes piece) true l.is refl) refl
+next-line bytes p (a ∷ []) piece l h e =
+    and-true (is_piece bytes a && are_pieces bytes (piece ∷ [])) (links bytes a piece)
+    (and-true (is_piece bytes a) (are_pieces bytes (piece ∷ [])) (and-first (is_piece bytes a) true (and-first (is_piece bytes a && true) true h))
+    (and-true (is_piece bytes piece && true) true (and-true (is_piece bytes piece) true l.is refl) refl))
+    (and-true (ends_line (piece_codes (codes_of bytes) a)) (is_at_or_after a.end piece.start && is_one_line bytes a.end piece.start) e.1
+    (and-true (is_at_or_after a.end piece.start) (is_one_line bytes a.end piece.start)
+    (ap (λ (x : ℕ × ℕ). is_at_or_after x piece.start) e.0 ∙ l.after) (ap (λ (x : ℕ × ℕ). is_one_line bytes x piece.start) e.0 ∙ l.one_line)))
+next-line bytes p (a ∷ b ∷ rest) piece l h e =
+    let first = and-first (is_piece bytes a && are_pieces bytes (b ∷ rest)) (links bytes a b) h in
+    and-true (is_piece bytes a && are_pieces bytes (b ∷ rest ++ piece ∷ [])) (links bytes a b)
+    (and-true (is_piece bytes a) (are_pieces bytes (b ∷ rest ++ piece ∷ [])) (and-first (is_piece bytes a) (are_pieces bytes (b ∷ rest)) first)
+    (next-line bytes p (b ∷ rest) piece l (and-second (is_piece bytes a) (are_pieces bytes (b ∷ rest)) first) e))
+    (and-second (is_piece bytes a && are_pieces bytes (b ∷ rest)) (links bytes a b) h)
+
+pub next-lines : (bytes : List ℕ) (p : Point) (ps : List Piece) (piece : Piece) → AreLinePieces bytes ps → LinesEnd bytes p ps → IsLineRest bytes p piece → AreLinePieces bytes (ps ++ piece ∷ [])
+next-lines bytes p ps piece h e l = record {
   one_line_each = All-push (IsLinePiece bytes) ps piece h.one_line_each l.is_line;
-  in_order = next ps h.in_order e;
-  lines = ap (lines_begin true) (flat_map-append (piece_codes (codes_of bytes)) ps (piece ∷ []) ∙ ap (λ xs. content_of bytes ps ++ xs) (append-nil (piece_codes (codes_of bytes) piece)))
-      ∙ joined-starts true (content_of bytes ps) (piece_codes (codes_of bytes) piece) h.lines l.lines;
+  in_order = next-line bytes p ps piece l h.in_order e;
   between_characters = λ u. All-push (IsBetweenCharacters bytes) ps piece (h.between_characters u) (l.between_characters u);
 }
-  where
-    next : (ps : List Piece) → are_pieces bytes ps ≡ true → EndAt bytes p ps → are_pieces bytes (ps ++ piece ∷ []) ≡ true
-    next [] h e = absurd e
-    next (a ∷ []) h e =
-        and-true (is_piece bytes a && are_pieces bytes (piece ∷ [])) (links bytes a piece)
-        (and-true (is_piece bytes a) (are_pieces bytes (piece ∷ [])) (and-first (is_piece bytes a) true (and-first (is_piece bytes a && true) true h))
-        (and-true (is_piece bytes piece && true) true (and-true (is_piece bytes piece) true l.is refl) refl))
-        (and-true (ends_line (piece_codes (codes_of bytes) a)) (is_at_or_after a.end piece.start && is_one_line bytes a.end piece.start) e.1
-        (and-true (is_at_or_after a.end piece.start) (is_one_line bytes a.end piece.start)
-        (ap (λ (x : ℕ × ℕ). is_at_or_after x piece.start) e.0 ∙ l.after) (ap (λ (x : ℕ × ℕ). is_one_line bytes x piece.start) e.0 ∙ l.one_line)))
-    next (a ∷ b ∷ rest) h e =
-        let first = and-first (is_piece bytes a && are_pieces bytes (b ∷ rest)) (links bytes a b) h in
-        and-true (is_piece bytes a && are_pieces bytes (b ∷ rest ++ piece ∷ [])) (links bytes a b)
-        (and-true (is_piece bytes a) (are_pieces bytes (b ∷ rest ++ piece ∷ [])) (and-first (is_piece bytes a) (are_pieces bytes (b ∷ rest)) first)
-        (next (b ∷ rest) (and-second (is_piece bytes a) (are_pieces bytes (b ∷ rest)) first) e))
-        (and-second (is_piece bytes a && are_pieces bytes (b ∷ rest)) (links bytes a b) h)
 
-pub ends-at : (bytes : List ℕ) (p : Point) (ps : List Piece) (piece : Piece) → IsLineEnd bytes p piece → (line_stop bytes p).index < length bytes → EndAt bytes (line_stop bytes p) (ps ++ piece ∷ [])
+pub next-placed : (bytes : List ℕ) (p : Point) (ps : List Piece) (piece : Piece) → ArePlaced bytes ps → EndAt bytes p ps → IsLineEnd bytes p piece → ArePlaced bytes (ps ++ piece ∷ [])
+next-placed bytes p ps piece h e l = record {
+  one_line_each = All-push (IsLinePiece bytes) ps piece h.one_line_each l.rest.is_line;
+  in_order = next-line bytes p ps piece l.rest h.in_order (some ps e);
+  lines = ap (lines_begin true) (flat_map-append (piece_codes (codes_of bytes)) ps (piece ∷ []) ∙ ap (λ xs. content_of bytes ps ++ xs) (append-nil (piece_codes (codes_of bytes) piece)))
+      ∙ joined-starts true (content_of bytes ps) (piece_codes (codes_of bytes) piece) h.lines l.lines;
+  between_characters = λ u. All-push (IsBetweenCharacters bytes) ps piece (h.between_characters u) (l.rest.between_characters u);
+}
+  where
+    some : (ps : List Piece) → EndAt bytes p ps → LinesEnd bytes p ps
+    some [] h = absurd h
+    some (a ∷ rest) h = h
+
+pub ends-at : (bytes : List ℕ) (p : Point) (ps : List Piece) (piece : Piece) → IsLineRest bytes p piece → (line_stop bytes p).index < length bytes → EndAt bytes (line_stop bytes p) (ps ++ piece ∷ [])
 ends-at bytes p [] piece l lt = (l.end, l.ends lt)
 ends-at bytes p (a ∷ []) piece l lt = (l.end, l.ends lt)
 ends-at bytes p (a ∷ b ∷ rest) piece l lt = ends-at bytes p (b ∷ rest) piece l lt
 
+pub lines-end : (bytes : List ℕ) (p : Point) (ps : List Piece) (piece : Piece) → IsLineRest bytes p piece → (line_stop bytes p).index < length bytes → LinesEnd bytes (line_stop bytes p) (ps ++ piece ∷ [])
+lines-end bytes p [] piece l lt = ends-at bytes p [] piece l lt
+lines-end bytes p (a ∷ rest) piece l lt = ends-at bytes p (a ∷ rest) piece l lt
+
+-- no line yet
+pub no-lines : (bytes : List ℕ) → AreLinePieces bytes []
+no-lines bytes = record {
+  one_line_each = All-nil (IsLinePiece bytes);
+  in_order = refl;
+  between_characters = λ u. All-nil (IsBetweenCharacters bytes);
+}
+
+pub one-line : (bytes : List ℕ) (p : Point) (piece : Piece) → IsLineRest bytes p piece → AreLinePieces bytes (piece ∷ [])
+one-line bytes p piece l = next-lines bytes p [] piece (no-lines bytes) tt l
+
 pub one-placed : (bytes : List ℕ) (p : Point) (piece : Piece) → IsLineEnd bytes p piece → ArePlaced bytes (piece ∷ [])
 one-placed bytes p piece l = record {
-  one_line_each = All-cons (IsLinePiece bytes) piece [] l.is_line (All-nil (IsLinePiece bytes));
+  one_line_each = All-cons (IsLinePiece bytes) piece [] l.rest.is_line (All-nil (IsLinePiece bytes));
   lines = ap (lines_begin true) (append-nil (piece_codes (codes_of bytes) piece)) ∙ l.lines;
-  in_order = and-true (is_piece bytes piece && true) true (and-true (is_piece bytes piece) true l.is refl) refl;
-  between_characters = λ u. All-cons (IsBetweenCharacters bytes) piece [] (l.between_characters u) (All-nil (IsBetweenCharacters bytes));
+  in_order = and-true (is_piece bytes piece && true) true (and-true (is_piece bytes piece) true l.rest.is refl) refl;
+  between_characters = λ u. All-cons (IsBetweenCharacters bytes) piece [] (l.rest.between_characters u) (All-nil (IsBetweenCharacters bytes));
 }
 
 -- where a line ends

@@ -1,5 +1,5 @@
 -- How many blocks a reader has.
-use Rattle.std.proofs.Common.{◌≡◌, ℕ, zero, suc, ◌+◌, ◌≤◌, refl, ap, ◌∙◌, subst, sym, List, [], ◌∷◌, length, map, take, Option, Some, None, is_some, if◌then◌else◌, arith}
+use Rattle.std.proofs.Common.{◌≡◌, ℕ, zero, suc, ◌+◌, ◌≤◌, refl, subst, sym, List, [], ◌∷◌, length, map, Option, Some, None, is_some, if◌then◌else◌, arith}
 use Rattle.std.proofs.lemmas.List.{length-map}
 use Rattle.markdown_block_model.specs.BlockTree.{Leaf, Container, Tree, nothing, and_leaf, and_container}
 use Rattle.markdown_block_model.specs.BlockLines.{block_count}

@@ -4,7 +4,7 @@ use Rattle.markdown_content.specs.Codes.{Code, codes_of}
 use Rattle.markdown_content.specs.Content.{piece_codes, content_of}
 use Rattle.markdown_block_model.specs.LineRests.{is_blank_line, trimmed, trimmed_end}
 use Rattle.markdown_block_model.specs.BlockTree as model
-use Rattle.markdown_block_model.specs.BlockTree.{Tree, nothing, and_leaf, and_container}
+use Rattle.markdown_block_model.specs.BlockTree.{no_extensions, Tree, nothing, and_leaf, and_container}
 use Rattle.markdown_block_model.specs.BlockStarts as block_starts
 use Rattle.markdown_block_model.specs.DocumentBlocks as document_blocks
 use Rattle.markdown_block_line.specs.LineBlocks.{container_of, fence_of}
@@ -90,8 +90,8 @@ pub record IsStanding (bytes : List ℕ) (r : Reader) : Type 0 where
 
 -- what a leaf becomes with a further line
 abbrev pub Continues : List ℕ → Leaf → List Code → Next → Type 0
-Continues bytes l cs (WithLine next) = document_blocks.with_next (leaf_of bytes l) cs ≡ Some (leaf_of bytes next)
-Continues bytes l cs (Without same) = (document_blocks.with_next (leaf_of bytes l) cs ≡ None) × (same ≡ l)
+Continues bytes l cs (WithLine next) = document_blocks.with_next no_extensions (leaf_of bytes l) cs ≡ Some (leaf_of bytes next)
+Continues bytes l cs (Without same) = (document_blocks.with_next no_extensions (leaf_of bytes l) cs ≡ None) × (same ≡ l)
 
 -- a leaf has begun
 pub record HasLeaf (bytes : List ℕ) (begun : block_starts.Begun) (before after : Reader) : Type 0 where
@@ -120,14 +120,14 @@ HasBegun bytes begun line outside before after = MatchOption outside (HasLeaf by
 
 -- what is left to begin behind one block: nothing, or what the rest of the line inside a container begins
 pub record IsFinished (bytes : List ℕ) (line : List Code) (before after : Reader) : Type 0 where
-  pub tree : (n : ℕ) → whole_tree bytes after ≡ at_depth (depth before) (block_starts.with_rest (suc n) line) (closed_tree bytes before)
+  pub tree : (n : ℕ) → whole_tree bytes after ≡ at_depth (depth before) (block_starts.with_rest no_extensions (suc n) line) (closed_tree bytes before)
   pub between : IsBetween bytes after
 
 pub record IsEntered (bytes : List ℕ) (line rest : List Code) (before after : Reader) : Type 0 where
   pub shorter : length rest < length line
   pub standing : IsStanding bytes after
   pub empty : inside_at (depth after) (closed_tree bytes after) ≡ nothing
-  pub tree : (n : ℕ) → at_depth (depth after) (block_starts.with_rest n rest) (closed_tree bytes after) ≡ at_depth (depth before) (block_starts.with_rest (suc n) line) (closed_tree bytes before)
+  pub tree : (n : ℕ) → at_depth (depth after) (block_starts.with_rest no_extensions n rest) (closed_tree bytes after) ≡ at_depth (depth before) (block_starts.with_rest no_extensions (suc n) line) (closed_tree bytes before)
 
 -- a block has begun: nothing is left, or the codes behind so many
 abbrev pub HasPassed : List ℕ → List Code → Option ℕ → Reader → Reader → Type 0
@@ -144,7 +144,7 @@ pub record Begins (bytes : List ℕ) (line : List Code) (r : Reader) (target : T
   pub enough : length line < steps
   pub standing : IsStanding bytes r
   pub empty : is_blank_line line ≡ true → inside_at (depth r) (closed_tree bytes r) ≡ nothing
-  pub tree : at_depth (depth r) (block_starts.with_rest steps line) (closed_tree bytes r) ≡ target
+  pub tree : at_depth (depth r) (block_starts.with_rest no_extensions steps line) (closed_tree bytes r) ≡ target
 
 -- a leaf is a paragraph, and what it is with a line that goes on lazily with it
 abbrev pub is_text : model.Leaf → Bool

@@ -6,6 +6,7 @@ use Rattle.markdown_block_model.specs.BlockTree as model
 
 abbrev pub is_list_item : model.Container → Bool
 is_list_item model.quote = false
+is_list_item (model.footnote label) = false
 is_list_item (model.item m columns) = true
 
 -- a line with no code but its ending

@@ -1,5 +1,6 @@
 -- The definitions of this crate.
 pub mod BlockRows
+pub mod CodePieces
 pub mod ItemRows
 pub mod LineRest
 pub mod LinesLeft

@@ -1,5 +1,5 @@
 -- The rest of a line, as contracts see it.
-use Rattle.std.specs.Prelude.{◌≡◌, ℕ, ◌≤◌, List, ◌++◌, take, drop, length, Bool, true, Some}
+use Rattle.std.specs.Prelude.{◌≡◌, ℕ, ◌<◌, ◌≤◌, List, ◌++◌, take, drop, length, Bool, true, Some}
 use Rattle.std.specs.List.{list_all}
 use Rattle.markdown_event.specs.declared.event.Point.{Point}
 use Rattle.markdown_content.specs.Codes.{Code, place_of}
@@ -8,6 +8,7 @@ use Rattle.markdown_content.specs.DocumentWalk.{IsPoint, codes_after}
 use Rattle.markdown_model.specs.CodeTests.{values_of}
 use Rattle.markdown_block_line.specs.DocumentLines.{line_from}
 use Rattle.markdown_block_line.specs.LineBreaks.{IsBreakLens}
+use Rattle.markdown_block_model.specs.BlockTree.{no_extensions}
 use Rattle.markdown_block_model.specs.BlockStarts.{begun}
 use Rattle.markdown_block_line.specs.LineStarts.{begun_of, StandsWhere}
 use Rattle.markdown_block_line.specs.declared.begins.Begun.{Begun}
@@ -34,6 +35,7 @@ pub record IsLineStart (bytes : List ℕ) (start : Point) (line : List Code) : T
 pub record IsRest (bytes : List ℕ) (start : Point) (values : List ℕ) (breaks : BreakLens) (at : ℕ) : Type 0 where
   pub fits : length bytes ≤ document_limit
   pub is_point : IsPoint bytes start
+  pub filled : start.index < length bytes
   pub begins : IsLineStart bytes start (line_from bytes start)
   pub same : values_of (line_from bytes start) ≡ values
   pub breaks_are : IsBreakLens breaks values
@@ -45,7 +47,7 @@ pub record IsRest (bytes : List ℕ) (start : Point) (values : List ℕ) (breaks
 pub record IsBegun (cs : List Code) (b : Begun) : Type 0 where
   pub in_paragraph : Bool
   pub after_text : Bool
-  pub is : begun in_paragraph after_text cs ≡ Some (begun_of cs b)
+  pub is : begun no_extensions in_paragraph after_text cs ≡ Some (begun_of cs b)
   pub stands : StandsWhere cs b
 
 -- what a reader has of texts before the line, and behind it

@@ -3,10 +3,11 @@
 ghost use Rattle.std.specs.Prelude.{◌≡◌, ◌<◌, ◌≤◌, ◌-◌, ◌++◌, ℕ, suc, length, replicate, IfOk, OnOk, All};
 ghost use Rattle.markdown_content.specs.Content.{document_limit};
 ghost use Rattle.markdown_content.specs.DocumentWalk.{IsPoint};
+ghost use Rattle.markdown_block_model.specs.BlockTree.{no_extensions};
 ghost use Rattle.markdown_block_model.specs.BlockLines.{begins_of, block_count};
 ghost use Rattle.markdown_block_model.specs.DocumentBlocks.{blocks_of};
 ghost use Rattle.markdown_blocks.specs.BlockRows.{tree_of, whole_tree, IsBetween};
-ghost use Rattle.markdown_blocks.specs.LinesLeft.{begins_on, read_on};
+ghost use Rattle.markdown_blocks.specs.LinesLeft.{IsTextStart, begins_on, read_on};
 ghost use Rattle.markdown_blocks.specs.NestedRows.{AreNested};
 ghost use Rattle.markdown_blocks.specs.TextRows.{StandsBetween, HasPlacedTexts, IsPlacedRow};
 
@@ -20,6 +21,23 @@ use markdown_block_line::document::line_at;
 use markdown_content::walk::DOCUMENT_START;
 use markdown_event::event::Point;
 use std::alloc::{AllocError, Global};
+
+// U+FEFF in UTF-8.
+const BYTE_ORDER_MARK: &[u8] = b"\xef\xbb\xbf";
+
+// Returns where the text of a document begins: after a byte order mark at its front, if there is one.
+fn text_start(bytes: &[u8]) -> Point
+    ensures { IsTextStart bytes.now result }
+{
+    if !bytes.starts_with(BYTE_ORDER_MARK) {
+        return DOCUMENT_START;
+    }
+    Point {
+        column: 4,
+        index: 3,
+        ..DOCUMENT_START
+    }
+}
 
 // Reads the line that begins at a place, and returns where the next one begins.
 fn read_line_at<T: HasText>(
@@ -61,15 +79,15 @@ fn note_line(lines: &mut Vec<usize>, count: usize, number: usize) -> Result<(), 
     Ok(())
 }
 
-/// Returns the blocks of a document of at most `usize::MAX / 8` bytes.
+/// Returns the blocks of a document of at most `usize::MAX / 8` bytes. A byte order mark at its front is no text, but positions count it.
 ///
 /// The only error is that memory was refused.
 pub fn blocks<T: HasText>(alloc: Global, test: &T, bytes: &[u8]) -> Result<Blocks, AllocError>
     requires { length bytes.now ≤ document_limit }
-    ensures tree { IfOk result (λ b. tree_of bytes.now b ≡ blocks_of T.has_text bytes.now) }
+    ensures tree { IfOk result (λ b. tree_of bytes.now b ≡ blocks_of no_extensions T.has_text bytes.now) }
     ensures texts { IfOk result (λ b. All (IsPlacedRow bytes.now) b.rows.items) }
     ensures nested { IfOk result (λ b. AreNested 0 b.rows.items) }
-    ensures begins { IfOk result (λ b. b.lines.items ≡ begins_of T.has_text bytes.now) }
+    ensures begins { IfOk result (λ b. b.lines.items ≡ begins_of no_extensions T.has_text bytes.now) }
     ensures lined { IfOk result (λ b. length b.lines.items ≡ length b.rows.items) }
 {
     let mut reader = Reader {
@@ -79,7 +97,7 @@ pub fn blocks<T: HasText>(alloc: Global, test: &T, bytes: &[u8]) -> Result<Block
     };
     let mut lines = Vec::new(alloc);
     let mut buffer = Vec::new(alloc);
-    let mut point = DOCUMENT_START;
+    let mut point = text_start(bytes);
     let mut number = 1;
     while point.index < bytes.len() {
         point = read_line_at(alloc, test, &mut reader, bytes, point, &mut buffer)?;

@@ -2,6 +2,7 @@
 
 ghost use Rattle.std.specs.Prelude.{false, IfOk};
 ghost use Rattle.markdown_blocks.specs.BlockRows.{Continues};
+ghost use Rattle.markdown_blocks.specs.TextRows.{line_stop, IsOpenLeaf, IsOpenNext};
 ghost use Rattle.markdown_blocks.specs.declared.block.Leaf.TheVariants.{FencedCode, IndentedCode, Html};
 
 use crate::block::Leaf;
@@ -27,7 +28,9 @@ fn next_fenced(
     lines: Vec<Piece>,
     rest: &Rest,
 ) -> Result<Next, AllocError>
-    ensures { IfOk result (Continues rest.now.bytes (FencedCode fence info lines false) rest.now.codes) }
+    requires { IsOpenLeaf rest.now.bytes rest.now.start (FencedCode fence info lines false) }
+    ensures next { IfOk result (Continues rest.now.bytes (FencedCode fence info lines false) rest.now.codes) }
+    ensures text { IfOk result (IsOpenNext rest.now.bytes (line_stop rest.now.bytes rest.now.start)) }
 {
     let mut lines = lines;
     match fenced_line(fence, rest.values()) {
@@ -41,7 +44,9 @@ fn next_fenced(
 
 // Indented code.
 fn next_indented(lines: Vec<Piece>, rest: &Rest) -> Result<Next, AllocError>
-    ensures { IfOk result (Continues rest.now.bytes (IndentedCode lines) rest.now.codes) }
+    requires { IsOpenLeaf rest.now.bytes rest.now.start (IndentedCode lines) }
+    ensures next { IfOk result (Continues rest.now.bytes (IndentedCode lines) rest.now.codes) }
+    ensures text { IfOk result (IsOpenNext rest.now.bytes (line_stop rest.now.bytes rest.now.start)) }
 {
     let mut lines = lines;
     match indented_line(rest.values()) {
@@ -55,13 +60,20 @@ fn next_indented(lines: Vec<Piece>, rest: &Rest) -> Result<Next, AllocError>
 
 // HTML that is not ended.
 fn next_html(kind: usize, text: Vec<Piece>, rest: &Rest) -> Result<Next, AllocError>
-    ensures { IfOk result (Continues rest.now.bytes (Html kind text false) rest.now.codes) }
+    requires { IsOpenLeaf rest.now.bytes rest.now.start (Html kind text false) }
+    ensures next { IfOk result (Continues rest.now.bytes (Html kind text false) rest.now.codes) }
+    ensures text { IfOk result (IsOpenNext rest.now.bytes (line_stop rest.now.bytes rest.now.start)) }
 {
     let mut text = text;
     match html_line(kind, rest.values()) {
         None => Ok(Next::Without(Leaf::Html(kind, text, false))),
         Some(ended) => {
-            text.push(rest.piece_from(0))?;
+            let piece = rest.piece_from(0);
+            if rest.len() == 0 {
+                // The document ends here.
+                return Ok(Next::WithLine(Leaf::Html(kind, text, ended)));
+            }
+            text.push(piece)?;
             Ok(Next::WithLine(Leaf::Html(kind, text, ended)))
         }
     }
@@ -69,7 +81,9 @@ fn next_html(kind: usize, text: Vec<Piece>, rest: &Rest) -> Result<Next, AllocEr
 
 /// Returns a leaf that is no paragraph, with a further line if the line continues it.
 pub fn continued(leaf: Leaf, rest: &Rest) -> Result<Next, AllocError>
-    ensures { IfOk result (Continues rest.now.bytes leaf rest.now.codes) }
+    requires { IsOpenLeaf rest.now.bytes rest.now.start leaf }
+    ensures next { IfOk result (Continues rest.now.bytes leaf rest.now.codes) }
+    ensures text { IfOk result (IsOpenNext rest.now.bytes (line_stop rest.now.bytes rest.now.start)) }
 {
     match leaf {
         Leaf::FencedCode(fence, info, lines, false) => next_fenced(fence, info, lines, rest),

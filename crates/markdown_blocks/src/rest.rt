@@ -7,7 +7,7 @@ ghost use Rattle.markdown_content.specs.Content.{document_limit, piece_codes};
 ghost use Rattle.markdown_content.specs.DocumentWalk.{IsPoint};
 ghost use Rattle.markdown_model.specs.CodeTests.{values_of};
 ghost use Rattle.markdown_block_model.specs.LineRests.{indent, is_blank_line};
-ghost use Rattle.markdown_block_model.specs.BlockTree.{Tree};
+ghost use Rattle.markdown_block_model.specs.BlockTree.{no_extensions, Tree};
 ghost use Rattle.markdown_block_model.specs.TextStarts.{lines_begin, is_line};
 ghost use Rattle.markdown_block_model.specs.LeafStarts.{underline};
 ghost use Rattle.markdown_block_model.specs.BlockStarts.{begun};
@@ -17,7 +17,7 @@ ghost use Rattle.markdown_block_line.specs.LineBlocks.{container_of, Says};
 ghost use Rattle.markdown_block_line.specs.LineStarts.{begun_of, StandsWhere, IsWithin};
 ghost use Rattle.markdown_blocks.specs.ItemRows.{IsBare};
 ghost use Rattle.markdown_blocks.specs.LineRest.{behind, IsLineStart};
-ghost use Rattle.markdown_blocks.specs.TextRows.{StandsBetween, is_outer, begins_ascii, ArePlaced, IsLineEnd};
+ghost use Rattle.markdown_blocks.specs.TextRows.{StandsBetween, is_outer, begins_ascii, AreLinePieces, ArePlaced, IsLineRest, IsLineEnd};
 
 use markdown_block_line::begins::{self, Begun};
 use markdown_block_line::breaks::{BreakLens, break_lens};
@@ -59,6 +59,7 @@ impl<'a> Rest<'a> {
     pub fn new(document: &'a [u8], start: Point, values: &'a [u8]) -> Rest<'a>
         requires fits { length document.now ≤ document_limit }
         requires is_point { IsPoint document.now start }
+        requires filled { start.index < length document.now }
         requires begins { IsLineStart document.now start (line_from document.now start) }
         requires same { values_of (line_from document.now start) ≡ values.now }
         requires between { StandsBetween document.now start }
@@ -141,7 +142,7 @@ impl<'a> Rest<'a> {
 
     /// Returns what begins here, or `None`. `in_paragraph` says that a paragraph stands right before, and `after_text` that one is open here or further inside.
     pub fn begun(&self, in_paragraph: bool, after_text: bool) -> Option<Begun>
-        ensures found { Says result (begun_of self.now.codes) (begun in_paragraph after_text self.now.codes) }
+        ensures found { Says result (begun_of self.now.codes) (begun no_extensions in_paragraph after_text self.now.codes) }
         ensures start { IfSome result (StandsWhere self.now.codes) }
         ensures within { IfSome result (IsWithin (length self.now.codes)) }
     {
@@ -150,7 +151,7 @@ impl<'a> Rest<'a> {
 
     /// Returns whether the line would continue a paragraph lazily (CommonMark 5.1).
     pub fn is_lazy(&self) -> bool
-        ensures { result ≡ not (is_blank_line self.now.codes || is_some (begun false true self.now.codes)) }
+        ensures { result ≡ not (is_blank_line self.now.codes || is_some (begun no_extensions false true self.now.codes)) }
     {
         begins::is_lazy_line(self.breaks, self.values())
     }
@@ -161,7 +162,11 @@ impl<'a> Rest<'a> {
         ensures codes { piece_codes (codes_of self.now.bytes) result ≡ take len (drop from self.now.codes) }
         ensures placed { list_all is_outer (take from self.now.codes) ≡ true → begins_ascii (drop (from + len) self.now.codes) ≡ true
             → lines_begin true (take len (drop from self.now.codes)) ≡ true → ArePlaced self.now.bytes (result ∷ []) }
-        ensures line { list_all is_outer (take from self.now.codes) ≡ true → from + len ≡ length self.now.codes → 0 < len
+        ensures inside { list_all is_outer (take from self.now.codes) ≡ true → begins_ascii (drop (from + len) self.now.codes) ≡ true
+            → AreLinePieces self.now.bytes (result ∷ []) }
+        ensures rest { list_all is_outer (take from self.now.codes) ≡ true → from + len ≡ length self.now.codes
+            → IsLineRest self.now.bytes self.now.start result }
+        ensures line { list_all is_outer (take from self.now.codes) ≡ true → from + len ≡ length self.now.codes
             → lines_begin true (drop from self.now.codes) ≡ true → IsLineEnd self.now.bytes self.now.start result }
         ensures is_line { is_line self.now.codes ≡ true }
     {
@@ -177,6 +182,7 @@ impl<'a> Rest<'a> {
     pub fn piece_from(&self, from: usize) -> Piece
         requires { from ≤ length self.now.codes }
         ensures codes { piece_codes (codes_of self.now.bytes) result ≡ drop from self.now.codes }
+        ensures rest { list_all is_outer (take from self.now.codes) ≡ true → IsLineRest self.now.bytes self.now.start result }
         ensures line { list_all is_outer (take from self.now.codes) ≡ true → from < length self.now.codes
             → lines_begin true (drop from self.now.codes) ≡ true → IsLineEnd self.now.bytes self.now.start result }
         ensures is_line { is_line self.now.codes ≡ true }

@@ -11,7 +11,7 @@ ghost use Rattle.markdown_html.specs.View.{page_of};
 use crate::addresses::{Given, push_link_address, push_tag, push_text};
 use crate::stretch::text_between;
 use markdown_event::event::Point;
-use markdown_html_model::escape::{push_escaped, push_escaped_between};
+use markdown_html_model::escape::{push_escaped, push_escaped_between, push_replaced};
 use markdown_html_model::options::LineEnds;
 use markdown_html_model::role::{Role, Within};
 use std::alloc::{AllocError, Global};
@@ -75,8 +75,11 @@ fn push_own_link_outside(
 fn push_raw(given: &Given, out: &mut Vec<u8>, within: Within, text: &[u8]) -> Result<(), AllocError>
     ensures { OnOk result (out.new.items ≡ out.old.items ++ raw_html (page_of given.now) within text.now) }
 {
-    if matches!(within, Within::InText) || given.options.raw_html {
-        out.extend_from_slice(text)
+    if matches!(within, Within::InText) {
+        return out.extend_from_slice(text);
+    }
+    if given.options.raw_html {
+        push_replaced(out, text)
     } else {
         push_escaped(out, text)
     }

@@ -4,7 +4,7 @@ use Rattle.markdown_content.specs.Codes.{stop_of, document_start}
 use Rattle.markdown_content.specs.Tree.{Forest, empty, leaf_then, group_then, start_of}
 use Rattle.markdown_event.specs.declared.event.Name.{Name}
 use Rattle.markdown_event.specs.declared.event.Point.{Point}
-use Rattle.markdown_html_model.specs.Escaped.{addressed, escaped}
+use Rattle.markdown_html_model.specs.Escaped.{addressed, escaped, replaced}
 use Rattle.markdown_html_model.specs.Resolved.{resolved}
 use Rattle.markdown_html_model.specs.Schemes.{link_schemes, image_schemes}
 use Rattle.markdown_html_model.proofs.NoMarkup.{addressed_quiet, escaped_quiet}
@@ -48,8 +48,8 @@ in-text any within text = own-text any (escaped text) (escaped_quiet text)
 
 -- Innermost things.
 
-raw-off : (any c : Bool) (text : List ℕ) → c ≡ false → IsOwnMarkup any (if c then text else escaped text)
-raw-off any c text off = subst (λ c. IsOwnMarkup any (if c then text else escaped text)) (sym off) (own-text any (escaped text) (escaped_quiet text))
+raw-off : (any c : Bool) (text : List ℕ) → c ≡ false → IsOwnMarkup any (if c then replaced text else escaped text)
+raw-off any c text off = subst (λ c. IsOwnMarkup any (if c then replaced text else escaped text)) (sym off) (own-text any (escaped text) (escaped_quiet text))
 
 in-raw : (any : Bool) (p : Page) → IsBounded any p → (within : Within) (text : List ℕ) → IsOwnIn any within (raw_html p within text)
 in-raw any p b Within.InText text = tt

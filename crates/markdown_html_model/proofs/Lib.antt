@@ -9,3 +9,4 @@ pub mod HtmlIsOwn
 mod Markups
 mod SchemesRead
 mod ValuesRead
+pub mod NulInHtml

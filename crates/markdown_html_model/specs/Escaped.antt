@@ -16,6 +16,16 @@ escaped_byte b =
 unfoldable pub escaped : List ℕ → List ℕ
 escaped text = flat_map escaped_byte text
 
+abbrev pub is_no_nul : ℕ → Bool
+is_no_nul b = not (b == 0)
+
+-- NUL as U+FFFD, and every other byte as it is (CommonMark 2.3)
+abbrev pub replaced_byte : ℕ → List ℕ
+replaced_byte b = if is_no_nul b then b ∷ [] else 239 ∷ 191 ∷ 189 ∷ []
+
+unfoldable pub replaced : List ℕ → List ℕ
+replaced text = flat_map replaced_byte text
+
 -- a byte that stands in HTML as it is
 abbrev pub is_kept : ℕ → Bool
 is_kept b = not (b == 38 || b == 60 || b == 62 || b == 34 || b == 0)

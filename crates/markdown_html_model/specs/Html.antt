@@ -1,5 +1,5 @@
 -- The HTML of an inline tree (CommonMark 0.31, chapter 6; GFM's strikethrough, literals, task checks and footnote calls; math spans).
-use Rattle.std.specs.Prelude.{ℕ, zero, suc, ◌-◌, Bool, true, false, not, ◌&&◌, ◌||◌, ◌==◌, if◌then◌else◌, List, [], ◌∷◌, ◌++◌, length, map, take, drop, replicate, codes, decimal, Option, None, Some}
+use Rattle.std.specs.Prelude.{ℕ, zero, suc, ◌-◌, Bool, false, not, ◌&&◌, ◌||◌, ◌==◌, if◌then◌else◌, List, [], ◌∷◌, ◌++◌, length, map, take, drop, replicate, codes, decimal, Option, None, Some}
 use Rattle.std.specs.List.{list_any}
 use Rattle.std.specs.Str.{byte, bytes_eq, is_utf8}
 use Rattle.markdown_content.specs.Codes.{Code, stop_of, document_start}
@@ -13,7 +13,7 @@ use Rattle.markdown_event.specs.declared.event.Point.{Point}
 use Rattle.markdown_util.specs.Identifier.{identifier_by}
 use Rattle.markdown_util.specs.Reference.{shipped_decoding}
 use Rattle.markdown_util.specs.declared.decoding.Decoding.{Decoding}
-use Rattle.markdown_html_model.specs.Escaped.{escaped, addressed}
+use Rattle.markdown_html_model.specs.Escaped.{escaped, replaced, addressed}
 use Rattle.markdown_html_model.specs.Resolved.{resolved}
 use Rattle.markdown_html_model.specs.Schemes.{is_safe, link_schemes, image_schemes}
 use Rattle.markdown_html_model.specs.Roles.{role_of}
@@ -216,10 +216,10 @@ abbrev pub own_link_outside : Page → Within → List ℕ → List ℕ → List
 own_link_outside p Within.Outside before text = own_link p Within.Outside before text
 own_link_outside p within before text = text_html within text
 
--- raw HTML (CommonMark 6.6)
+-- raw HTML (CommonMark 6.6), in which NUL is U+FFFD too (2.3)
 abbrev pub raw_html : Page → Within → List ℕ → List ℕ
 raw_html p Within.InText text = text
-raw_html p within text = if p.options.raw_html then text else escaped text
+raw_html p within text = if p.options.raw_html then replaced text else escaped text
 
 -- a line ending of the text; one line feed where text alone is written
 abbrev pub line_ending : LineEnds → List ℕ → List ℕ

@@ -3,7 +3,7 @@
 
 ghost use Rattle.std.specs.Prelude.{◌≡◌, ◌++◌, ◌+◌, ◌<◌, ◌≤◌, IfOk, OnOk, ℕ, length, slice_index, slice_range, true};
 ghost use Rattle.std.specs.List.{prefix_len};
-ghost use Rattle.markdown_html_model.specs.Escaped.{escaped_byte, escaped, address_byte, addressed, is_address_byte, is_kept, begins_encoded, hexadecimal};
+ghost use Rattle.markdown_html_model.specs.Escaped.{escaped_byte, escaped, is_no_nul, replaced, address_byte, addressed, is_address_byte, is_kept, begins_encoded, hexadecimal};
 
 use crate::kept::{kept_among, kept_until};
 use markdown_content::lanes::LANES;
@@ -93,6 +93,33 @@ pub fn push_escaped(out: &mut Vec<u8>, text: &[u8]) -> Result<(), AllocError>
     ensures { OnOk result (out.new.items ≡ out.old.items ++ escaped text.now) }
 {
     push_escaped_between(out, text, 0, text.len())
+}
+
+// How many bytes at the front are no NUL.
+#[tactic(auto, using(crate::proofs::ReferenceValues::prefix_within))]
+fn len_before_nul(text: &[u8]) -> usize
+    ensures len { result ≡ prefix_len is_no_nul text.now }
+    ensures within { result ≤ length text.now }
+{
+    text.iter().take_while(|byte| **byte != 0).count()
+}
+
+/// Appends a text with NUL as U+FFFD (CommonMark 2.3). The other bytes stay as they are, so raw HTML stays raw.
+///
+/// The only error is that an allocation failed; `out` then holds what it held, and a front of the text.
+pub fn push_replaced(out: &mut Vec<u8>, text: &[u8]) -> Result<(), AllocError>
+    ensures { OnOk result (out.new.items ≡ out.old.items ++ replaced text.now) }
+{
+    let mut left = text;
+    loop {
+        let (front, behind) = left.split_at(len_before_nul(left));
+        out.extend_from_slice(front)?;
+        let Some((_, rest)) = behind.split_first() else {
+            return Ok(());
+        };
+        out.extend_from_slice(b"\xEF\xBF\xBD")?;
+        left = rest;
+    }
 }
 
 // Whether a byte stands for itself in an address.

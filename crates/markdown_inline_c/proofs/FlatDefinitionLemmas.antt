@@ -1,9 +1,10 @@
 -- Definitions that are written one after another.
-use Rattle.std.proofs.Common.{◌≡◌, ◌∙◌, sym, ap, subst, refl, inl, inr, ℕ, ◌-◌, ◌≤◌, List, [], ◌∷◌, ◌++◌, length, take, drop, arith, Option, Some, None, option_map, IfSome, IsUtf8, if◌then◌else◌, ◌==◌}
+use Rattle.std.proofs.Common.{◌≡◌, ◌∙◌, sym, ap, subst, refl, inl, inr, ℕ, ◌-◌, ◌≤◌, List, [], ◌∷◌, ◌++◌, length, take, drop, arith, ◌+◌, append_assoc, append-nil, Option, Some, None, option_map, IfSome, IsUtf8, if◌then◌else◌, ◌==◌}
+use Rattle.std.proofs.lemmas.Grind.{flat_map-append}
 use Rattle.std.proofs.lemmas.List.{length-append, length-drop, take-append-le, drop-append-le, take_all, drop_all}
 use Rattle.markdown_block_definitions.specs.DefinitionTexts.{Texts, AreUtf8Texts}
 use Rattle.markdown_html_model.specs.Resolved.{resolved}
-use Rattle.markdown_inline_c.specs.FlatDefinitions.{AreFlat, IsFlat, IsAppendedText, IsTargetOf, IsTitle, title_bytes}
+use Rattle.markdown_inline_c.specs.FlatDefinitions.{AreFlat, AreWritten, IsFlat, IsAppendedText, IsTargetOf, IsTitle, title_bytes, texts_bytes, flat_labels, stretch, flat_target, flat_ranges, flat_targets}
 use Rattle.markdown_inline_c.specs.FlatHtml.{IsTitleRange, title_of}
 use Rattle.markdown_inline_c.specs.FlatInput.{IsLabelRange, range_bytes}
 use Rattle.markdown_inline_c.specs.declared.flat.FlatTarget.{FlatTarget}
@@ -117,7 +118,7 @@ one-flat how t before between after r target u label h =
       reserved_is = h.reserved_is;
     }
 
-pub one-more-flat : (how : Decoding) (ts : List Texts) (t : Texts) (before between after : List ℕ) (rs : List Range) (targets : List FlatTarget) (r : Range) (target : FlatTarget)
+one-more-flat : (how : Decoding) (ts : List Texts) (t : Texts) (before between after : List ℕ) (rs : List Range) (targets : List FlatTarget) (r : Range) (target : FlatTarget)
     → AreFlat how before ts rs targets → AreUtf8Texts t → IsAppendedText t.label before between r → IsTargetOf how t between after target
     → AreFlat how after (ts ++ t ∷ []) (rs ++ r ∷ []) (targets ++ target ∷ [])
 one-more-flat how ts t before between after rs targets r target all u label h =
@@ -125,3 +126,68 @@ one-more-flat how ts t before between after rs targets r target all u label h =
     let behind-destination : AreFlat how h.between ts rs targets = rw h.destination.after_is (kept-all how between _ ts rs targets behind-label) in
     let behind : AreFlat how after ts rs targets = rw h.title.stretch.after_is (kept-all how h.between _ ts rs targets behind-destination) in
     last-flat how after ts rs targets t r target behind (one-flat how t before between after r target u label h)
+
+-- Exactly these.
+
+range-is : (r : Range) (before len : ℕ) → r.start ≡ before → r.end ≡ before + len → r ≡ stretch before len
+range-is r before len e f =
+    ap (λ (x : ℕ). let q : Range = record { start = x; end = r.end } in q) e ∙ ap (λ (x : ℕ). let q : Range = record { start = before; end = x } in q) f
+
+appended-is : (text before after : List ℕ) (r : Range) → IsAppendedText text before after r → r ≡ stretch (length before) (length text)
+appended-is text before after r h = range-is r (length before) (length text) h.start_is (h.end_is ∙ ap length h.after_is ∙ length-append before text)
+
+target-is : (g : FlatTarget) (d t : Range) (has : ℕ) → g.destination ≡ d → g.title ≡ t → g.has_title ≡ has → g.reserved ≡ 0
+    → g ≡ record { destination = d; title = t; has_title = has; reserved = 0 }
+target-is g d t has a b c e =
+    ap (λ (x : Range). let q : FlatTarget = record { destination = x; title = g.title; has_title = g.has_title; reserved = g.reserved } in q) a
+    ∙ ap (λ (x : Range). let q : FlatTarget = record { destination = d; title = x; has_title = g.has_title; reserved = g.reserved } in q) b
+    ∙ ap (λ (x : ℕ). let q : FlatTarget = record { destination = d; title = t; has_title = x; reserved = g.reserved } in q) c
+    ∙ ap (λ (x : ℕ). let q : FlatTarget = record { destination = d; title = t; has_title = has; reserved = x } in q) e
+
+written-target : (how : Decoding) (t : Texts) (before between after : List ℕ) (r : Range) (target : FlatTarget) → IsAppendedText t.label before between r → IsTargetOf how t between after target
+    → target ≡ flat_target how (length before) t
+written-target how t before between after r target label h =
+    let b : length between ≡ length before + length t.label = ap length label.after_is ∙ length-append before t.label in
+    let m : length h.between ≡ length before + length t.label + length (resolved how t.destination) = ap length h.destination.after_is ∙ length-append between (resolved how t.destination) ∙ ap (λ (k : ℕ). k + length (resolved how t.destination)) b in
+    target-is target _ _ _
+    (appended-is (resolved how t.destination) between h.between target.destination h.destination ∙ ap (λ (k : ℕ). stretch k (length (resolved how t.destination))) b)
+    (appended-is (title_bytes (option_map (resolved how) t.title)) h.between after target.title h.title.stretch ∙ ap (λ (k : ℕ). stretch k (length (title_bytes (option_map (resolved how) t.title)))) m)
+    h.title.told h.reserved_is
+
+written-bytes : (how : Decoding) (t : Texts) (before between after : List ℕ) (r : Range) (target : FlatTarget) → IsAppendedText t.label before between r → IsTargetOf how t between after target
+    → after ≡ before ++ texts_bytes how t
+written-bytes how t before between after r target label h =
+    let title = title_bytes (option_map (resolved how) t.title) in
+    h.title.stretch.after_is ∙ ap (λ (xs : List ℕ). xs ++ title) (h.destination.after_is ∙ ap (λ (xs : List ℕ). xs ++ resolved how t.destination) label.after_is)
+    ∙ append_assoc (before ++ t.label) (resolved how t.destination) title ∙ append_assoc before t.label (resolved how t.destination ++ title)
+
+more-ranges : (how : Decoding) (n : ℕ) (ts : List Texts) (t : Texts) → flat_ranges how n (ts ++ t ∷ []) ≡ flat_ranges how n ts ++ stretch (n + length (flat_labels how ts)) (length t.label) ∷ []
+more-ranges how n [] t = let e : n ≡ n + 0 = omega arith in ap (λ (k : ℕ). stretch k (length t.label) ∷ []) e
+more-ranges how n (s ∷ ts) t =
+    let e : n + length (texts_bytes how s) + length (flat_labels how ts) ≡ n + length (texts_bytes how s ++ flat_labels how ts) = omega (arith, length-append (texts_bytes how s) (flat_labels how ts)) in
+    ap (λ (rs : List Range). stretch n (length s.label) ∷ rs)
+    (more-ranges how (n + length (texts_bytes how s)) ts t ∙ ap (λ (k : ℕ). flat_ranges how (n + length (texts_bytes how s)) ts ++ stretch k (length t.label) ∷ []) e)
+
+more-targets : (how : Decoding) (n : ℕ) (ts : List Texts) (t : Texts) → flat_targets how n (ts ++ t ∷ []) ≡ flat_targets how n ts ++ flat_target how (n + length (flat_labels how ts)) t ∷ []
+more-targets how n [] t = let e : n ≡ n + 0 = omega arith in ap (λ (k : ℕ). flat_target how k t ∷ []) e
+more-targets how n (s ∷ ts) t =
+    let e : n + length (texts_bytes how s) + length (flat_labels how ts) ≡ n + length (texts_bytes how s ++ flat_labels how ts) = omega (arith, length-append (texts_bytes how s) (flat_labels how ts)) in
+    ap (λ (gs : List FlatTarget). flat_target how n s ∷ gs)
+    (more-targets how (n + length (texts_bytes how s)) ts t ∙ ap (λ (k : ℕ). flat_targets how (n + length (texts_bytes how s)) ts ++ flat_target how k t ∷ []) e)
+
+pub one-more-written : (how : Decoding) (ts : List Texts) (t : Texts) (before between after : List ℕ) (rs : List Range) (targets : List FlatTarget) (r : Range) (target : FlatTarget)
+    → AreWritten how before ts rs targets → AreUtf8Texts t → IsAppendedText t.label before between r → IsTargetOf how t between after target
+    → AreWritten how after (ts ++ t ∷ []) (rs ++ r ∷ []) (targets ++ target ∷ [])
+one-more-written how ts t before between after rs targets r target all u label h =
+    let n : length before ≡ 0 + length (flat_labels how ts) = omega (arith, ap length all.labels_are) in
+    record {
+      flat = one-more-flat how ts t before between after rs targets r target all.flat u label h;
+      labels_are = written-bytes how t before between after r target label h ∙ ap (λ (xs : List ℕ). xs ++ texts_bytes how t) all.labels_are
+          ∙ sym (flat_map-append (texts_bytes how) ts (t ∷ []) ∙ ap (λ (xs : List ℕ). flat_labels how ts ++ xs) (append-nil (texts_bytes how t)));
+      ranges_are = ap (λ (xs : List Range). xs ++ r ∷ []) all.ranges_are
+          ∙ ap (λ (x : Range). flat_ranges how 0 ts ++ x ∷ []) (appended-is t.label before between r label ∙ ap (λ (k : ℕ). stretch k (length t.label)) n)
+          ∙ sym (more-ranges how 0 ts t);
+      targets_are = ap (λ (xs : List FlatTarget). xs ++ target ∷ []) all.targets_are
+          ∙ ap (λ (x : FlatTarget). flat_targets how 0 ts ++ x ∷ []) (written-target how t before between after r target label h ∙ ap (λ (k : ℕ). flat_target how k t) n)
+          ∙ sym (more-targets how 0 ts t);
+    }

@@ -1,5 +1,5 @@
 -- The HTML of contents, one after another.
-use Rattle.std.proofs.Common.{◌≡◌, ◌∙◌, sym, ap, subst, refl, ◌⊎◌, inl, inr, ℕ, ◌+◌, ◌<◌, Bool, true, false, ◌==◌, if◌then◌else◌, List, [], ◌∷◌, ◌++◌, get_or, length, map, take, arith, Option, None, Some, Result, Ok, Err, IsErrAnd, zero, suc}
+use Rattle.std.proofs.Common.{◌≡◌, ◌∙◌, sym, ap, subst, refl, ◌⊎◌, inl, inr, ℕ, ◌+◌, ◌<◌, ◌≤◌, Bool, true, false, ◌==◌, if◌then◌else◌, List, [], ◌∷◌, ◌++◌, get_or, length, map, take, arith, Option, None, Some, Result, Ok, Err, IsErrAnd, zero, suc}
 use Rattle.std.specs.List.{All}
 use Rattle.std.proofs.lemmas.Bool.{false≢true}
 use Rattle.std.proofs.lemmas.Bool.Decides.{Decides-eqb}
@@ -19,7 +19,7 @@ use Rattle.markdown_inline_c.specs.FlatHtml.{IsWithinLimit, defined_by, html_opt
 use Rattle.markdown_inline_c.specs.FlatInput.{replaces_nul}
 use Rattle.markdown_inline_c.specs.FlatHtmls.{AreWritable, IsHtmlFaultAt, Read, brought_to, brought_to_one, calls_of_one, html_of_each, html_of_one}
 use Rattle.markdown_inline_c.specs.FlatTexts.{IsTextAt, many_setting}
-use Rattle.markdown_inline_c.specs.HtmlsState.{IsOverspent, IsSpent, IsWriteFault, limit_of}
+use Rattle.markdown_inline_c.specs.HtmlsState.{IsOverspent, IsSpent, IsWriteFault}
 use Rattle.markdown_inline_c.specs.Many.{AreFound, AreHandedOut, EndsBy}
 use Rattle.markdown_inline_c.specs.Refusals.{blames, blames_none}
 use Rattle.markdown_inline_c.specs.declared.fault.Fault.{Fault}
@@ -34,34 +34,30 @@ use Rattle.markdown_inline_c.proofs.InTurn.{one_refused, out_of_memory}
 
 -- What is left of a limit.
 
-abbrev pub IsLeftBy : ℕ → Option ℕ → ℕ → Type 0
-IsLeftBy limit None n = limit ≡ 0
-IsLeftBy limit (Some l) n = (limit ≡ 0 → ⊥) × (l + n ≡ limit)
+abbrev pub IsLeftBy : (limit left : Option ℕ) → ℕ → Type 0
+IsLeftBy limit None n = limit ≡ None
+IsLeftBy limit (Some l) n = limit ≡ Some (l + n)
 
--- this is left once so many bytes are brought
-pub record IsLeft (limit : ℕ) (left : Option ℕ) (n : ℕ) : Type 0 where
+-- this is left once n bytes are brought
+pub record IsLeft (limit left : Option ℕ) (n : ℕ) : Type 0 where
   pub cases : IsLeftBy limit left n
 
-left-first : (limit : ℕ) → IsLeft limit (limit_of limit) 0
-left-first limit = record { cases = by-test (limit == 0) refl }
-  where
-    by-test : (x : Bool) → (limit == 0) ≡ x → IsLeftBy limit (if x then None else Some limit) 0
-    by-test true e = let d = Decides-eqb limit 0 in d.0 e
-    by-test false e = let d = Decides-eqb limit 0 in (λ z. false≢true (sym e ∙ d.1 z), omega arith)
+left-first : (limit : Option ℕ) → IsLeft limit limit 0
+left-first None = record { cases = refl }
+left-first (Some l) = record { cases = ap Some (omega arith) }
 
-left-more : (limit : ℕ) (left rest : Option ℕ) (n m : ℕ) → IsLeft limit left n → IsSpent left m rest → IsLeft limit rest (n + m)
+left-more : (limit left rest : Option ℕ) (n m : ℕ) → IsLeft limit left n → IsSpent left m rest → IsLeft limit rest (n + m)
 left-more limit None rest n m h spent = subst (λ x. IsLeft limit x (n + m)) (sym spent) (record { cases = h.cases })
 left-more limit (Some l) rest n m h spent =
-    subst (λ x. IsLeft limit x (n + m)) (sym spent.1) (record { cases = (h.cases.0, omega (arith, h.cases.1, spent.0)) })
+    subst (λ x. IsLeft limit x (n + m)) (sym spent.1) (record { cases = h.cases ∙ ap Some (omega (arith, spent.0)) })
 
-pub left-within : (limit : ℕ) (left : Option ℕ) (n : ℕ) → IsLeft limit left n → IsWithinLimit limit n
-left-within limit None n h = inl h.cases
-left-within limit (Some l) n h = inr (omega (arith, h.cases.1))
+pub left-within : (limit left : Option ℕ) (n : ℕ) → IsLeft limit left n → IsWithinLimit limit n
+left-within limit None n h = subst (λ x. IsWithinLimit x n) (sym h.cases) tt
+left-within limit (Some l) n h = subst (λ x. IsWithinLimit x n) (sym h.cases) (omega arith)
 
-past-limit : (limit : ℕ) (left : Option ℕ) (n m : ℕ) → IsLeft limit left n → IsOverspent left m → IsWithinLimit limit (n + m) → ⊥
+past-limit : (limit left : Option ℕ) (n m : ℕ) → IsLeft limit left n → IsOverspent left m → IsWithinLimit limit (n + m) → ⊥
 past-limit limit None n m h over within = over
-past-limit limit (Some l) n m h over (inl e) = h.cases.0 e
-past-limit limit (Some l) n m h over (inr e) = omega (arith, h.cases.1, over, e)
+past-limit limit (Some l) n m h over within = let le : n + m ≤ l + n = subst (λ x. IsWithinLimit x (n + m)) h.cases within in omega (arith, over, le)
 
 -- Trees, one after another.
 
@@ -89,15 +85,15 @@ each-take p before [] (suc n) = refl
 each-take p before (t ∷ trees) (suc n) = ap (λ xs. html_of_one p before t ∷ xs) (each-take p (calls_of_one p before t) trees n)
 
 -- what is handed out of the first contents, of which these are the trees, and what they leave to the next one
-pub record AreWritten (p : Page) (pieces : List FlatPiece) (tree : FlatContent → Read) (limit : ℕ) (contents : List FlatContent) (old array ends_old ends : List ℕ) (o : Outcome) (calls : List (List ℕ))
+pub record AreWritten (p : Page) (pieces : List FlatPiece) (tree : FlatContent → Read) (limit : Option ℕ) (contents : List FlatContent) (old array ends_old ends : List ℕ) (o : Outcome) (calls : List (List ℕ))
     (left : Option ℕ) (i : ℕ) : Type 0 where
   pub handed_out : AreHandedOut (html_of_each p [] (map tree (take i contents))) old array ends_old ends o
   pub calls_are : calls ≡ calls_after p [] (map tree (take i contents))
   pub texts : All (IsTextAt p.bytes pieces) (take i contents)
   pub is_left : IsLeft limit left (brought_to p (map tree (take i contents)))
 
-pub none_written : (p : Page) (pieces : List FlatPiece) (tree : FlatContent → Read) (limit : ℕ) (contents : List FlatContent) (old ends_old : List ℕ) (o : Outcome) (calls : List (List ℕ)) (left : Option ℕ)
-    → o.done ≡ 0 → o.count ≡ 0 → calls ≡ [] → left ≡ limit_of limit → AreWritten p pieces tree limit contents old old ends_old ends_old o calls left 0
+pub none_written : (p : Page) (pieces : List FlatPiece) (tree : FlatContent → Read) (limit : Option ℕ) (contents : List FlatContent) (old ends_old : List ℕ) (o : Outcome) (calls : List (List ℕ)) (left : Option ℕ)
+    → o.done ≡ 0 → o.count ≡ 0 → calls ≡ [] → left ≡ limit → AreWritten p pieces tree limit contents old old ends_old ends_old o calls left 0
 unfolding calls_after
 none_written p pieces tree limit contents old ends_old o calls left done count c l = record {
   handed_out = none_handed_out old ends_old o done count;
@@ -109,7 +105,7 @@ none_written p pieces tree limit contents old ends_old o calls left done count c
 pub is_next : (p : Page) (tree : FlatContent → Read) (contents : List FlatContent) (i : ℕ) → i < length contents → length (html_of_each p [] (map tree (take i contents))) ≡ i
 is_next p tree contents i h = each-length p [] (map tree (take i contents)) ∙ length-map (take i contents) tree ∙ length-take-le i contents (omega (arith, h))
 
-pub one_more : (p : Page) (pieces : List FlatPiece) (tree : FlatContent → Read) (limit : ℕ) (contents : List FlatContent) (written old array array' ends_old ends ends' : List ℕ) (o o' : Outcome)
+pub one_more : (p : Page) (pieces : List FlatPiece) (tree : FlatContent → Read) (limit : Option ℕ) (contents : List FlatContent) (written old array array' ends_old ends ends' : List ℕ) (o o' : Outcome)
     (calls calls' : List (List ℕ)) (left left' : Option ℕ) (i : ℕ) (d : FlatContent) → i < length contents → AreWritten p pieces tree limit contents old array ends_old ends o calls left i
     → IsTextAt p.bytes pieces (get_or contents i d) → written ≡ html_of_one p calls (tree (get_or contents i d)) → calls' ≡ calls_of_one p calls (tree (get_or contents i d))
     → IsSpent left (brought_to_one p (tree (get_or contents i d))) left' → AreHandedOut (html_of_each p [] (map tree (take i contents)) ++ written ∷ []) old array' ends_old ends' o'
@@ -132,7 +128,7 @@ one_more p pieces tree limit contents written old array array' ends_old ends end
 
 -- Where it ends.
 
-written-so-far : (p : Page) (pieces : List FlatPiece) (tree : FlatContent → Read) (limit : ℕ) (contents : List FlatContent) (old array ends_old ends : List ℕ) (o : Outcome) (calls : List (List ℕ))
+written-so-far : (p : Page) (pieces : List FlatPiece) (tree : FlatContent → Read) (limit : Option ℕ) (contents : List FlatContent) (old array ends_old ends : List ℕ) (o : Outcome) (calls : List (List ℕ))
     (left : Option ℕ) (i : ℕ) (Ends : ℕ → Type 0) → AreWritten p pieces tree limit contents old array ends_old ends o calls left i → Ends i
     → AreFound (html_of_each p [] (map tree contents)) old array ends_old ends o Ends
 written-so-far p pieces tree limit contents old array ends_old ends o calls left i Ends w h = record {
@@ -142,7 +138,7 @@ written-so-far p pieces tree limit contents old array ends_old ends o calls left
   ends_by = h;
 }
 
-pub all_written : (p : Page) (pieces : List FlatPiece) (tree : FlatContent → Read) (limit : ℕ) (contents : List FlatContent) (old array ends_old ends : List ℕ) (o : Outcome) (calls : List (List ℕ))
+pub all_written : (p : Page) (pieces : List FlatPiece) (tree : FlatContent → Read) (limit : Option ℕ) (contents : List FlatContent) (old array ends_old ends : List ℕ) (o : Outcome) (calls : List (List ℕ))
     (left : Option ℕ) (i : ℕ) → i ≡ length contents → AreWritten p pieces tree limit contents old array ends_old ends o calls left i
     → AreFound (html_of_each p [] (map tree contents)) old array ends_old ends o (λ read. EndsBy (AreWritable p pieces tree limit) (IsHtmlFaultAt p pieces tree limit) contents read (Ok (tt {0})))
 all_written p pieces tree limit contents old array ends_old ends o calls left i e w =
@@ -154,7 +150,7 @@ all_written p pieces tree limit contents old array ends_old ends o calls left i 
 brought-push : (p : Page) (tree : FlatContent → Read) (before : List FlatContent) (c : FlatContent) → brought_to p (map tree (before ++ c ∷ [])) ≡ brought_to p (map tree before) + brought_to_one p (tree c)
 brought-push p tree before c = ap (brought_to p) (map-append tree before (c ∷ [])) ∙ sum_by_push (brought_to_one p) (map tree before) (tree c)
 
-fault-behind : (p : Page) (pieces : List FlatPiece) (tree : FlatContent → Read) (limit : ℕ) (left : Option ℕ) (before : List FlatContent) (c : FlatContent) (fault : Fault)
+fault-behind : (p : Page) (pieces : List FlatPiece) (tree : FlatContent → Read) (limit : Option ℕ) (left : Option ℕ) (before : List FlatContent) (c : FlatContent) (fault : Fault)
     → IsLeft limit left (brought_to p (map tree before)) → IsWriteFault p pieces tree left c fault → (fault ≡ Fault.Memory) ⊎ IsHtmlFaultAt p pieces tree limit before c fault
 fault-behind p pieces tree limit left before c fault is_left (inl e) = inl e
 fault-behind p pieces tree limit left before c fault is_left (inr (inl h)) = inr (inl h)
@@ -163,7 +159,7 @@ fault-behind p pieces tree limit left before c fault is_left (inr (inr h)) =
     (inr
     (h.0, (h.1.0, λ within. past-limit limit left (brought_to p (map tree before)) (brought_to_one p (tree c)) is_left h.1.1 (subst (IsWithinLimit limit) (brought-push p tree before c) within))))
 
-pub next_refused : (p : Page) (pieces : List FlatPiece) (tree : FlatContent → Read) (limit : ℕ) (contents : List FlatContent) (old array ends_old ends : List ℕ) (o : Outcome) (calls : List (List ℕ))
+pub next_refused : (p : Page) (pieces : List FlatPiece) (tree : FlatContent → Read) (limit : Option ℕ) (contents : List FlatContent) (old array ends_old ends : List ℕ) (o : Outcome) (calls : List (List ℕ))
     (left : Option ℕ) (i : ℕ) (d : FlatContent) (fault : Fault) (r : Refusal) → i < length contents → AreWritten p pieces tree limit contents old array ends_old ends o calls left i
     → IsWriteFault p pieces tree left (get_or contents i d) fault → r ≡ blames fault i
     → AreFound (html_of_each p [] (map tree contents)) old array ends_old ends o (λ read. EndsBy {T = Unit {0}} (AreWritable p pieces tree limit) (IsHtmlFaultAt p pieces tree limit) contents read (Err r))
@@ -173,7 +169,7 @@ next_refused p pieces tree limit contents old array ends_old ends o calls left i
     (one_refused (AreWritable p pieces tree limit) (IsHtmlFaultAt p pieces tree limit) contents i d fault r h (w.texts, left-within limit left _ w.is_left)
     (fault-behind p pieces tree limit left (take i contents) (get_or contents i d) fault w.is_left refused) is)
 
-pub next_without_memory : (p : Page) (pieces : List FlatPiece) (tree : FlatContent → Read) (limit : ℕ) (contents : List FlatContent) (old array array' ends_old ends ends' : List ℕ) (o o' : Outcome)
+pub next_without_memory : (p : Page) (pieces : List FlatPiece) (tree : FlatContent → Read) (limit : Option ℕ) (contents : List FlatContent) (old array array' ends_old ends ends' : List ℕ) (o o' : Outcome)
     (calls : List (List ℕ)) (left : Option ℕ) (i : ℕ) (end : Result (Unit {0}) Refusal) → AreWritten p pieces tree limit contents old array ends_old ends o calls left i
     → (array' ≡ array) × ((ends' ≡ ends) × (o' ≡ o)) → IsErrAnd end (λ r. r ≡ blames_none Fault.Memory)
     → AreFound (html_of_each p [] (map tree contents)) old array' ends_old ends' o' (λ read. EndsBy (AreWritable p pieces tree limit) (IsHtmlFaultAt p pieces tree limit) contents read end)

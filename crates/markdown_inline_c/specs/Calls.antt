@@ -3,7 +3,7 @@ use Rattle.std.specs.Prelude.{ℕ, List, Result, length, map}
 use Rattle.std.specs.List.{All}
 use Rattle.markdown_event.specs.declared.event.Event.{Event}
 use Rattle.markdown_model.specs.Setting.{Setting}
-use Rattle.markdown_inline_c.specs.FlatHtml.{page}
+use Rattle.markdown_inline_c.specs.FlatHtml.{limit_in, page}
 use Rattle.markdown_inline_c.specs.FlatHtmls.{AreWritable, IsHtmlFaultAt, htmls_of, tree_at}
 use Rattle.markdown_inline_c.specs.FlatStrings.{AreStringOptions, IsStringAt, string_text, writing_by}
 use Rattle.markdown_inline_c.specs.FlatTexts.{AreTextsOptions, IsTextAt, many_setting, text_in}
@@ -35,8 +35,9 @@ abbrev pub EndHtmls : {T : Type 0} → Input → List FlatTarget → List FlatCo
 EndHtmls i targets contents options limit end read =
     let p = page i targets options in
     let tree = tree_at (many_setting i) i.pieces.now in
+    let most = limit_in limit (length i.bytes.now) in
     EndsByInput (IsReadyForHtml i targets contents options) (IsHtmlInputRefused i targets contents options)
-    (AreWritable p i.pieces.now tree limit) (IsHtmlFaultAt p i.pieces.now tree limit) contents read end
+    (AreWritable p i.pieces.now tree most) (IsHtmlFaultAt p i.pieces.now tree most) contents read end
 
 -- the HTML of each content
 abbrev pub AreHtmls : Input → List FlatTarget → List FlatContent → (options limit : ℕ) (old new ends_old ends_new : List ℕ) → Outcome → ℕ → Type 0

@@ -1,11 +1,12 @@
 -- Blocks of a document as a caller in C gets them (CommonMark 4 and 5).
 use Rattle.std.specs.Prelude.{◌≡◌, ◌<◌, ◌⊎◌, ◌+◌, ℕ, if◌then◌else◌, List, [], ◌∷◌, All, length, map, flat_map, None}
-use Rattle.markdown_block_definitions.specs.ResolvedRows.{IsTextRow}
+use Rattle.markdown_block_definitions.specs.ResolvedRows.{IsTextRow, IsLineRow}
+use Rattle.markdown_block_definitions.specs.RowPieces.{HasPieces}
 use Rattle.markdown_block_line.specs.declared.containers.Container.{Container}
 use Rattle.markdown_block_line.specs.declared.containers.Container.TheVariants.{Quote, Item}
 use Rattle.markdown_block_line.specs.declared.containers.Marker.TheVariants.{Bullet, Ordered}
 use Rattle.markdown_block_model.specs.BlockLines.{begins_of}
-use Rattle.markdown_block_model.specs.BlockTree.{nothing}
+use Rattle.markdown_block_model.specs.BlockTree.{no_extensions, nothing}
 use Rattle.markdown_block_model.specs.LinkDefinitions.{document_tree, has_text}
 use Rattle.markdown_blocks.specs.BlockRows.{rows_from}
 use Rattle.markdown_blocks.specs.NestedRows.{AreNested}
@@ -98,13 +99,16 @@ abbrev pub flat_pieces : List Row → List FlatPiece
 flat_pieces rows = map flat_piece (flat_map pieces_of_row rows)
 
 -- Of a document these are the blocks, with where each item stands in its list and on which line each block begins, and the pieces. The rows that they are
--- made of have its tree, each text of theirs is a text content, and each row stands at most one deeper than the container before it.
+-- made of have its tree, each text of theirs is a text content, each piece is of one line and stands where the codes of the tree do, and each row stands at most
+-- one deeper than the container before it.
 pub record AreBlocks (bytes : List ℕ) (blocks : List FlatBlock) (pieces : List FlatPiece) : Type 0 where
   pub rows : List Row
-  pub tree : rows_from bytes nothing rows ≡ document_tree bytes
+  pub tree : rows_from bytes nothing rows ≡ document_tree no_extensions bytes
   pub nested : AreNested 0 rows
   pub texts : All (IsTextRow bytes) rows
-  pub blocks_are : blocks ≡ flat_blocks 0 rows (places_in None (document_tree bytes)) (begins_of has_text bytes)
+  pub lines : All (IsLineRow bytes) rows
+  pub stand : All (HasPieces bytes) rows
+  pub blocks_are : blocks ≡ flat_blocks 0 rows (places_in None (document_tree no_extensions bytes)) (begins_of no_extensions has_text bytes)
   pub pieces_are : pieces ≡ flat_pieces rows
 
 -- What the call leaves.

@@ -1,6 +1,7 @@
 -- Definitions of a document as a caller in C gets them (CommonMark 4.7).
-use Rattle.std.specs.Prelude.{◌≡◌, ◌<◌, ◌⊎◌, ◌++◌, ◌∷◌, [], ℕ, if◌then◌else◌, List, length, map, Option, None, Some, option_map, is_some}
+use Rattle.std.specs.Prelude.{◌≡◌, ◌<◌, ◌⊎◌, ◌++◌, ◌∷◌, [], ℕ, ◌+◌, if◌then◌else◌, List, length, map, flat_map, Option, None, Some, option_map, is_some}
 use Rattle.markdown_block_definitions.specs.DefinitionTexts.{Texts, texts_in}
+use Rattle.markdown_block_model.specs.BlockTree.{no_extensions}
 use Rattle.markdown_block_model.specs.LinkDefinitions.{definitions}
 use Rattle.markdown_content.specs.KnownPlaces.{IsDocument}
 use Rattle.markdown_html_model.specs.Resolved.{decoding_of, resolved}
@@ -32,9 +33,66 @@ AreFlat how labels [] [] [] = Unit {0}
 AreFlat how labels (t ∷ ts) (r ∷ ranges) (target ∷ targets) = IsFlat how labels t r target × AreFlat how labels ts ranges targets
 AreFlat how labels ts ranges targets = ⊥
 
--- those of a document
+-- Their bytes, and where these stand: of each definition its label, its destination and its title, one behind another and nothing between.
+
+-- the title's text, if there is one
+abbrev pub title_bytes : Option (List ℕ) → List ℕ
+title_bytes None = []
+title_bytes (Some title) = title
+
+abbrev pub texts_bytes : Decoding → Texts → List ℕ
+texts_bytes how t = t.label ++ (resolved how t.destination ++ title_bytes (option_map (resolved how) t.title))
+
+abbrev pub flat_labels : Decoding → List Texts → List ℕ
+flat_labels how ts = flat_map (texts_bytes how) ts
+
+-- so many bytes, behind so many
+abbrev pub stretch : ℕ → ℕ → Range
+stretch before len = record { start = before; end = before + len }
+
+abbrev pub flat_target : Decoding → ℕ → Texts → FlatTarget
+flat_target how before t =
+    let destination = before + length t.label in
+    let title = destination + length (resolved how t.destination) in
+    record {
+      destination = stretch destination (length (resolved how t.destination));
+      title = stretch title (length (title_bytes (option_map (resolved how) t.title)));
+      has_title = if is_some t.title then 1 else 0;
+      reserved = 0;
+    }
+
+-- of definitions behind so many bytes
+abbrev pub flat_ranges : Decoding → ℕ → List Texts → List Range
+flat_ranges how before [] = []
+flat_ranges how before (t ∷ ts) = stretch before (length t.label) ∷ flat_ranges how (before + length (texts_bytes how t)) ts
+
+abbrev pub flat_targets : Decoding → ℕ → List Texts → List FlatTarget
+flat_targets how before [] = []
+flat_targets how before (t ∷ ts) = flat_target how before t ∷ flat_targets how (before + length (texts_bytes how t)) ts
+
+-- these and no others
+pub record AreWritten (how : Decoding) (labels : List ℕ) (ts : List Texts) (ranges : List Range) (targets : List FlatTarget) : Type 0 where
+  pub flat : AreFlat how labels ts ranges targets
+  pub labels_are : labels ≡ flat_labels how ts
+  pub ranges_are : ranges ≡ flat_ranges how 0 ts
+  pub targets_are : targets ≡ flat_targets how 0 ts
+
+-- Those of a document.
+
+abbrev pub texts_of_document : List ℕ → List Texts
+texts_of_document bytes = map texts_in (definitions no_extensions bytes)
+
+abbrev pub document_labels : List ℕ → List ℕ
+document_labels bytes = flat_labels (decoding_of commonmark) (texts_of_document bytes)
+
+abbrev pub document_ranges : List ℕ → List Range
+document_ranges bytes = flat_ranges (decoding_of commonmark) 0 (texts_of_document bytes)
+
+abbrev pub document_targets : List ℕ → List FlatTarget
+document_targets bytes = flat_targets (decoding_of commonmark) 0 (texts_of_document bytes)
+
 abbrev pub AreDefinitions : List ℕ → (labels : List ℕ) (ranges : List Range) (targets : List FlatTarget) → Type 0
-AreDefinitions bytes labels ranges targets = AreFlat (decoding_of commonmark) labels (map texts_in (definitions bytes)) ranges targets
+AreDefinitions bytes labels ranges targets = AreWritten (decoding_of commonmark) labels (texts_of_document bytes) ranges targets
 
 -- What the call leaves.
 
@@ -62,11 +120,8 @@ pub record AreDefinitionsHandedOut (labels labels_old labels_new : List ℕ) (ra
 -- the document is read, and its definitions are handed out
 pub record IsDefinitionsRead (bytes labels_old labels_new : List ℕ) (ranges_old ranges_new : List Range) (targets_old targets_new : List FlatTarget) (count : DefinitionsCount) (status : ℕ) : Type 0 where
   pub is_document : IsDocument bytes
-  pub labels : List ℕ
-  pub ranges : List Range
-  pub targets : List FlatTarget
-  pub are : AreDefinitions bytes labels ranges targets
-  pub handed_out : AreDefinitionsHandedOut labels labels_old labels_new ranges ranges_old ranges_new targets targets_old targets_new count status
+  pub flat : AreFlat (decoding_of commonmark) (document_labels bytes) (texts_of_document bytes) (document_ranges bytes) (document_targets bytes)
+  pub handed_out : AreDefinitionsHandedOut (document_labels bytes) labels_old labels_new (document_ranges bytes) ranges_old ranges_new (document_targets bytes) targets_old targets_new count status
 
 -- the document is read, or it is refused and nothing is written
 abbrev pub IsDefinitionsAnswer : (bytes labels_old labels_new : List ℕ) (ranges_old ranges_new : List Range) (targets_old targets_new : List FlatTarget) (count_old count_new : DefinitionsCount) (status : ℕ) → Type 0
@@ -81,11 +136,6 @@ pub record IsAppendedText (text before after : List ℕ) (r : Range) : Type 0 wh
   pub after_is : after ≡ before ++ text
   pub start_is : r.start ≡ length before
   pub end_is : r.end ≡ length after
-
--- the title's text, if there is one
-abbrev pub title_bytes : Option (List ℕ) → List ℕ
-title_bytes None = []
-title_bytes (Some title) = title
 
 -- a title that is there stands at the range of the target, which says that there is one
 pub record IsTitle (how : Decoding) (title : Option (List ℕ)) (before after : List ℕ) (target : FlatTarget) : Type 0 where

@@ -1,5 +1,5 @@
 -- What a caller in C hands in beside an input, and the HTML that it gets.
-use Rattle.std.specs.Prelude.{◌≡◌, ◌⊎◌, ℕ, ◌<◌, ◌≤◌, Bool, ◌==◌, if◌then◌else◌, IsTrue, List, [], ◌∷◌, length, Option, None, Some}
+use Rattle.std.specs.Prelude.{◌≡◌, ◌⊎◌, ℕ, ◌≤◌, max, bit_and, Bool, not, ◌&&◌, ◌==◌, if◌then◌else◌, IsTrue, List, [], ◌∷◌, length, Option, None, Some}
 use Rattle.std.specs.List.{All, list_all}
 use Rattle.markdown_content.specs.CommonMark.{rules_of}
 use Rattle.markdown_content.specs.Content.{content_of}
@@ -23,12 +23,19 @@ use Rattle.markdown_inline_c.specs.declared.flat.Range.{Range}
 abbrev pub reserve_nothing : List FlatTarget → Bool
 reserve_nothing targets = list_all (λ t. t.reserved == 0) targets
 
--- each bit is one of what may be written, and the reserved words of targets are 0
+-- each bit is one of raw HTML, any link, LF and CRLF, and line endings are not written both as LF and as CRLF
+abbrev pub is_known_for_html : ℕ → Bool
+is_known_for_html o = (bit_and o 0x63 == o) && not (has_option o 0x20 && has_option o 0x40)
+
+-- each bit is known, and the reserved words of targets are 0
 abbrev pub AreKnownForHtml : ℕ → List FlatTarget → Type 0
-AreKnownForHtml options targets = (options < 4) × IsTrue (reserve_nothing targets)
+AreKnownForHtml options targets = IsTrue (is_known_for_html options) × IsTrue (reserve_nothing targets)
+
+abbrev pub line_ends_of : ℕ → LineEnds
+line_ends_of o = if has_option o 0x20 then LineEnds.Lf else (if has_option o 0x40 then LineEnds.CrLf else LineEnds.Kept)
 
 abbrev pub html_options_of : ℕ → HtmlOptions
-html_options_of o = record { raw_html = has_option o 0x1; any_link = has_option o 0x2; line_ends = LineEnds.Kept }
+html_options_of o = record { raw_html = has_option o 0x1; any_link = has_option o 0x2; line_ends = line_ends_of o }
 
 -- Where definitions lead.
 
@@ -90,13 +97,18 @@ own_page i targets options = page_of_content (content_of i.bytes.now (pieces_of 
 abbrev pub html_of : Input → List FlatTarget → ℕ → List ℕ
 html_of i targets options = html (own_page i targets options) [] (tree_of i)
 
--- so many bytes are no more than the limit; 0 is no limit
-abbrev pub IsWithinLimit : ℕ → ℕ → Type 0
-IsWithinLimit limit n = (limit ≡ 0) ⊎ (n ≤ limit)
+-- the limit on what definitions bring to a document of this length: 0 is the default, the larger of 100000 and the length, and the highest number is no limit
+abbrev pub limit_in : (limit length : ℕ) → Option ℕ
+limit_in limit n = if limit == 0 then Some (max n 100000) else (if limit == 18446744073709551615 then None else Some limit)
+
+-- n is no more than the limit, if there is one
+abbrev pub IsWithinLimit : Option ℕ → ℕ → Type 0
+IsWithinLimit None n = Unit {0}
+IsWithinLimit (Some limit) n = n ≤ limit
 
 -- what definitions bring to the tree is no more than the limit
 abbrev pub IsBroughtWithin : Input → List FlatTarget → (options limit : ℕ) → Type 0
-IsBroughtWithin i targets options limit = IsWithinLimit limit (brought (own_page i targets options) (tree_of i))
+IsBroughtWithin i targets options limit = IsWithinLimit (limit_in limit (length i.bytes.now)) (brought (own_page i targets options) (tree_of i))
 
 -- an input that can be written as HTML
 pub record IsHtmlInput (i : Input) (targets : List FlatTarget) (options limit : ℕ) : Type 0 where

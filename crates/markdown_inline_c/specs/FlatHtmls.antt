@@ -1,5 +1,5 @@
 -- What a caller in C hands in to write many contents of one document as HTML, and what it gets.
-use Rattle.std.specs.Prelude.{◌≡◌, ◌⊎◌, ℕ, List, [], ◌∷◌, ◌++◌, map}
+use Rattle.std.specs.Prelude.{◌≡◌, ◌⊎◌, ℕ, List, [], ◌∷◌, ◌++◌, map, Option}
 use Rattle.std.specs.List.{All, sum_by}
 use Rattle.markdown_content.specs.Codes.{Code}
 use Rattle.markdown_content.specs.Content.{content_of}
@@ -53,11 +53,11 @@ brought_to p reads = sum_by (brought_to_one p) reads
 
 -- Contents that can be written, and one that cannot, where they are read so.
 
-abbrev pub AreWritable : Page → List FlatPiece → (FlatContent → Read) → ℕ → List FlatContent → Type 0
+abbrev pub AreWritable : Page → List FlatPiece → (FlatContent → Read) → Option ℕ → List FlatContent → Type 0
 AreWritable p pieces tree limit contents = All (IsTextAt p.bytes pieces) contents × IsWithinLimit limit (brought_to p (map tree contents))
 
 -- it is no text, or definitions bring more than the limit to it with those before it
-abbrev pub IsHtmlFaultAt : Page → List FlatPiece → (FlatContent → Read) → ℕ → List FlatContent → FlatContent → Fault → Type 0
+abbrev pub IsHtmlFaultAt : Page → List FlatPiece → (FlatContent → Read) → Option ℕ → List FlatContent → FlatContent → Fault → Type 0
 IsHtmlFaultAt p pieces tree limit before at fault =
     IsContentAtFault p.bytes pieces at fault
     ⊎ ((fault ≡ Fault.References) × (IsTextAt p.bytes pieces at × (IsWithinLimit limit (brought_to p (map tree (before ++ at ∷ []))) → ⊥)))

@@ -1,5 +1,5 @@
 -- What functions promise each other where many contents are written as HTML.
-use Rattle.std.specs.Prelude.{◌≡◌, ◌⊎◌, ℕ, ◌-◌, ◌<◌, ◌≤◌, ◌==◌, if◌then◌else◌, List, [], Option, None, Some}
+use Rattle.std.specs.Prelude.{◌≡◌, ◌⊎◌, ℕ, ◌-◌, ◌<◌, ◌≤◌, List, [], Option, None, Some}
 use Rattle.markdown_content.specs.declared.parser.Piece.{Piece}
 use Rattle.markdown_html.specs.View.{page_from}
 use Rattle.markdown_html_model.specs.Html.{Page}
@@ -23,10 +23,6 @@ page_within g pieces = page_from g.contents.document.now pieces g.definitions.no
 
 abbrev pub setting : Given → Setting
 setting g = setting_of g.contents.document.now
-
--- the limit by its number, where 0 is none
-abbrev pub limit_of : ℕ → Option ℕ
-limit_of limit = if limit == 0 then None else Some limit
 
 -- what is left where so many bytes more are brought, if that is within the limit; where there is no limit it is none
 abbrev pub IsSpent : Option ℕ → ℕ → Option ℕ → Type 0

@@ -24,4 +24,4 @@ pub record IsWhole (bytes : List ℕ) (options : ℕ) (i : Input) : Type 0 where
 pub record IsAnswerOfWhole (bytes : List ℕ) (options html_options : ℕ) (old new : List ℕ) (count_old count_new status : ℕ) : Type 0 where
   pub input : Input
   pub is_whole : IsWhole bytes options input
-  pub is_answer : IsAnswer (html_of input [] html_options) (IsHtmlInput input [] html_options 0) (IsHtmlFault input [] html_options 0) old new count_old count_new status
+  pub is_answer : IsAnswer (html_of input [] html_options) (IsHtmlInput input [] html_options 18446744073709551615) (IsHtmlFault input [] html_options 18446744073709551615) old new count_old count_new status

@@ -4,7 +4,7 @@ ghost use Rattle.std.specs.Prelude.{◌≡◌, ◌++◌, ◌∷◌, [], List, Al
 ghost use Rattle.markdown_block_definitions.specs.DefinitionTexts.{Texts, HasUtf8Texts, texts_of};
 ghost use Rattle.markdown_content.specs.KnownPlaces.{IsDocument};
 ghost use Rattle.markdown_html_model.specs.Resolved.{resolved};
-ghost use Rattle.markdown_inline_c.specs.FlatDefinitions.{AreDefinitions, AreDefinitionsHandedOut, AreFlat, IsAppendedText, IsTargetOf};
+ghost use Rattle.markdown_inline_c.specs.FlatDefinitions.{AreDefinitions, AreDefinitionsHandedOut, AreWritten, IsAppendedText, IsTargetOf};
 ghost use Rattle.markdown_inline_c.specs.Statuses.{IsReadFault, fault_status};
 
 use crate::answer::write_front;
@@ -88,8 +88,8 @@ impl FoundDefinitions {
         how: Decoding,
         definition: &Definition,
     ) -> Result<(), AllocError>
-        ensures { OnOk result ((ts : List Texts) → HasUtf8Texts definition.now → AreFlat how self.old.labels.items ts self.old.definitions.items self.old.targets.items
-            → AreFlat how self.new.labels.items (ts ++ texts_of definition.now ∷ []) self.new.definitions.items self.new.targets.items) }
+        ensures { OnOk result ((ts : List Texts) → HasUtf8Texts definition.now → AreWritten how self.old.labels.items ts self.old.definitions.items self.old.targets.items
+            → AreWritten how self.new.labels.items (ts ++ texts_of definition.now ∷ []) self.new.definitions.items self.new.targets.items) }
     {
         let label = push_label(&mut self.labels, definition.label.as_slice())?;
         let target = push_target(alloc, &mut self.labels, how, definition)?;
@@ -106,7 +106,7 @@ fn flat_definitions(
     definitions: &[Definition],
 ) -> Result<FoundDefinitions, AllocError>
     requires { All HasUtf8Texts definitions.now }
-    ensures { IfOk result (λ found. AreFlat how found.labels.items (map texts_of definitions.now) found.definitions.items found.targets.items) }
+    ensures { IfOk result (λ found. AreWritten how found.labels.items (map texts_of definitions.now) found.definitions.items found.targets.items) }
 {
     let mut found = FoundDefinitions {
         labels: Vec::new(alloc),

@@ -53,6 +53,22 @@ pub struct Input<'a> {
     pub reserved: u32,
 }
 
+/// How a document is read and written. All zero is CommonMark, safe HTML, and the default limit.
+#[repr(C)]
+#[derive(Clone, Copy, Debug, PartialEq, Eq)]
+pub struct DocumentOptions {
+    /// What is looked for, by the bits of an input; 0 is CommonMark. That a text is the first of an item is not among them, nor are footnotes.
+    pub options: u32,
+    /// What HTML may hold, and how it is written, each by a bit.
+    pub html: u32,
+    /// Nothing: both have to be 0.
+    pub reserved: [u32; 2],
+    /// How many bytes references may expand to: 0 is the default, and `usize::MAX` is no limit.
+    pub limit: usize,
+    /// Nothing: each has to be 0.
+    pub reserved_words: [usize; 13],
+}
+
 /// The beginning or the end of something in a document.
 #[repr(C)]
 #[derive(Clone, Copy, Debug, PartialEq, Eq)]

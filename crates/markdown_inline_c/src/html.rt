@@ -7,7 +7,7 @@ ghost use Rattle.markdown_content.specs.Tree.{Forest, events_of};
 ghost use Rattle.markdown_html.specs.Brought.{brought};
 ghost use Rattle.markdown_html.specs.DefinitionView.{defined_of};
 ghost use Rattle.markdown_html.specs.View.{page_from};
-ghost use Rattle.markdown_inline_c.specs.FlatHtml.{AreKnownForHtml, AreTargets, IsHtmlInput, IsTarget, IsTitleRange, IsWithinLimit, defined_at, defined_by, definitions_in, html_of, html_options_of, reserve_nothing, title_of};
+ghost use Rattle.markdown_inline_c.specs.FlatHtml.{AreKnownForHtml, AreTargets, IsHtmlInput, IsTarget, IsTitleRange, IsWithinLimit, defined_at, defined_by, definitions_in, html_of, html_options_of, is_known_for_html, limit_in, line_ends_of, reserve_nothing, title_of};
 ghost use Rattle.markdown_inline_c.specs.FlatInput.{IsLabelRange, range_bytes};
 ghost use Rattle.markdown_inline_c.specs.Statuses.{IsFaultUnless, IsHtmlFault, IsTargetsFault};
 ghost use Rattle.markdown_inline_c.specs.declared.fault.Fault.TheVariants.{Definition as NoDefinition, References, UnknownOption};
@@ -27,8 +27,16 @@ use markdown_html_model::options::{Definition, HtmlOptions, LineEnds};
 use markdown_util::util::normalize_identifier::identifier_by;
 use std::alloc::{AllocError, Global};
 
-// The lowest number with a bit that says nothing of HTML.
-const UNKNOWN_OPTION: u32 = 0x4;
+// The bits that say what HTML may hold, and how it is written.
+const HTML_BITS: u32 = 0x63;
+
+// The bits by which each line ending is written as a line feed, and as a carriage return and a line feed.
+const LF: u32 = 0x20;
+
+const CRLF: u32 = 0x40;
+
+// The limit by default, where the document is not longer: that of cmark.
+const LEAST_DEFAULT_LIMIT: usize = 100_000;
 
 // Whether the reserved words of targets are 0.
 fn reserve_nothing(targets: &[FlatTarget]) -> bool
@@ -37,19 +45,56 @@ fn reserve_nothing(targets: &[FlatTarget]) -> bool
     targets.iter().all(|target| target.reserved == 0)
 }
 
+// Whether each bit says something of HTML, and line endings are not written in two ways.
+fn is_known(options: u32) -> bool
+    ensures { result ≡ is_known_for_html options }
+{
+    options & HTML_BITS == options && !(has_option(options, LF) && has_option(options, CRLF))
+}
+
+fn line_ends_of(options: u32) -> LineEnds
+    ensures { result ≡ line_ends_of options }
+{
+    if has_option(options, LF) {
+        LineEnds::Lf
+    } else if has_option(options, CRLF) {
+        LineEnds::CrLf
+    } else {
+        LineEnds::Kept
+    }
+}
+
+// What the bits let be written, and how.
+pub(crate) fn html_options_of(options: u32) -> HtmlOptions
+    ensures { result ≡ html_options_of options }
+{
+    HtmlOptions {
+        raw_html: has_option(options, 0x1),
+        any_link: has_option(options, 0x2),
+        line_ends: line_ends_of(options),
+    }
+}
+
 // What the bits let be written, if each bit is known, and if the reserved words of targets are 0.
 pub(crate) fn known_options(options: u32, targets: &[FlatTarget]) -> Result<HtmlOptions, Fault>
     ensures ok { IfOk result (λ found. AreKnownForHtml options targets.now × (found ≡ html_options_of options)) }
     ensures err { IfErr result (λ fault. (fault ≡ UnknownOption) × (AreKnownForHtml options targets.now → ⊥)) }
 {
-    if options >= UNKNOWN_OPTION || !reserve_nothing(targets) {
+    if !is_known(options) || !reserve_nothing(targets) {
         return Err(Fault::UnknownOption);
     }
-    Ok(HtmlOptions {
-        raw_html: has_option(options, 0x1),
-        any_link: has_option(options, 0x2),
-        line_ends: LineEnds::Kept,
-    })
+    Ok(html_options_of(options))
+}
+
+// How many bytes references may expand to in a document of this length, if there is a limit: 0 is the default, and `usize::MAX` is none.
+pub(crate) fn limit_in(limit: usize, len: usize) -> Option<usize>
+    ensures { result ≡ limit_in limit len }
+{
+    match limit {
+        0 => Some(len.max(LEAST_DEFAULT_LIMIT)),
+        usize::MAX => None,
+        _ => Some(limit),
+    }
 }
 
 // The text at a range of the labels.
@@ -160,7 +205,7 @@ pub(crate) fn definitions(
     definitions_of(alloc, input.labels, input.definitions, targets, replaced)
 }
 
-// Whether definitions bring no more bytes than the limit to the tree of these events, or that they bring more; 0 is no limit.
+// Whether definitions bring no more bytes than the limit to the tree of these events, or that they bring more.
 fn check_limit(
     alloc: Global,
     parse_state: &ParseState,
@@ -168,7 +213,7 @@ fn check_limit(
     events: &EventSlice,
     definitions: &Targets,
     options: HtmlOptions,
-    limit: usize,
+    limit: Option<usize>,
 ) -> Result<(), Fault>
     requires content { IsContent parse_state.now.bytes.now pieces.now }
     ensures ok { let page = page_from parse_state.now pieces.now definitions.now options in
@@ -176,9 +221,9 @@ fn check_limit(
     ensures err { let page = page_from parse_state.now pieces.now definitions.now options in
         (t : Forest) → events.now ≡ events_of t → IfErr result (IsFaultUnless References (IsWithinLimit limit (brought page t))) }
 {
-    if limit == 0 {
+    let Some(limit) = limit else {
         return Ok(());
-    }
+    };
     let is_within = is_within_limit(
         alloc,
         parse_state,
@@ -226,7 +271,7 @@ pub fn html(
         &events,
         &definitions,
         allowed,
-        limit,
+        limit_in(limit, input.bytes.len()),
     )?;
     let calls = &mut FootnoteCalls::new(alloc);
     Ok(to_html(

@@ -13,7 +13,7 @@ ghost use Rattle.markdown_inline_c.specs.FlatHtml.{AreTargets, IsTarget, definit
 ghost use Rattle.markdown_inline_c.specs.FlatHtmls.{AreWritable, IsHtmlFaultAt, brought_to_one, calls_of_one, html_of_each, html_of_one, htmls_of, tree_at};
 ghost use Rattle.markdown_inline_c.specs.FlatInput.{IsLabelRange};
 ghost use Rattle.markdown_inline_c.specs.FlatTexts.{IsTextAt};
-ghost use Rattle.markdown_inline_c.specs.HtmlsState.{IsSpendFault, IsSpent, IsWriteFault, limit_of, page_of, page_within, setting};
+ghost use Rattle.markdown_inline_c.specs.HtmlsState.{IsSpendFault, IsSpent, IsWriteFault, page_of, page_within, setting};
 ghost use Rattle.markdown_inline_c.specs.Many.{AreFound, EndsBy};
 ghost use Rattle.markdown_inline_c.specs.Refusals.{AreAllKnown, AreTargetsRefused, IsFirstOther, blames_none};
 ghost use Rattle.markdown_inline_c.specs.declared.fault.Fault.TheVariants.{Memory, UnknownOption};
@@ -21,7 +21,7 @@ ghost use Rattle.markdown_inline_c.specs.declared.fault.Fault.TheVariants.{Memor
 use crate::contents::{Contents, check_input, prepared, texts_options};
 use crate::fault::Fault;
 use crate::flat::{FlatContent, FlatTarget, Input};
-use crate::html::{self, definitions};
+use crate::html::{self, definitions, limit_in};
 use crate::input::text_of;
 use crate::outcome::Outcome;
 use crate::refusal::Refusal;
@@ -82,22 +82,15 @@ fn spend(
     }
 }
 
-// The limit by its number, where 0 is none.
-pub(crate) fn limit_of(limit: usize) -> Option<usize>
-    ensures { result ≡ limit_of limit }
-{
-    if limit == 0 { None } else { Some(limit) }
-}
-
 impl Carried {
-    // What there is before the first content, where definitions may bring so many bytes; 0 is no limit.
-    fn nothing(alloc: Global, limit: usize) -> Carried
+    // What there is before the first content, where definitions may bring no more than the limit.
+    fn nothing(alloc: Global, limit: Option<usize>) -> Carried
         ensures calls { result.calls ≡ [] }
-        ensures left { result.left ≡ limit_of limit }
+        ensures left { result.left ≡ limit }
     {
         Carried {
             calls: FootnoteCalls::new(alloc),
-            left: limit_of(limit),
+            left: limit,
         }
     }
 
@@ -162,7 +155,7 @@ fn write_all(
     alloc: Global,
     given: &Given,
     contents: &[FlatContent],
-    limit: usize,
+    limit: Option<usize>,
     html: &mut [u8],
     ends: &mut [usize],
     outcome: &mut Outcome,
@@ -283,5 +276,6 @@ pub fn htmls(
         definitions: &definitions,
         options: allowed,
     };
+    let limit = limit_in(limit, input.bytes.len());
     write_all(alloc, &given, contents, limit, html, ends, outcome)
 }

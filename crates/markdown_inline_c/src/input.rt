@@ -20,7 +20,7 @@ use markdown_util::util::normalize_identifier::identifier_by;
 use std::alloc::{AllocError, Global};
 
 // The bit that says that the text is the first of a list item.
-const FIRST_OF_ITEM: u32 = 0x10_0000;
+pub(crate) const FIRST_OF_ITEM: u32 = 0x10_0000;
 
 // What is asked for, if each bit is one of an option.
 pub(crate) fn known_options(options: u32) -> Result<ParseOptions, Fault>

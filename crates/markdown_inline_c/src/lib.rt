@@ -12,14 +12,13 @@ ghost use Rattle.markdown_inline_c.specs.FlatInput.{pieces_of, IsStringInput, Is
 ghost use Rattle.markdown_inline_c.specs.FlatEvents.{flat_event, string_events_of, text_events_of};
 ghost use Rattle.markdown_model.specs.InlineTree.{string_events, text_events};
 ghost use Rattle.markdown_inline_c.specs.FlatInput.{pieces_of, string_setting, text_setting, IsStringInput, IsTextInput};
-ghost use Rattle.markdown_page_model.specs.PageHtml.{document_html};
-ghost use Rattle.markdown_inline_c.specs.FlatDocuments.{IsDocumentInput, IsDocumentHtmlFault};
+ghost use Rattle.markdown_inline_c.specs.FlatDocuments.{IsDocumentAnswer};
 ghost use Rattle.markdown_inline_c.specs.FlatEvents.{flat_event};
 ghost use Rattle.markdown_inline_c.specs.FlatBlocks.{IsBlocksAnswer};
 ghost use Rattle.markdown_inline_c.specs.FlatDefinitions.{IsDefinitionsAnswer};
 ghost use Rattle.markdown_inline_c.specs.ShortEvents.{short_events};
 ghost use Rattle.markdown_inline_c.specs.FlatLeaves.{leaves_of};
-ghost use Rattle.markdown_inline_c.specs.FlatHtml.{html_of, html_options_of, IsHtmlInput};
+ghost use Rattle.markdown_inline_c.specs.FlatHtml.{html_of, IsHtmlInput};
 ghost use Rattle.markdown_inline_c.specs.FlatLines.{AreLinePieces};
 ghost use Rattle.markdown_inline_c.specs.References.{IsReference, reference_text};
 ghost use Rattle.markdown_inline_c.specs.Answers.{IsAnswer, IsTested};
@@ -54,9 +53,10 @@ pub mod texts;
 use answer::answer;
 use blocks::{answer_blocks, found_blocks};
 use definitions::{answer_definitions, found_definitions};
+use document::write_document_html;
 use flat::{
-    BlocksCount, DefinitionsCount, FlatBlock, FlatContent, FlatEvent, FlatLeaf, FlatPiece,
-    FlatTarget, Input, Range, ShortEvent,
+    BlocksCount, DefinitionsCount, DocumentOptions, FlatBlock, FlatContent, FlatEvent, FlatLeaf,
+    FlatPiece, FlatTarget, Input, Range, ShortEvent,
 };
 use form::{Large, Short};
 use htmls::htmls;
@@ -260,11 +260,12 @@ pub extern "C" fn markdown_inline_short_texts(
 /// contents.
 ///
 /// Where each definition of the input leads is told by the target of the same number. The bits of `options` are 0x1, by which raw HTML is written as it
-/// stands and not as text, and 0x2, by which links lead wherever they say and not to listed schemes alone.
+/// is and not as text; 0x2, by which links lead wherever they say and not to listed schemes alone; and 0x20 or 0x40, by which each line ending is written as a
+/// line feed, or as a carriage return and a line feed.
 ///
 /// A definition brings the bytes of its destination and of its title, as the target has them, to each link and image that refers to it. Where
-/// definitions bring more than `limit` bytes, the status is 11; 0 is no limit. That is found out before the HTML is written, which would grow with the
-/// square of the document without a limit.
+/// definitions bring more than `limit` bytes, the status is 11: 0 is the default, which is the larger of 100,000 and the length of the document, and
+/// `usize::MAX` is no limit. That is found out before the HTML is written, which would grow with the square of the document without a limit.
 ///
 /// With status 0 the HTML, in UTF-8, stands at the front of `html`, and `count` is how many bytes it has. With status 6 `count` is that too, and
 /// they are more than there is room for. The status is 8 too where a target is no text of the labels, or where there is not one target for each
@@ -335,32 +336,29 @@ pub extern "C" fn markdown_inline_html_of(
 {
     let pieces = [whole_piece(bytes)];
     let input = whole_input(bytes, &pieces, options);
-    markdown_inline_html(alloc, &input, &[], html_options, 0, html, count)
+    markdown_inline_html(alloc, &input, &[], html_options, usize::MAX, html, count)
 }
 
 /// The HTML of a document: of its blocks and of what is inside them, by CommonMark 0.31.2. No text becomes markup and no link leads to a script, unless
-/// the options say otherwise; they are those of `markdown_inline_html`.
+/// the options say otherwise.
 ///
-/// Where definitions bring more than `limit` bytes to all texts of the document together, the status is 11; 0 is no limit.
+/// Of the options, `options` are those of an input: 0 is CommonMark, and neither the first of an item nor footnote calls can be asked for. `html` and `limit` are
+/// those of `markdown_inline_html`; the limit is for what definitions bring to all texts of the document together. The reserved words are 0.
 ///
-/// With status 0 the HTML, in UTF-8, stands at the front of `html`, and `count` is how many bytes it has. With status 6 `count` is that too, and
-/// they are more than there is room for. The status is 2, 9, 3, 11 or 5 too. Nothing else is written.
+/// With status 0 the HTML, in UTF-8, is at the front of `html`; `count` of the outcome is how many bytes it has, and `done` is 1. With status 6 `count` is that
+/// too, and they are more than there is room for. The status is that of the first thing that is wrong, in the order 2, 9, 3, 11; or it is 5. With status 3 the
+/// outcome blames the first byte that is not UTF-8; else nothing is to blame, and the number is `usize::MAX`. Nothing else is written.
 #[unsafe(no_mangle)]
 pub extern "C" fn markdown_inline_document_html(
     alloc: Global,
     bytes: &[u8],
-    html_options: u32,
-    limit: usize,
+    options: &DocumentOptions,
     html: &mut [u8],
-    count: &mut usize,
+    outcome: &mut Outcome,
 ) -> u32
-    ensures { IsAnswer (document_html (html_options_of html_options) bytes.now) (IsDocumentInput bytes.now html_options limit) (IsDocumentHtmlFault bytes.now html_options limit) html.old html.new count.old count.new result }
+    ensures { IsDocumentAnswer bytes.now options.now html.old html.new outcome.new result }
 {
-    answer(
-        document::document_html(alloc, bytes, html_options, limit),
-        html,
-        count,
-    )
+    write_document_html(alloc, bytes, options, html, outcome)
 }
 
 /// The texts of strings, one after another, with escaped punctuation in place of its escape, and in place of each character reference its text

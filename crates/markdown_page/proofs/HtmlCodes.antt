@@ -15,9 +15,9 @@ use Rattle.markdown_block_definitions.specs.TextReadings.{is_first, firsts_of}
 use Rattle.markdown_block_definitions.specs.TextCopies.{IsSpot, IsRead, IsPlainRun, codes_left, point_of, spot_place}
 use Rattle.markdown_block_definitions.specs.declared.copy.Spot.{Spot}
 use Rattle.markdown_block_model.specs.LineRests.{lines_of, onto_line}
-use Rattle.markdown_html_model.specs.Escaped.{escaped}
-use Rattle.markdown_html_model.specs.Html.{Page, line_ending}
-use Rattle.markdown_page_model.specs.PageTexts.{text_of, is_later_column, ending, own_ending, line_html, lines_html}
+use Rattle.markdown_html_model.specs.Escaped.{escaped, replaced}
+use Rattle.markdown_html_model.specs.Html.{Page}
+use Rattle.markdown_page_model.specs.PageTexts.{text_of, is_later_column, ending, own_ending, line_html, lines_html, block_ending}
 use Rattle.markdown_page.specs.CodeLines.{text_as, kept}
 use Rattle.markdown_page.specs.LinesByCode.{lines_from}
 use Rattle.markdown_page.specs.declared.html.Line.{Line}
@@ -120,7 +120,7 @@ text-more (x ∷ xs) c = by_bool (is_later_column x)
 -- Lines.
 
 nothing-as : (raw : Bool) → text_as raw [] ≡ []
-unfolding escaped
+unfolding escaped replaced
 nothing-as true = refl
 nothing-as false = refl
 
@@ -146,13 +146,13 @@ module _ (p : Page) (raw : Bool) where
       ∙ ap (λ (ys : List Code). text_as raw (text_of ys) ++ own_ending p) (append-nil xs)
 
   ended : (xs : List Code) (c : Code) → has_no_ending xs ≡ true → is_line_ending c ≡ true
-      → line_html p (text_as raw) (xs ++ c ∷ []) ≡ text_as raw (text_of xs) ++ line_ending p.options.line_ends (slice_range p.bytes c.start.index c.stop.index)
+      → line_html p (text_as raw) (xs ++ c ∷ []) ≡ text_as raw (text_of xs) ++ block_ending p (slice_range p.bytes c.start.index c.stop.index)
   ended xs c e f =
       ap (λ (s : List Code × List Code). text_as raw (text_of s.0) ++ ending p s.1) (ended-line xs (c ∷ []) e ∙ ap (λ (s : List Code × List Code). (xs ++ s.0, s.1)) (span-stop (λ d. not (is_line_ending d)) c [] (ap not f)))
-      ∙ ap (λ (ys : List Code). text_as raw (text_of ys) ++ line_ending p.options.line_ends (slice_range p.bytes c.start.index c.stop.index)) (append-nil xs)
+      ∙ ap (λ (ys : List Code). text_as raw (text_of ys) ++ block_ending p (slice_range p.bytes c.start.index c.stop.index)) (append-nil xs)
 
   from-ended : (line : Line) (c : Code) (cs : List Code) → is_line_ending c ≡ true
-      → lines_from p raw line (c ∷ cs) ≡ line_ending p.options.line_ends (slice_range p.bytes c.start.index c.stop.index) ++ lines_from p raw fresh cs
+      → lines_from p raw line (c ∷ cs) ≡ block_ending p (slice_range p.bytes c.start.index c.stop.index) ++ lines_from p raw fresh cs
   from-ended line c cs e = rw e refl
 
   from-other : (line : Line) (c : Code) (cs : List Code) → is_line_ending c ≡ false
@@ -168,7 +168,7 @@ module _ (p : Page) (raw : Bool) where
     where
       at-ending : is_line_ending c ≡ true → IsWrittenByCode (c ∷ cs)
       at-ending e =
-          let here : List ℕ = line_ending p.options.line_ends (slice_range p.bytes c.start.index c.stop.index) in (
+          let here : List ℕ = block_ending p (slice_range p.bytes c.start.index c.stop.index) in (
             ap whole (lines-ending c cs e) ∙ ap (λ (x : List ℕ). x ++ whole (lines_of cs)) (ended [] c refl e) ∙ ap (λ (x : List ℕ). (x ++ here) ++ whole (lines_of cs)) (nothing-as raw)
                 ∙ ap (λ (x : List ℕ). here ++ x) more.0 ∙ sym (from-ended fresh c cs e),
             λ xs f.
@@ -209,7 +209,7 @@ module _ (p : Page) (raw : Bool) where
   -- one code
   pub ending-written : (bytes : List ℕ) (s t : Spot) (value : ℕ) (line : Line) (cs : List Code) (before after : List ℕ) → bytes ≡ p.bytes → IsSpot bytes s → s.index < length bytes → is_line_ending_byte (get_or bytes s.index 0) ≡ true
       → (r : IsRead bytes s value t)
-      → after ≡ before ++ line_ending p.options.line_ends (slice_range bytes s.index (s.index + line_ending_len (get_or bytes s.index 0) (drop (s.index + 1) bytes)))
+      → after ≡ before ++ block_ending p (slice_range bytes s.index (s.index + line_ending_len (get_or bytes s.index 0) (drop (s.index + 1) bytes)))
       → after ++ lines_from p raw fresh cs ≡ before ++ lines_from p raw line (r.code ∷ cs)
   ending-written bytes s t value line cs before after e h lt b r w =
       let q : Point = point_of s h.line h.column in
@@ -218,13 +218,13 @@ module _ (p : Page) (raw : Bool) where
       let ends : is_line_ending r.code ≡ true = ap is_line_ending same ∙ rw b refl in
       let start : r.code.start.index ≡ s.index = ap (λ (c : Code). c.start.index) same in
       let stop : r.code.stop.index ≡ s.index + line_ending_len (get_or bytes s.index 0) (drop (s.index + 1) bytes) = ap (λ (c : Code). c.stop.index) same ∙ rw b refl in
-      let text : line_ending p.options.line_ends (slice_range bytes s.index (s.index + line_ending_len (get_or bytes s.index 0) (drop (s.index + 1) bytes)))
-      ≡ line_ending p.options.line_ends (slice_range p.bytes r.code.start.index r.code.stop.index) =
-      ap (λ (n : ℕ). line_ending p.options.line_ends (slice_range bytes n (s.index + line_ending_len (get_or bytes s.index 0) (drop (s.index + 1) bytes)))) (sym start)
-      ∙ ap (λ (n : ℕ). line_ending p.options.line_ends (slice_range bytes r.code.start.index n)) (sym stop)
-      ∙ ap (λ (bs : List ℕ). line_ending p.options.line_ends (slice_range bs r.code.start.index r.code.stop.index)) e in
+      let text : block_ending p (slice_range bytes s.index (s.index + line_ending_len (get_or bytes s.index 0) (drop (s.index + 1) bytes)))
+      ≡ block_ending p (slice_range p.bytes r.code.start.index r.code.stop.index) =
+      ap (λ (n : ℕ). block_ending p (slice_range bytes n (s.index + line_ending_len (get_or bytes s.index 0) (drop (s.index + 1) bytes)))) (sym start)
+      ∙ ap (λ (n : ℕ). block_ending p (slice_range bytes r.code.start.index n)) (sym stop)
+      ∙ ap (λ (bs : List ℕ). block_ending p (slice_range bs r.code.start.index r.code.stop.index)) e in
       ap (λ (x : List ℕ). x ++ lines_from p raw fresh cs) (w ∙ ap (λ (x : List ℕ). before ++ x) text)
-      ∙ append_assoc before (line_ending p.options.line_ends (slice_range p.bytes r.code.start.index r.code.stop.index)) (lines_from p raw fresh cs)
+      ∙ append_assoc before (block_ending p (slice_range p.bytes r.code.start.index r.code.stop.index)) (lines_from p raw fresh cs)
       ∙ ap (λ (x : List ℕ). before ++ x) (sym (from-ended line r.code cs ends))
 
   pub other-written : (bytes : List ℕ) (s t : Spot) (value : ℕ) (line : Line) (leading : Bool) (cs : List Code) (before after : List ℕ) → IsSpot bytes s → s.index < length bytes → is_line_ending_byte (get_or bytes s.index 0) ≡ false

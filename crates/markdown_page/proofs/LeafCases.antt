@@ -8,7 +8,7 @@ use Rattle.markdown_html_model.specs.Html.{Page}
 use Rattle.markdown_blocks.specs.BlockRows.{leaf_of}
 use Rattle.markdown_blocks.specs.declared.block.Leaf.{Leaf}
 use Rattle.markdown_blocks.specs.declared.block.Leaf.TheVariants.{Blank, ThematicBreak, Heading, Underlined, Paragraph, IndentedCode, FencedCode, Html}
-use Rattle.markdown_page_model.specs.PageHtml.{leaf_html, language_class}
+use Rattle.markdown_page_model.specs.PageHtml.{leaf_html, leaf_setting, language_class}
 use Rattle.markdown_page.specs.DocumentBrought.{block_brought, leaf_brought}
 use Rattle.markdown_page.specs.PlacedTree.{line_start, leaf_written}
 
@@ -28,16 +28,16 @@ not-others (IndentedCode ls) e f = refl
 not-others (FencedCode g info ls ended) e f = refl
 not-others (Html k text ended) e f = refl
 
-pub other-leaf : (s : Setting) (p : Page) (tight in_line : Bool) (bytes : List ℕ) (l : Leaf) → begins_line l ≡ true
-    → leaf_written s p tight in_line (leaf_of bytes l) ≡ line_start p in_line ++ leaf_html s p (leaf_of bytes l)
-other-leaf s p tight in_line bytes Blank e = absurd (cc)
-other-leaf s p tight in_line bytes ThematicBreak e = refl
-other-leaf s p tight in_line bytes (Heading n text) e = refl
-other-leaf s p tight in_line bytes (Underlined n text) e = refl
-other-leaf s p tight in_line bytes (Paragraph text) e = absurd (cc)
-other-leaf s p tight in_line bytes (IndentedCode ls) e = refl
-other-leaf s p tight in_line bytes (FencedCode f info ls ended) e = refl
-other-leaf s p tight in_line bytes (Html k text ended) e = refl
+pub other-leaf : (s : Setting) (p : Page) (tight in_line first : Bool) (bytes : List ℕ) (l : Leaf) → begins_line l ≡ true
+    → leaf_written s p tight in_line first (leaf_of bytes l) ≡ line_start p in_line ++ leaf_html (leaf_setting s first (leaf_of bytes l)) p (leaf_of bytes l)
+other-leaf s p tight in_line first bytes Blank e = absurd (cc)
+other-leaf s p tight in_line first bytes ThematicBreak e = refl
+other-leaf s p tight in_line first bytes (Heading n text) e = refl
+other-leaf s p tight in_line first bytes (Underlined n text) e = refl
+other-leaf s p tight in_line first bytes (Paragraph text) e = absurd (cc)
+other-leaf s p tight in_line first bytes (IndentedCode ls) e = refl
+other-leaf s p tight in_line first bytes (FencedCode f info ls ended) e = refl
+other-leaf s p tight in_line first bytes (Html k text ended) e = refl
 
 pub other-brought : (s : Setting) (p : Page) (bytes : List ℕ) (l : Leaf) → begins_line l ≡ true → leaf_brought s p (leaf_of bytes l) ≡ block_brought s p (leaf_of bytes l)
 other-brought s p bytes Blank e = absurd (cc)

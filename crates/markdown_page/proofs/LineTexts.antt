@@ -19,8 +19,9 @@ use Rattle.markdown_block_definitions.specs.TextCopies.{IsSpot, IsRead, codes_le
 use Rattle.markdown_block_definitions.specs.declared.copy.Spot.{Spot}
 use Rattle.markdown_block_definitions.proofs.TextPushes.{keep, leave, inside, nothing-behind, left-more, still-behind}
 use Rattle.markdown_html_model.specs.Escaped.{escaped, escaped_byte}
-use Rattle.markdown_html_model.specs.Html.{Page, line_ending}
-use Rattle.markdown_page_model.specs.PageTexts.{text_of, is_later_column, ending, own_ending, line_html}
+use Rattle.markdown_html_model.specs.Html.{Page}
+use Rattle.markdown_page_model.specs.PageTexts.{text_of, is_later_column, ending, own_ending, line_html, block_ending}
+use Rattle.markdown_html_model.proofs.NulInHtml.{replaced-append}
 use Rattle.markdown_page.specs.CodeLines.{text_as, before_ending, from_ending, kept, begins_before, BeginsAtByte, IsPastColumns, text_behind}
 
 -- Texts.
@@ -30,7 +31,7 @@ unfolding escaped
 escaped-append xs ys = flat_map-append escaped_byte xs ys
 
 pub text_as-append : (raw : Bool) (xs ys : List ℕ) → text_as raw (xs ++ ys) ≡ text_as raw xs ++ text_as raw ys
-text_as-append true xs ys = refl
+text_as-append true xs ys = replaced-append xs ys
 text_as-append false xs ys = escaped-append xs ys
 
 -- the text of a line that begins with a whole code
@@ -413,12 +414,12 @@ pub ending-own : (p : Page) (piece : Piece) (from to stop : ℕ) → BeginsAtByt
 ending-own p piece from to stop byte started h le = ap (λ (cs : List Code). ending p (from_ending cs)) (sym (line-over p.bytes piece from to stop byte started h le))
 
 pub ending-here : (p : Page) (piece : Piece) (from to stop : ℕ) → BeginsAtByte p.bytes from → (from < length p.bytes → begins_before from piece.start ≡ false) → IsTextEnd p.bytes piece from to stop → to < stop
-    → line_ending p.options.line_ends (slice_range p.bytes to (to + line_ending_len (get_or p.bytes to 0) (drop (to + 1) p.bytes))) ≡ ending p (from_ending (codes_left p.bytes piece (to, 0)))
+    → block_ending p (slice_range p.bytes to (to + line_ending_len (get_or p.bytes to 0) (drop (to + 1) p.bytes))) ≡ ending p (from_ending (codes_left p.bytes piece (to, 0)))
 ending-here p piece from to stop byte started h lt =
     let e : IsEnding p.bytes to (codes_left p.bytes piece (to, 0)) = line-ends p.bytes piece from to stop byte started h lt in
     let ends : (e.code.start.index, e.code.stop.index) ≡ (to, to + line_ending_len (get_or p.bytes to 0) (drop (to + 1) p.bytes)) = let a = e.start in let b = e.stop in rw (a, b) refl in
     sym (ap (λ (cs : List Code). ending p (from_ending cs)) e.codes ∙ ap (ending p) (ending-rest e.code e.more e.ends)
-    ∙ ap (λ (x : ℕ × ℕ). line_ending p.options.line_ends (slice_range p.bytes x.0 x.1)) ends)
+    ∙ ap (λ (x : ℕ × ℕ). block_ending p (slice_range p.bytes x.0 x.1)) ends)
 
 -- the same of bytes that are the page's
 pub line-in : (p : Page) (bytes : List ℕ) (piece : Piece) (raw : Bool) → bytes ≡ p.bytes → line_html (record p { bytes = bytes }) (text_as raw) (piece_codes (codes_of bytes) piece) ≡ line_html p (text_as raw) (piece_codes (codes_of p.bytes) piece)

@@ -1,10 +1,10 @@
 -- What a walk knows behind a row more.
-use Rattle.std.proofs.Common.{◌≡◌, ◌≤◌, ◌<◌, ◌+◌, ◌-◌, ℕ, suc, refl, sym, ap, subst, ◌∙◌, List, [], ◌∷◌, ◌++◌, length, take, set, get_or, map, Bool, true, false, ◌||◌, ◌&&◌, not, Option, Some, None, arith, length-append, if◌then◌else◌, ◌==◌}
+use Rattle.std.proofs.Common.{◌≡◌, ◌≤◌, ◌<◌, ◌+◌, ◌-◌, ℕ, zero, suc, refl, sym, ap, subst, ◌∙◌, List, [], ◌∷◌, ◌++◌, length, take, set, get_or, map, Bool, true, false, ◌||◌, ◌&&◌, not, Option, Some, None, arith, length-append, if◌then◌else◌, ◌==◌}
 use Rattle.std.specs.Prelude.{option_map, is_some}
 use Rattle.std.proofs.lemmas.Bool.Decides.{nat_tests}
 use Rattle.std.proofs.Math.Bool.{or-false, and-false, and-true}
 use Rattle.std.proofs.lemmas.List.{get_or_at, get_or_read, length-map, map-append, length-take, take_at, take-take, get_or-take, take_more, take_all}
-use Rattle.markdown_block_model.specs.BlockTree.{Marker, bullet, ordered, Container, quote, item, blank, Tree, nothing, and_leaf, and_container, Leaf}
+use Rattle.markdown_block_model.specs.BlockTree.{Marker, bullet, ordered, Container, quote, item, footnote, blank, Tree, nothing, and_leaf, and_container, Leaf}
 use Rattle.markdown_block_model.specs.LooseLists.{are_alike, goes_on_list, ends_with_blank, are_apart, is_loose}
 use Rattle.markdown_block_line.specs.LineBlocks.{marker_of}
 use Rattle.markdown_block_line.specs.declared.containers.Marker.{Marker as RowMarker}
@@ -15,7 +15,7 @@ use Rattle.markdown_page.specs.declared.lists.Place.{Place}
 use Rattle.markdown_page.specs.declared.lists.OpenContainer.{OpenContainer}
 use Rattle.markdown_page.specs.declared.lists.Walk.{Walk}
 use Rattle.markdown_page.specs.ListPlaces.{no_place}
-use Rattle.markdown_page.specs.ListWalks.{places_so_far, marker_in, open_containers, last_item, opened, item_of, is_loose_item, is_blank_leaf, passed_item, IsAppended, IsWalked}
+use Rattle.markdown_page.specs.ListWalks.{is_footnote, IsPlain, places_so_far, marker_in, open_containers, last_item, opened, item_of, is_loose_item, is_blank_leaf, passed_item, IsAppended, IsWalked}
 use Rattle.markdown_page.proofs.ListTrees.{with_apart, apart-none, places-inside, open-length, open-same, open-more, open-within, passed-last, passed-blank}
 
 -- The path.
@@ -67,7 +67,8 @@ walked-pass t w v os o h e p ps l b =
       path = rw p (outer-open t w os o h e);
       last = rw p (l ∙ ap (λ v. passed_item v (opened o)) h.places ∙ sym (passed-last n 0 t [] d refl lt ∙ ap (passed_item (places_so_far t)) newest));
       blank = rw p (b ∙ ap (λ x. is_some o.marker && x) (h.blank ∙ ap (λ k. ends_with_blank (inside_at k t)) len) ∙ ap (λ x. x && ends_with_blank (inside_at (suc n) t)) (sym some)
-          ∙ sym (passed-blank n 0 t d lt ∙ ap (λ (v : ℕ × Option Marker). is_some v.1 && ends_with_blank (inside_at (suc n) t)) newest));
+          ∙ sym (passed-blank n 0 t d lt h.plain ∙ ap (λ (v : ℕ × Option Marker). is_some v.1 && ends_with_blank (inside_at (suc n) t)) newest));
+      plain = h.plain;
     }
   where
     some-same : (m : Option RowMarker) → is_some (option_map marker_of m) ≡ is_some m
@@ -122,6 +123,18 @@ leaf-apart s l = ap (λ v. are_apart s || v) (sym (and-true (ends_with_blank s))
 pub appended-leaf : (s : Tree) (l : Leaf) (b : Bool) → b ≡ (ends_with_blank s && not (is_blank_leaf l)) → IsAppended (λ x. and_leaf x l) no_place b s
 appended-leaf s l b e = record { places = refl; apart = rw e (leaf-apart s l) }
 
+plain-leaf : (n : ℕ) (l : Leaf) (t : Tree) → IsPlain t → IsPlain (at_depth n (λ s. and_leaf s l) t)
+plain-leaf zero l t h = tt
+plain-leaf (suc n) l nothing h = tt
+plain-leaf (suc n) l (and_leaf s k) h = tt
+plain-leaf (suc n) l (and_container s c i) h = (h.0, plain-leaf n l i h.1)
+
+plain-container : (n : ℕ) (c : Container) (t : Tree) → is_footnote c ≡ false → IsPlain t → IsPlain (at_depth n (λ s. and_container s c nothing) t)
+plain-container zero c t e h = (e, tt)
+plain-container (suc n) c nothing e h = tt
+plain-container (suc n) c (and_leaf s k) e h = tt
+plain-container (suc n) c (and_container s d i) e h = (h.0, plain-container n c i e h.1)
+
 pub walked-leaf : (t : Tree) (w v : Walk) (l : Leaf) → IsWalked t w → v.path.items ≡ w.path.items → v.places.items ≡ places_so_far (at_depth (length w.path.items) (λ s. and_leaf s l) t)
     → option_map item_of v.last ≡ (if is_blank_leaf l then option_map item_of w.last else None) → v.ends_with_blank ≡ ends_with_blank (and_leaf nothing l)
     → IsWalked (at_depth (length w.path.items) (λ s. and_leaf s l) t) v
@@ -134,6 +147,7 @@ walked-leaf t w v l h p ps la b =
       path = rw p (h.path ∙ sym (open-same n 0 f t));
       last = rw p (la ∙ ap (λ x. if is_blank_leaf l then x else None) h.last ∙ sym (ap last_item inside ∙ leaf-last (inside_at n t) l));
       blank = rw p (b ∙ sym (ap ends_with_blank inside ∙ leaf-blank (inside_at n t) l));
+      plain = plain-leaf n l t h.plain;
     }
 
 -- A container.
@@ -142,9 +156,9 @@ pub appended-quote : (s : Tree) (b : Bool) → b ≡ ends_with_blank s → IsApp
 appended-quote s b e = record { places = refl; apart = rw e refl }
 
 pub walked-container : (t : Tree) (w v : Walk) (o : OpenContainer) (c : Container) → IsWalked t w → v.path.items ≡ w.path.items ++ o ∷ [] → o.row ≡ length w.places.items → option_map marker_of o.marker ≡ marker_in c
-    → v.places.items ≡ places_so_far (at_depth (length w.path.items) (λ s. and_container s c nothing) t) → v.last ≡ None → v.ends_with_blank ≡ false
+    → v.places.items ≡ places_so_far (at_depth (length w.path.items) (λ s. and_container s c nothing) t) → v.last ≡ None → v.ends_with_blank ≡ false → is_footnote c ≡ false
     → IsWalked (at_depth (length w.path.items) (λ s. and_container s c nothing) t) v
-walked-container t w v o c h p r m ps l b =
+walked-container t w v o c h p r m ps l b note =
     let n = length w.path.items in
     let f : Tree → Tree = λ s. and_container s c nothing in
     let le : n ≤ length (spine t) = path-within t w h in
@@ -157,6 +171,7 @@ walked-container t w v o c h p r m ps l b =
           ∙ ap (λ x. take n (open_containers 0 t) ++ (0 + length (places_so_far t), x) ∷ []) m ∙ sym (open-more n 0 c t le) ∙ ap (λ k. take k (open_containers 0 (at_depth n f t))) (sym len);
       last = ap (option_map item_of) l ∙ sym (ap (λ k. last_item (inside_at k (at_depth n f t))) len ∙ ap last_item none);
       blank = b ∙ sym (ap (λ k. ends_with_blank (inside_at k (at_depth n f t))) len ∙ ap ends_with_blank none);
+      plain = plain-container n c t note h.plain;
     }
 
 -- An item.
@@ -175,6 +190,7 @@ goes-on m nothing = refl
 goes-on m (and_leaf s blank) = goes-on m s
 goes-on m (and_leaf s l) = refl
 goes-on m (and_container s quote i) = refl
+goes-on m (and_container s (footnote label) i) = refl
 goes-on m (and_container s (item k c) i) = alike-other k m
 
 loose-last : (s : Tree) → is_loose_item (last_item s) ≡ is_loose s
@@ -182,6 +198,7 @@ loose-last nothing = refl
 loose-last (and_leaf s blank) = loose-last s
 loose-last (and_leaf s l) = refl
 loose-last (and_container s quote i) = refl
+loose-last (and_container s (footnote label) i) = refl
 loose-last (and_container s (item k c) i) = refl
 
 pub appended-item : (s : Tree) (m : Marker) (c : ℕ) (last : Option NextItem) (blanks apart : Bool) (p : Place) → last ≡ last_item s → blanks ≡ ends_with_blank s

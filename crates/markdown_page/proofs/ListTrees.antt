@@ -3,18 +3,19 @@ use Rattle.std.proofs.Common.{◌≡◌, ◌≤◌, ◌<◌, ◌+◌, ℕ, zero,
 use Rattle.std.specs.Prelude.{is_some}
 use Rattle.std.proofs.Math.Bool.{or-false, or-true}
 use Rattle.std.proofs.lemmas.List.{set_at, get_or_at}
-use Rattle.markdown_block_model.specs.BlockTree.{Marker, Container, quote, item, Tree, nothing, and_leaf, and_container}
+use Rattle.markdown_block_model.specs.BlockTree.{Marker, Container, quote, item, footnote, Tree, nothing, and_leaf, and_container}
 use Rattle.markdown_block_model.specs.LooseLists.{goes_on_list, ends_with_blank, are_apart, is_loose}
 use Rattle.markdown_blocks.specs.TreeDepth.{spine, inside_at, at_depth}
 use Rattle.markdown_page.specs.declared.lists.Place.{Place}
 use Rattle.markdown_page.specs.ListPlaces.{no_place}
-use Rattle.markdown_page.specs.ListWalks.{places_so_far, marker_in, open_containers, last_item, passed_item, IsAppended}
+use Rattle.markdown_page.specs.ListWalks.{IsPlain, places_so_far, marker_in, open_containers, last_item, passed_item, IsAppended}
 
 -- what is inside the newest container does not set its siblings apart
 apart-inside : (n : ℕ) (f : Tree → Tree) (t : Tree) → are_apart (at_depth (suc n) f t) ≡ are_apart t
 apart-inside n f nothing = refl
 apart-inside n f (and_leaf b l) = refl
 apart-inside n f (and_container b quote i) = refl
+apart-inside n f (and_container b (footnote label) i) = refl
 apart-inside n f (and_container b (item m c) i) = refl
 
 -- an item behind siblings, by whether its own blocks are apart
@@ -67,11 +68,20 @@ places-inside n f (and_leaf s l) front row p b o e h g = absurd (omega arith)
 places-inside zero f (and_container s quote i) front row p b o e h g =
     deep-push front (places_so_far s) (places_so_far i) (places_so_far (f i)) no_place p g.places
     ∙ ap (λ v. v ++ p ∷ []) (sym (apart-none (row + length (places_so_far s)) b (front ++ (places_so_far s ++ no_place ∷ places_so_far i))))
+places-inside zero f (and_container s (footnote label) i) front row p b o e h g =
+    deep-push front (places_so_far s) (places_so_far i) (places_so_far (f i)) no_place p g.places
+    ∙ ap (λ v. v ++ p ∷ []) (sym (apart-none (row + length (places_so_far s)) b (front ++ (places_so_far s ++ no_place ∷ places_so_far i))))
 places-inside zero f (and_container s (item m c) i) front row p b o e h g =
     ap (λ v. front ++ (places_so_far s ++ item_place v m s ∷ places_so_far (f i))) g.apart
     ∙ deep-push front (places_so_far s) (places_so_far i) (places_so_far (f i)) (item_place (are_apart i || b) m s) p g.places
     ∙ ap (λ v. v ++ p ∷ []) (sym (deep-apart front (places_so_far s) (places_so_far i) row (are_apart i) b m s e))
 places-inside (suc n) f (and_container s quote i) front row p b o e h g =
+    let front' = front ++ (places_so_far s ++ no_place ∷ []) in
+    let row' = row + length (places_so_far s) + 1 in
+    deep front (places_so_far s) (places_so_far (at_depth (suc n) f i)) no_place
+    ∙ places-inside n f i front' row' p b o (deep-length front (places_so_far s) no_place row e) (omega arith) g
+    ∙ ap (λ v. with_apart (get_or (open_containers row' i) n o) b v ++ p ∷ []) (sym (deep front (places_so_far s) (places_so_far i) no_place))
+places-inside (suc n) f (and_container s (footnote label) i) front row p b o e h g =
     let front' = front ++ (places_so_far s ++ no_place ∷ []) in
     let row' = row + length (places_so_far s) + 1 in
     deep front (places_so_far s) (places_so_far (at_depth (suc n) f i)) no_place
@@ -101,6 +111,7 @@ open-same (suc n) row f (and_container s c i) = ap (λ v. (row + length (places_
 
 place-of : (s : Tree) (c : Container) (i : Tree) → length (places_so_far (and_container s c i)) ≡ length (places_so_far s) + 1 + length (places_so_far i)
 place-of s quote i = omega (arith, length-append (places_so_far s) (no_place ∷ places_so_far i))
+place-of s (footnote label) i = omega (arith, length-append (places_so_far s) (no_place ∷ places_so_far i))
 place-of s (item m c) i = omega (arith, length-append (places_so_far s) (item_place (are_apart i) m s ∷ places_so_far i))
 
 pub open-more : (n row : ℕ) (c : Container) (t : Tree) → n ≤ length (spine t)
@@ -128,9 +139,14 @@ pub passed-last : (n row : ℕ) (t : Tree) (front : List Place) (o : ℕ × Opti
 passed-last n row nothing front o e h = absurd (omega arith)
 passed-last n row (and_leaf s l) front o e h = absurd (omega arith)
 passed-last zero row (and_container s quote i) front o e h = refl
+passed-last zero row (and_container s (footnote label) i) front o e h = refl
 passed-last zero row (and_container s (item m c) i) front o e h =
     ap (λ (v : Place). Some (record { marker = m; is_loose = v.is_loose })) (sym (deep-get front (places_so_far s) (places_so_far i) (item_place (are_apart i) m s) no_place row e))
 passed-last (suc n) row (and_container s quote i) front o e h =
+    let row' = row + length (places_so_far s) + 1 in
+    passed-last n row' i (front ++ (places_so_far s ++ no_place ∷ [])) o (deep-length front (places_so_far s) no_place row e) (omega arith)
+    ∙ ap (λ v. passed_item v (get_or (open_containers row' i) n o)) (sym (deep front (places_so_far s) (places_so_far i) no_place))
+passed-last (suc n) row (and_container s (footnote label) i) front o e h =
     let row' = row + length (places_so_far s) + 1 in
     passed-last n row' i (front ++ (places_so_far s ++ no_place ∷ [])) o (deep-length front (places_so_far s) no_place row e) (omega arith)
     ∙ ap (λ v. passed_item v (get_or (open_containers row' i) n o)) (sym (deep front (places_so_far s) (places_so_far i) no_place))
@@ -141,9 +157,13 @@ passed-last (suc n) row (and_container s (item m c) i) front o e h =
     ∙ ap (λ v. passed_item v (get_or (open_containers row' i) n o)) (sym (deep front (places_so_far s) (places_so_far i) x))
 
 pub passed-blank : (n row : ℕ) (t : Tree) (o : ℕ × Option Marker) → n < length (spine t)
-    → ends_with_blank (inside_at n t) ≡ (is_some (get_or (open_containers row t) n o).1 && ends_with_blank (inside_at (suc n) t))
-passed-blank n row nothing o h = absurd (omega arith)
-passed-blank n row (and_leaf s l) o h = absurd (omega arith)
-passed-blank zero row (and_container s quote i) o h = refl
-passed-blank zero row (and_container s (item m c) i) o h = refl
-passed-blank (suc n) row (and_container s c i) o h = passed-blank n (row + length (places_so_far s) + 1) i o (omega arith)
+    → IsPlain t → ends_with_blank (inside_at n t) ≡ (is_some (get_or (open_containers row t) n o).1 && ends_with_blank (inside_at (suc n) t))
+passed-blank n row nothing o h plain = absurd (omega arith)
+passed-blank n row (and_leaf s l) o h plain = absurd (omega arith)
+passed-blank zero row (and_container s quote i) o h plain = refl
+passed-blank zero row (and_container s (footnote label) i) o h plain = absurd (no plain.0)
+  where
+    no : true ≡ false → ⊥
+    no e = cc
+passed-blank zero row (and_container s (item m c) i) o h plain = refl
+passed-blank (suc n) row (and_container s c i) o h plain = passed-blank n (row + length (places_so_far s) + 1) i o (omega arith) plain.1

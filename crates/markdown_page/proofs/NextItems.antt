@@ -3,7 +3,7 @@ use Rattle.std.proofs.Common.{◌≡◌, ◌≤◌, ◌<◌, ◌+◌, ℕ, zero,
 use Rattle.std.proofs.lemmas.List.{append-nil, length-map, drop_more, get_or-map, take_more, set_at, get_or_at, length-take-le}
 use Rattle.std.proofs.lemmas.Bool.Decides.{nat_tests}
 use Rattle.markdown_block_model.specs.BlockTree as model
-use Rattle.markdown_block_model.specs.BlockTree.{Marker, Container, quote, item, blank, Tree, nothing, and_leaf, and_container}
+use Rattle.markdown_block_model.specs.BlockTree.{Marker, Container, quote, item, footnote, blank, Tree, nothing, and_leaf, and_container}
 use Rattle.markdown_block_model.specs.LooseLists.{goes_on_list, is_loose}
 use Rattle.markdown_block_line.specs.LineBlocks.{container_of}
 use Rattle.markdown_block_line.specs.declared.containers.Container.{Container as RowContainer}
@@ -29,6 +29,7 @@ tree_leaf_kind l = parts
 
 abbrev container_kind : Container → RowKind
 container_kind quote = parts
+container_kind (footnote label) = parts
 container_kind (item m c) = is_item m
 
 abbrev kinds : ℕ → Tree → List (ℕ × RowKind)
@@ -91,6 +92,8 @@ kinds-length : (d : ℕ) (t : Tree) → length (kinds d t) ≡ length (places_so
 kinds-length d nothing = refl
 kinds-length d (and_leaf s l) = omega (arith, kinds-length d s, length-append (kinds d s) ((d, tree_leaf_kind l) ∷ []), length-append (places_so_far s) (no_place ∷ []))
 kinds-length d (and_container s quote i) =
+    omega (arith, kinds-length d s, kinds-length (suc d) i, length-append (kinds d s) ((d, parts) ∷ kinds (suc d) i), length-append (places_so_far s) (no_place ∷ places_so_far i))
+kinds-length d (and_container s (footnote label) i) =
     omega (arith, kinds-length d s, kinds-length (suc d) i, length-append (kinds d s) ((d, parts) ∷ kinds (suc d) i), length-append (places_so_far s) (no_place ∷ places_so_far i))
 kinds-length d (and_container s (item m c) i) =
     omega (
@@ -167,6 +170,19 @@ tree-back d (and_container b quote i) s h =
     let s1 = step (d, parts) no_place s0 in
     let done : IsDone d b s1 (back (kinds d b) (places_so_far b) s1) = tree-back d b s1 (λ k x. next-above s0.next d k None x) in
     subst (λ r. IsDone d (and_container b quote i) s r)
+    (sym (back-append (kinds d b) ((d, parts) ∷ kinds (suc d) i) (places_so_far b) (no_place ∷ places_so_far i) s (kinds-length d b))) (record {
+      places = done.places ∙ ap (λ n. places_in n b ++ no_place ∷ s0.places) (next-here s0.next d None)
+          ∙ ap (λ v. places_in None b ++ no_place ∷ v) (inner.places ∙ ap (λ n. places_in n i ++ s.places) (h (suc d) (omega arith)))
+          ∙ sym (append_assoc (places_in None b) (no_place ∷ places_in None i) s.places);
+      below = λ k x. done.below k x ∙ next-below s0.next d k None x ∙ inner.below k (omega arith);
+      above = done.above;
+    })
+tree-back d (and_container b (footnote label) i) s h =
+    let s0 = back (kinds (suc d) i) (places_so_far i) s in
+    let inner : IsDone (suc d) i s s0 = tree-back (suc d) i s (λ k x. h k (omega arith)) in
+    let s1 = step (d, parts) no_place s0 in
+    let done : IsDone d b s1 (back (kinds d b) (places_so_far b) s1) = tree-back d b s1 (λ k x. next-above s0.next d k None x) in
+    subst (λ r. IsDone d (and_container b (footnote label) i) s r)
     (sym (back-append (kinds d b) ((d, parts) ∷ kinds (suc d) i) (places_so_far b) (no_place ∷ places_so_far i) s (kinds-length d b))) (record {
       places = done.places ∙ ap (λ n. places_in n b ++ no_place ∷ s0.places) (next-here s0.next d None)
           ∙ ap (λ v. places_in None b ++ no_place ∷ v) (inner.places ∙ ap (λ n. places_in n i ++ s.places) (h (suc d) (omega arith)))

@@ -81,7 +81,7 @@ without-row : (bytes : List ℕ) (r : Row) (at : Place) (t : PlacedTree) → wit
 without-row bytes (LeafAt d l) at t = without-leaf d (leaf_of bytes l) at t
 without-row bytes (ContainerAt d c) at t = without-container d (container_of c) at t
 
-without-rows : (bytes : List ℕ) (rs : List Row) (ats : List Place) (t : PlacedTree) → without_places (placed_rows bytes t rs ats) ≡ rows_from bytes (without_places t) rs
+pub without-rows : (bytes : List ℕ) (rs : List Row) (ats : List Place) (t : PlacedTree) → without_places (placed_rows bytes t rs ats) ≡ rows_from bytes (without_places t) rs
 without-rows bytes [] ats t = refl
 without-rows bytes (r ∷ rs) [] t =
     without-rows bytes rs [] (with_placed_row bytes r no_place t) ∙ ap (λ x. rows_from bytes x rs) (without-row bytes r no_place t)

@@ -7,13 +7,13 @@ use Rattle.markdown_content.specs.DocumentWalk.{IsPoint}
 use Rattle.markdown_content.specs.declared.parser.Piece.{Piece}
 use Rattle.markdown_model.specs.CodeTests.{values_of}
 use Rattle.markdown_model.specs.Grammar.{span}
-use Rattle.markdown_html_model.specs.Escaped.{escaped}
+use Rattle.markdown_html_model.specs.Escaped.{escaped, replaced}
 use Rattle.markdown_block_definitions.specs.TextCopies.{codes_left}
 use Rattle.markdown_page_model.specs.PageTexts.{text_of, is_later_column}
 
--- a text as it is, or escaped
+-- a text as raw HTML, or escaped
 abbrev pub text_as : Bool → List ℕ → List ℕ
-text_as raw text = if raw then text else escaped text
+text_as raw text = if raw then replaced text else escaped text
 
 -- the lines that these pieces are
 abbrev pub lines_in : List ℕ → List Piece → List (List Code)

@@ -1,16 +1,18 @@
 -- How many bytes definitions bring to a document, and what a limit on them makes of its HTML.
-use Rattle.std.specs.Prelude.{◌≡◌, ℕ, ◌+◌, ◌<◌, List, [], ◌∷◌, Option, None, Some}
+use Rattle.std.specs.Prelude.{◌≡◌, ℕ, ◌+◌, ◌<◌, Bool, false, List, [], ◌∷◌, Option, None, Some}
 use Rattle.markdown_content.specs.Codes.{Code}
 use Rattle.markdown_content.specs.KnownPlaces.{IsDocument}
+use Rattle.markdown_content.specs.declared.configuration.ParseOptions.{ParseOptions}
 use Rattle.markdown_model.specs.Setting.{Setting}
 use Rattle.markdown_model.specs.InlineTree.{text_tree}
 use Rattle.markdown_html_model.specs.Html as inline
 use Rattle.markdown_html_model.specs.Html.{page_of_content}
 use Rattle.markdown_html_model.specs.declared.options.HtmlOptions.{HtmlOptions}
 use Rattle.markdown_html.specs.Brought.{brought}
-use Rattle.markdown_block_model.specs.BlockTree.{Leaf, heading, underlined, paragraph, Tree, nothing, and_leaf, and_container}
+use Rattle.markdown_block_model.specs.BlockTree.{no_extensions, Leaf, heading, underlined, paragraph, Tree, nothing, and_leaf, and_container}
 use Rattle.markdown_block_model.specs.LinkDefinitions.{document_tree}
-use Rattle.markdown_page_model.specs.PageHtml.{setting_of, page_of, document_html}
+use Rattle.markdown_page_model.specs.PageHtml.{is_first_block, leaf_setting, setting_of, page_of, document_html}
+use Rattle.markdown_page.specs.PlacedTree.{is_item}
 use Rattle.markdown_page.specs.declared.document.Page.{Page}
 
 -- what definitions bring to the text of a paragraph or a heading: to its inline tree
@@ -29,15 +31,15 @@ abbrev pub leaf_brought : Setting → inline.Page → Leaf → ℕ
 leaf_brought s p (paragraph []) = 0
 leaf_brought s p leaf = block_brought s p leaf
 
--- the sum over all texts of siblings
-abbrev pub tree_brought : Setting → inline.Page → Tree → ℕ
-tree_brought s p nothing = 0
-tree_brought s p (and_leaf before leaf) = tree_brought s p before + leaf_brought s p leaf
-tree_brought s p (and_container before c inside) = tree_brought s p before + tree_brought s p inside
+-- the sum over all texts of siblings, which may be in an item
+abbrev pub tree_brought : Setting → inline.Page → (in_item : Bool) → Tree → ℕ
+tree_brought s p in_item nothing = 0
+tree_brought s p in_item (and_leaf before leaf) = tree_brought s p in_item before + leaf_brought (leaf_setting s (is_first_block in_item before) leaf) p leaf
+tree_brought s p in_item (and_container before c inside) = tree_brought s p in_item before + tree_brought s p (is_item c) inside
 
--- what definitions bring to a document
-unfoldable pub document_brought : HtmlOptions → List ℕ → ℕ
-document_brought options bytes = tree_brought (setting_of bytes) (page_of options bytes) (document_tree bytes)
+-- what definitions bring to a document whose texts are read with these options
+unfoldable pub document_brought : ParseOptions → HtmlOptions → List ℕ → ℕ
+document_brought reading options bytes = tree_brought (setting_of reading bytes) (page_of reading options bytes) false (document_tree no_extensions bytes)
 
 -- so many bytes are more than the limit, if there is one
 abbrev pub IsBeyond : Option ℕ → ℕ → Type 0
@@ -50,7 +52,8 @@ HoldsOfHtml P (Page.Html html) = P html.items
 HoldsOfHtml P page = Unit {0}
 
 -- the HTML of a document to which definitions bring no more than the limit, or why there is none
-abbrev pub IsPage : HtmlOptions → List ℕ → Option ℕ → Page → Type 0
-IsPage options bytes limit (Page.Html html) = IsDocument bytes × (IsBeyond limit (document_brought options bytes) → ⊥) × (html.items ≡ document_html options bytes)
-IsPage options bytes limit Page.NoDocument = IsDocument bytes → ⊥
-IsPage options bytes limit Page.BeyondLimit = IsDocument bytes × IsBeyond limit (document_brought options bytes)
+abbrev pub IsPage : ParseOptions → HtmlOptions → List ℕ → Option ℕ → Page → Type 0
+IsPage reading options bytes limit (Page.Html html) =
+    IsDocument bytes × (IsBeyond limit (document_brought reading options bytes) → ⊥) × (html.items ≡ document_html reading options bytes)
+IsPage reading options bytes limit Page.NoDocument = IsDocument bytes → ⊥
+IsPage reading options bytes limit Page.BeyondLimit = IsDocument bytes × IsBeyond limit (document_brought reading options bytes)

@@ -1,6 +1,6 @@
 -- What is known of lists when the rows so far are read, and when those behind a row are.
 use Rattle.std.specs.Prelude.{◌≡◌, ℕ, ◌+◌, Bool, true, false, not, ◌||◌, List, [], ◌∷◌, ◌++◌, length, map, take, get_or, Option, Some, None, option_map, if◌then◌else◌, nat_lt, ◌==◌}
-use Rattle.markdown_block_model.specs.BlockTree.{Marker, Container, quote, item, Leaf, blank, Tree, nothing, and_leaf, and_container}
+use Rattle.markdown_block_model.specs.BlockTree.{Marker, Container, quote, item, footnote, Leaf, blank, Tree, nothing, and_leaf, and_container}
 use Rattle.markdown_block_model.specs.LooseLists.{goes_on_list, ends_with_blank, are_apart, is_loose}
 use Rattle.markdown_block_line.specs.LineBlocks.{marker_of}
 use Rattle.markdown_block_line.specs.declared.containers.Container.TheVariants.{Quote, Item}
@@ -21,6 +21,7 @@ abbrev pub places_so_far : Tree → List Place
 places_so_far nothing = []
 places_so_far (and_leaf before leaf) = places_so_far before ++ no_place ∷ []
 places_so_far (and_container before quote inside) = places_so_far before ++ no_place ∷ places_so_far inside
+places_so_far (and_container before (footnote label) inside) = places_so_far before ++ no_place ∷ places_so_far inside
 places_so_far (and_container before (item m columns) inside) =
     places_so_far before
     ++ record { is_loose = is_loose (and_container before (item m columns) inside); begins = not (goes_on_list m before); ends = false } ∷ places_so_far inside
@@ -28,6 +29,7 @@ places_so_far (and_container before (item m columns) inside) =
 -- an item's marker
 abbrev pub marker_in : Container → Option Marker
 marker_in quote = None
+marker_in (footnote label) = None
 marker_in (item m columns) = Some m
 
 -- the newest containers, one inside another, the outermost first: the number of its row, counted from the first row of these siblings on, and an item's marker
@@ -44,6 +46,7 @@ last_item nothing = None
 last_item (and_leaf before blank) = last_item before
 last_item (and_leaf before leaf) = None
 last_item (and_container before quote inside) = None
+last_item (and_container before (footnote label) inside) = None
 last_item (and_container before (item m columns) inside) = Some (record { marker = m; is_loose = is_loose (and_container before (item m columns) inside) })
 
 -- what the walk's open containers and items are in the tree
@@ -70,12 +73,25 @@ pub record IsAppended (f : Tree → Tree) (place : Place) (is_apart : Bool) (sib
   pub places : places_so_far (f siblings) ≡ places_so_far siblings ++ place ∷ []
   pub apart : are_apart (f siblings) ≡ (are_apart siblings || is_apart)
 
+-- a footnote definition, which no row is
+abbrev pub is_footnote : Container → Bool
+is_footnote quote = false
+is_footnote (item m columns) = false
+is_footnote (footnote label) = true
+
+-- none of the newest containers is one
+abbrev pub IsPlain : Tree → Type 0
+IsPlain nothing = Unit {0}
+IsPlain (and_leaf before leaf) = Unit {0}
+IsPlain (and_container before c inside) = (is_footnote c ≡ false) × IsPlain inside
+
 -- what a walk knows behind the siblings that stand as deep as its path is long
 pub record IsWalked (t : Tree) (w : Walk) : Type 0 where
   pub places : w.places.items ≡ places_so_far t
   pub path : map opened w.path.items ≡ take (length w.path.items) (open_containers 0 t)
   pub last : option_map item_of w.last ≡ last_item (inside_at (length w.path.items) t)
   pub blank : w.ends_with_blank ≡ ends_with_blank (inside_at (length w.path.items) t)
+  pub plain : IsPlain t
 
 -- From the last row to the first.
 

@@ -3,6 +3,7 @@
 ghost use Rattle.std.specs.Prelude.{◌≡◌, ◌≤◌, ◌==◌, if◌then◌else◌, None, All, IsUtf8, false, true, length, IfOk, IfSome, MatchOption};
 ghost use Rattle.markdown_content.specs.Content.{document_limit};
 ghost use Rattle.markdown_content.specs.KnownPlaces.{IsDocument};
+ghost use Rattle.markdown_block_model.specs.BlockTree.{no_extensions};
 ghost use Rattle.markdown_block_model.specs.LinkDefinitions.{definitions, document_tree};
 ghost use Rattle.markdown_block_definitions.specs.DefinitionTexts.{HasUtf8Texts};
 ghost use Rattle.markdown_block_definitions.specs.ResolvedRows.{IsTextRow};
@@ -52,32 +53,29 @@ fn html_of(
     alloc: Global,
     bytes: &[u8],
     found: &document::Document,
+    reading: &ParseOptions,
     options: HtmlOptions,
     limit: Option<usize>,
 ) -> Result<Page, AllocError>
     requires fits { length bytes.now ≤ document_limit }
-    requires tree { tree_of bytes.now found.now.blocks ≡ document_tree bytes.now }
-    requires definitions { AreTextsOf found.now.definitions.items (definitions bytes.now) }
+    requires tree { tree_of bytes.now found.now.blocks ≡ document_tree no_extensions bytes.now }
+    requires definitions { AreTextsOf found.now.definitions.items (definitions no_extensions bytes.now) }
     requires utf8 { IsUtf8 bytes.now → All HasUtf8Texts found.now.definitions.items }
     requires texts { IsUtf8 bytes.now → All (IsTextRow bytes.now) found.now.blocks.rows.items }
     requires nested { AreNested 0 found.now.blocks.rows.items }
-    ensures { IfOk result (IsPage options bytes.now limit) }
+    ensures { IfOk result (IsPage reading.now options bytes.now limit) }
 {
-    let rules = ParseOptions {
-        commonmark: true,
-        ..ParseOptions::default()
-    };
     let definitions = found.definitions.as_slice();
     let parse_state = ParseState {
         bytes,
-        options: &rules,
+        options: reading,
         definitions: identifiers(alloc, definitions)?,
         gfm_footnote_definitions: Vec::new(alloc),
     };
     let Some(document) = Document::new(alloc, parse_state)? else {
         return Ok(Page::NoDocument);
     };
-    let targets = targets(alloc, decoding_of(&rules), definitions)?;
+    let targets = targets(alloc, decoding_of(reading), definitions)?;
     let rows = found.blocks.rows.as_slice();
     let places = places(alloc, bytes, rows)?;
     let places = places.as_slice();
@@ -91,6 +89,8 @@ fn html_of(
 
 /// Returns the HTML of a Markdown document, if definitions bring no more to it than a limit. None is no limit.
 ///
+/// `reading` and `options` are as in `to_html`.
+///
 /// A definition brings the bytes of its destination and of its title to each link and image that refers to it, so n references to one definition of n bytes
 /// bring n * n bytes. Where all definitions together bring more than the limit, nothing is written of the text that goes beyond it, or of what stands behind.
 ///
@@ -98,10 +98,11 @@ fn html_of(
 pub fn to_html_within(
     alloc: Global,
     bytes: &[u8],
+    reading: &ParseOptions,
     options: HtmlOptions,
     limit: Option<usize>,
 ) -> Result<Page, AllocError>
-    ensures exact { IfOk result (IsPage options bytes.now limit) }
+    ensures exact { IfOk result (IsPage reading.now options bytes.now limit) }
     ensures own { options.raw_html ≡ false → IfOk result (HoldsOfHtml (IsOwnPage true)) }
     ensures safe { options.raw_html ≡ false → options.any_link ≡ false → IfOk result (HoldsOfHtml (IsOwnPage false)) }
 {
@@ -112,11 +113,15 @@ pub fn to_html_within(
     no_markup_from_document();
     no_script_from_document();
     let found = read(alloc, bytes)?;
-    html_of(alloc, bytes, &found, options, limit)
+    html_of(alloc, bytes, &found, reading, options, limit)
 }
 
 /// Returns the HTML of a Markdown document: of its blocks, and of the text inside them. There is none exactly where the bytes are not UTF-8, or are more than
 /// `usize::MAX / 8`.
+///
+/// `reading` are the options of the inline layer, any of them; `ParseOptions { commonmark: true, ..ParseOptions::default() }` is CommonMark. With
+/// `gfm_task_list_item` a paragraph that is the first block of a list item may begin with a checkbox. Documents have no footnote definitions, so with
+/// `gfm_label_start_footnote` no footnote is called.
 ///
 /// With raw HTML off no text becomes markup: the page is texts without `<`, `>` and `"`, and elements of a list, balanced and nested. Where `any_link` is off
 /// too, each `href` and `src` in it is empty, relative, or of a listed scheme, as a browser reads it.
@@ -126,14 +131,15 @@ pub fn to_html_within(
 pub fn to_html(
     alloc: Global,
     bytes: &[u8],
+    reading: &ParseOptions,
     options: HtmlOptions,
 ) -> Result<Option<Vec<u8>>, AllocError>
     ensures exact { IfOk result (λ page. MatchOption page (IsDocument bytes.now → ⊥)
-        (λ html. IsDocument bytes.now × (html.items ≡ document_html options bytes.now))) }
+        (λ html. IsDocument bytes.now × (html.items ≡ document_html reading.now options bytes.now))) }
     ensures own { options.raw_html ≡ false → IfOk result (λ page. IfSome page (λ html. IsOwnPage true html.items)) }
     ensures safe { options.raw_html ≡ false → options.any_link ≡ false → IfOk result (λ page. IfSome page (λ html. IsOwnPage false html.items)) }
 {
-    match to_html_within(alloc, bytes, options, None)? {
+    match to_html_within(alloc, bytes, reading, options, None)? {
         Page::Html(html) => Ok(Some(html)),
         // nothing goes beyond no limit
         Page::NoDocument | Page::BeyondLimit => Ok(None),

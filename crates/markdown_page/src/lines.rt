@@ -4,8 +4,7 @@ ghost use Rattle.std.specs.Prelude.{◌≡◌, ◌≤◌, ◌<◌, ◌+◌, ◌+
 ghost use Rattle.markdown_content.specs.Codes.{codes_of, is_line_ending_byte, line_ending_len};
 ghost use Rattle.markdown_content.specs.Content.{piece_codes};
 ghost use Rattle.markdown_block_definitions.specs.TextCopies.{IsSpot, codes_left, is_spot_before, spot_place};
-ghost use Rattle.markdown_html_model.specs.Html.{line_ending};
-ghost use Rattle.markdown_page_model.specs.PageTexts.{line_html, lines_html, own_ending, text_of};
+ghost use Rattle.markdown_page_model.specs.PageTexts.{block_ending, line_html, lines_html, own_ending, text_of};
 ghost use Rattle.markdown_page.specs.CodeLines.{text_as, lines_in, begins_before, IsPastColumns};
 ghost use Rattle.markdown_page.specs.GivenPage.{bytes_of, page_of};
 
@@ -17,16 +16,16 @@ use markdown_block_definitions::copy::{
 use markdown_content::bytes::{ByteSet, NO_BYTES};
 use markdown_content::cursor::plain_end;
 use markdown_content::parser::Piece;
-use markdown_html_model::escape::{push_escaped, push_escaped_between};
+use markdown_html_model::escape::{push_escaped, push_escaped_between, push_replaced};
 use markdown_html_model::options::LineEnds;
 use std::alloc::AllocError;
 
-// Appends a text as it is, or escaped.
+// Appends a text as raw HTML, or escaped.
 pub(crate) fn push_as(out: &mut Vec<u8>, raw: bool, text: &[u8]) -> Result<(), AllocError>
     ensures { OnOk result (out.new.items ≡ out.old.items ++ text_as raw text.now) }
 {
     if raw {
-        return out.extend_from_slice(text);
+        return push_replaced(out, text);
     }
     push_escaped(out, text)
 }
@@ -96,10 +95,12 @@ pub(crate) fn push_ending_at(
     at: usize,
 ) -> Result<(), AllocError>
     requires { at < length bytes.now }
-    ensures { let len = line_ending_len (slice_index bytes.now at) (drop (at + 1) bytes.now) in OnOk result (out.new.items ≡ out.old.items ++ line_ending given.now.options.line_ends (slice_range bytes.now at (at + len))) }
+    ensures { let len = line_ending_len (slice_index bytes.now at) (drop (at + 1) bytes.now) in OnOk result (out.new.items ≡ out.old.items ++ block_ending (page_of given.now) (slice_range bytes.now at (at + len))) }
 {
+    let len = line_ending_len(bytes, at);
     match given.options.line_ends {
-        LineEnds::Kept => push_escaped_between(out, bytes, at, at + line_ending_len(bytes, at)),
+        LineEnds::Kept if len == 1 => push_escaped(out, b"\n"),
+        LineEnds::Kept => push_escaped_between(out, bytes, at, at + len),
         LineEnds::Lf => out.extend_from_slice(b"\n"),
         LineEnds::CrLf => out.extend_from_slice(b"\r\n"),
     }
@@ -115,7 +116,7 @@ fn push_line_end(
 ) -> Result<(), AllocError>
     requires { stop ≤ length bytes.now }
     ensures own { stop ≤ at → OnOk result (out.new.items ≡ out.old.items ++ own_ending (page_of given.now)) }
-    ensures ending { at < stop → let len = line_ending_len (slice_index bytes.now at) (drop (at + 1) bytes.now) in OnOk result (out.new.items ≡ out.old.items ++ line_ending given.now.options.line_ends (slice_range bytes.now at (at + len))) }
+    ensures ending { at < stop → let len = line_ending_len (slice_index bytes.now at) (drop (at + 1) bytes.now) in OnOk result (out.new.items ≡ out.old.items ++ block_ending (page_of given.now) (slice_range bytes.now at (at + len))) }
 {
     if at < stop {
         return push_ending_at(given, out, bytes, at);

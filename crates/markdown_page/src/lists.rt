@@ -16,7 +16,7 @@ ghost use Rattle.markdown_blocks.specs.declared.block.Row.{Row};
 ghost use Rattle.markdown_page_model.specs.PageHtml.{goes_on};
 ghost use Rattle.markdown_page.specs.ListPlaces.{places_in};
 ghost use Rattle.markdown_page.specs.BlankPieces.{first_from};
-ghost use Rattle.markdown_page.specs.ListWalks.{places_so_far, marker_in, opened, item_of, is_blank_leaf, is_loose_item, passed_item, IsAppended, IsWalked, next_at, with_next, is_item, row_depth, row_kind, place_before, nexts_before};
+ghost use Rattle.markdown_page.specs.ListWalks.{is_footnote, places_so_far, marker_in, opened, item_of, is_blank_leaf, is_loose_item, passed_item, IsAppended, IsWalked, next_at, with_next, is_item, row_depth, row_kind, place_before, nexts_before};
 
 use markdown_block_line::containers::{Container, Marker};
 use markdown_blocks::block::{Leaf, Row};
@@ -245,7 +245,7 @@ impl Walk {
         marker: Option<Marker>,
     ) -> Result<(), AllocError>
         requires { (t : Tree) × IsWalked t self.old }
-        ensures walked { IfOk result (λ _. (t : Tree) (c : model.Container) → IsWalked t self.old → option_map marker_of marker ≡ marker_in c
+        ensures walked { IfOk result (λ _. (t : Tree) (c : model.Container) → IsWalked t self.old → option_map marker_of marker ≡ marker_in c → is_footnote c ≡ false
             → IsAppended (λ s. and_container s c nothing) place is_apart (inside_at (length self.old.path.items) t)
             → IsWalked (at_depth (length self.old.path.items) (λ s. and_container s c nothing) t) self.new) }
         ensures depth { IfOk result (λ _. length self.new.path.items ≡ suc (length self.old.path.items)) }

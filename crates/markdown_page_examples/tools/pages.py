@@ -3,10 +3,11 @@
 
 Run it in the crate's folder, and `rt fmt` after it. A row of tools/choices.txt is a document and its HTML:
 
-    [lf|crlf|safe] «document»: «HTML»
+    [lf|crlf|safe] [option ..] «document»: «HTML»
 
 Without a word the HTML is written as in the standard: HTML stays HTML, links lead anywhere, and line endings are kept. With `lf` or `crlf` each line ending
-is of that kind. With `safe` HTML is text, and links lead to listed schemes.
+is of that kind. With `safe` HTML is text, and links lead to listed schemes. Texts are read by CommonMark, changed by the options that are named: each is a
+definition of specs/PageNotation.antt, such as `tasks`.
 
 The documents of tools/standard.txt are those of markdown_block_examples: the n-th line is the HTML of its n-th row. How a text is written, the head of
 blocks.py there says. A line '== Name' begins a group of rows, and a line that begins with `#` is no row.
@@ -23,15 +24,18 @@ from examples import imports
 
 FILES = {'StandardPages': ('standard.txt', 'standard_pages', 'The HTML of the examples of CommonMark'),
          'ChosenPages': ('choices.txt', 'chosen_pages', "What CommonMark's examples do not show of HTML")}
+# What an option is called in rows.
+OPTIONS = ['strikethrough', 'two_tildes', 'bare_urls', 'tasks', 'math', 'two_dollars', 'calls', 'crate_rules']
 USES = [('Rattle.std.specs.Prelude', ['◌≡◌', '[]', '◌∷◌', 'codes']),
-        ('Rattle.markdown_page_examples.specs.PageNotation', ['page_answer', 'lf_answer', 'crlf_answer', 'safe_answer'])]
+        ('Rattle.markdown_page_model.specs.PageHtml', ['commonmark']),
+        ('Rattle.markdown_page_examples.specs.PageNotation', ['page_answer', 'page_by', 'lf_answer', 'crlf_answer', 'safe_answer', 'safe_by', *OPTIONS])]
 HEAD = '''# The HTML of the examples of the CommonMark Spec %s by John MacFarlane, under CC BY-SA 4.0 (LICENSE-EXAMPLES). The n-th line is the HTML of example n, whose
 # document is the n-th row of standard.txt in markdown_block_examples. tools/pages.py writes it from the specification's text.
 '''
 EXAMPLE = re.compile(r'^`{32} example\n(.*?)^\.\n(.*?)^`{32}$', re.M | re.S)
 # What version 0.31.2 changed: the number of an example of 0.30, and its HTML by that version.
 CHANGED = {625: '<p>foo <!-- not a comment -- two hyphens --></p>\n', 626: '<p>foo <!--> foo --&gt;</p>\n<p>foo <!-- foo---></p>\n'}
-ROW = re.compile('(\\w*) ?«([^»]*)»: «([^»]*)»')
+ROW = re.compile('((?:\\w+ )*)«([^»]*)»: «([^»]*)»')
 SIGNS = {'\n': '␊', '\t': '␉'}
 
 
@@ -76,14 +80,18 @@ def rows():
 
 
 def read(row):
-    """The word of a row, its document and its HTML."""
-    word, document, html = ROW.fullmatch(row).groups()
-    return word, plain(document), plain(html)
+    """The words of a row, its document and its HTML."""
+    words, document, html = ROW.fullmatch(row).groups()
+    return words.split(), plain(document), plain(html)
 
 
 def statement(row):
-    word, document, answer = re.fullmatch(r'(\w*) ?«([^»]*)»: «([^»]*)»', row).groups()
-    return '%s_answer %s ≡ %s' % (word or 'page', bytes_of('«%s»' % document), bytes_of('«%s»' % answer))
+    words, document, html = ROW.fullmatch(row).groups()
+    written, options = [word for word in words.split() if word not in OPTIONS], 'commonmark'
+    for option in reversed([word for word in words.split() if word in OPTIONS]):
+        options = '(%s %s)' % (option, options)
+    how = '_answer' if options == 'commonmark' else '_by ' + options
+    return '%s%s %s ≡ %s' % (''.join(written) or 'page', how, bytes_of('«%s»' % document), bytes_of('«%s»' % html))
 
 
 def main():

@@ -2,9 +2,10 @@
 use Rattle.std.proofs.Common.{◌≡◌, ◌∙◌, sym, ap, refl, subst, ℕ, decimal, Bool, true, false, ◌&&◌, if◌then◌else◌, List, [], ◌∷◌, ◌++◌, append-nil, append_assoc, arith, codes, None, Some}
 use Rattle.std.proofs.lemmas.List.Folds.{list_all-append}
 use Rattle.markdown_content.specs.Codes.{Code}
+use Rattle.markdown_content.specs.declared.configuration.ParseOptions.{ParseOptions}
 use Rattle.markdown_model.specs.InlineTree.{text_tree}
 use Rattle.markdown_model.specs.Setting.{Setting}
-use Rattle.markdown_html_model.specs.Escaped.{escaped, is_no_markup, has_no_markup}
+use Rattle.markdown_html_model.specs.Escaped.{escaped, replaced, is_no_markup, has_no_markup}
 use Rattle.markdown_html_model.specs.Html.{Page, page_of_content, line_ending, raw_html}
 use Rattle.markdown_html_model.specs.OwnMarkup.{HasNoMarkup, IsOwnMarkup}
 use Rattle.markdown_html_model.specs.Resolved.{resolved}
@@ -13,12 +14,12 @@ use Rattle.markdown_html_model.specs.declared.options.LineEnds.{LineEnds}
 use Rattle.markdown_html_model.specs.declared.role.Within.{Within}
 use Rattle.markdown_html_model.proofs.HtmlIsOwn.{html-is-own, html-is-safe}
 use Rattle.markdown_html_model.proofs.NoMarkup.{escaped_quiet}
-use Rattle.markdown_block_model.specs.BlockTree.{Marker, bullet, ordered, quote, item, Leaf, blank, thematic_break, heading, underlined, paragraph, indented_code, fenced_code, html, Tree, nothing, and_leaf, and_container}
+use Rattle.markdown_block_model.specs.BlockTree.{no_extensions, Marker, bullet, ordered, quote, item, footnote, Leaf, blank, thematic_break, heading, underlined, paragraph, indented_code, fenced_code, html, table, front_matter, Tree, nothing, and_leaf, and_container}
 use Rattle.markdown_block_model.specs.LineRests.{lines_of}
 use Rattle.markdown_block_model.specs.LinkDefinitions.{document_tree}
 use Rattle.markdown_block_model.specs.LooseLists.{are_alike, goes_on_list}
 use Rattle.markdown_page_model.specs.PageTexts.{text_of, own_ending, ending, line_html, lines_html, filled, first_word}
-use Rattle.markdown_page_model.specs.PageHtml.{Holder, no_item, tight_item, item_of, NextItem, text_html, on_line, code_html, leaf_html, line_begun, is_in_line, leaf_behind, quote_html, is_of_loose_list, list_opening, list_closing, before_item, item_html, tree_html, setting_of, page_of, document_html}
+use Rattle.markdown_page_model.specs.PageHtml.{Holder, no_item, tight_item, item_of, NextItem, text_html, on_line, code_html, leaf_html, line_begun, is_in_line, setting_behind, leaf_behind, quote_html, is_of_loose_list, list_opening, list_closing, before_item, item_html, tree_html, setting_of, page_of, document_html}
 use Rattle.markdown_page_model.specs.PageMarkup as markup
 use Rattle.markdown_page_model.specs.PageMarkup.{IsOwnPage}
 use Rattle.markdown_page_model.proofs.HeadingLevels.{HasLevel, HaveLevels, document-levels}
@@ -42,8 +43,8 @@ quiet-lines : (p : Page) (written : List ℕ → List ℕ) → ((text : List ℕ
 quiet-lines p written each [] = refl
 quiet-lines p written each (l ∷ ls) = quiet-append (line_html p written l) _ (quiet-append (written _) _ (each _) (quiet-ending p _)) (quiet-lines p written each ls)
 
-quiet-raw : (c : Bool) (text : List ℕ) → c ≡ false → HasNoMarkup (if c then text else escaped text)
-quiet-raw c text off = subst (λ c. HasNoMarkup (if c then text else escaped text)) (sym off) (escaped_quiet text)
+quiet-raw : (c : Bool) (text : List ℕ) → c ≡ false → HasNoMarkup (if c then replaced text else escaped text)
+quiet-raw c text off = subst (λ c. HasNoMarkup (if c then replaced text else escaped text)) (sym off) (escaped_quiet text)
 
 own-quiet : (any : Bool) (text : List ℕ) → HasNoMarkup text → IsOwnPage any text
 own-quiet any text h = own-markup any text (text-markup any text h)
@@ -57,23 +58,25 @@ own-on_line any p x h = own-append any x (own_ending p) h (own-ending any p)
 -- Leaves.
 
 -- raw HTML is off, and the HTML of each text is the writer's own
-abbrev pub IsBounded : Bool → Setting → Page → Type 0
-IsBounded any s p = (p.options.raw_html ≡ false) × ((text : List Code) → IsOwnMarkup any (text_html s p text))
+abbrev pub IsBounded : Bool → Page → Type 0
+IsBounded any p = (p.options.raw_html ≡ false) × ((s : Setting) (text : List Code) → IsOwnMarkup any (text_html s p text))
 
 own-code : (any : Bool) (p : Page) (language : List ℕ) (ls : List (List Code)) → IsOwnPage any (code_html p language ls)
 own-code any p [] ls = own-on_line any p _ (own-text-element any (markup.code None) _ tt (text-markup any _ (quiet-lines p escaped escaped_quiet ls)))
 own-code any p (b ∷ bs) ls =
     own-on_line any p _ (own-text-element any (markup.code (Some (escaped (b ∷ bs)))) _ (escaped_quiet (b ∷ bs)) (text-markup any _ (quiet-lines p escaped escaped_quiet ls)))
 
-own-leaf : (any : Bool) (s : Setting) (p : Page) → IsBounded any s p → (leaf : Leaf) → HasLevel leaf → IsOwnPage any (leaf_html s p leaf)
+own-leaf : (any : Bool) (s : Setting) (p : Page) → IsBounded any p → (leaf : Leaf) → HasLevel leaf → IsOwnPage any (leaf_html s p leaf)
 own-leaf any s p b blank g = own-nothing any
 own-leaf any s p b thematic_break g = own-on_line any p _ (own-break any)
-own-leaf any s p b (heading level text) g = own-on_line any p _ (own-text-element any (markup.heading level) _ g (b.1 text))
-own-leaf any s p b (underlined level text) g = own-on_line any p _ (own-text-element any (markup.heading level) _ g (b.1 text))
-own-leaf any s p b (paragraph text) g = own-on_line any p _ (own-text-element any markup.paragraph _ tt (b.1 text))
+own-leaf any s p b (heading level text) g = own-on_line any p _ (own-text-element any (markup.heading level) _ g (b.1 s text))
+own-leaf any s p b (underlined level text) g = own-on_line any p _ (own-text-element any (markup.heading level) _ g (b.1 s text))
+own-leaf any s p b (paragraph text) g = own-on_line any p _ (own-text-element any markup.paragraph _ tt (b.1 s text))
 own-leaf any s p b (indented_code ls) g = own-code any p [] (filled ls)
 own-leaf any s p b (fenced_code f info ls ended) g = own-code any p (first_word (resolved p.decoding (text_of info))) ls
 own-leaf any s p b (html kind text ended) g = own-quiet any _ (quiet-lines p (raw_html p Within.Outside) (λ text. quiet-raw p.options.raw_html text b.0) (lines_of text))
+own-leaf any s p b (table columns rows) g = own-nothing any
+own-leaf any s p b (front_matter ls) g = own-nothing any
 
 -- Siblings.
 
@@ -84,13 +87,15 @@ own-if any false x h = own-nothing any
 own-line_begun : (any : Bool) (p : Page) (holder : Holder) (before : Tree) → IsOwnPage any (line_begun p holder before)
 own-line_begun any p holder before = own-if any (is_in_line holder before) (own_ending p) (own-ending any p)
 
-own-begun : (any : Bool) (s : Setting) (p : Page) → IsBounded any s p → (holder : Holder) (before : Tree) (leaf : Leaf) → HasLevel leaf → IsOwnPage any (line_begun p holder before ++ leaf_html s p leaf)
-own-begun any s p b holder before leaf g = own-append any _ _ (own-line_begun any p holder before) (own-leaf any s p b leaf g)
+own-begun : (any : Bool) (s : Setting) (p : Page) → IsBounded any p → (holder : Holder) (before : Tree) (leaf : Leaf) → HasLevel leaf
+    → IsOwnPage any (line_begun p holder before ++ leaf_html (setting_behind s holder before leaf) p leaf)
+own-begun any s p b holder before leaf g =
+    own-append any _ _ (own-line_begun any p holder before) (own-leaf any (setting_behind s holder before leaf) p b leaf g)
 
-own-leaf_behind : (any : Bool) (s : Setting) (p : Page) → IsBounded any s p → (holder : Holder) (before : Tree) (leaf : Leaf) → HasLevel leaf → IsOwnPage any (leaf_behind s p holder before leaf)
+own-leaf_behind : (any : Bool) (s : Setting) (p : Page) → IsBounded any p → (holder : Holder) (before : Tree) (leaf : Leaf) → HasLevel leaf → IsOwnPage any (leaf_behind s p holder before leaf)
 own-leaf_behind any s p b holder before blank g = own-nothing any
 own-leaf_behind any s p b holder before (paragraph []) g = own-nothing any
-own-leaf_behind any s p b tight_item before (paragraph (c ∷ cs)) g = own-markup any _ (b.1 (c ∷ cs))
+own-leaf_behind any s p b tight_item before (paragraph (c ∷ cs)) g = own-markup any _ (b.1 (setting_behind s tight_item before (paragraph (c ∷ cs))) (c ∷ cs))
 own-leaf_behind any s p b holder before leaf g = own-begun any s p b holder before leaf g
 
 quote-bytes : (a e i c : List ℕ) → ((a ++ (e ++ i)) ++ c) ++ e ≡ ((a ++ e) ++ i) ++ (c ++ e)
@@ -165,7 +170,7 @@ own-item any s p holder m loose before inside h g y f =
     own-begun_item any (goes_on_list m before) p m _ (line_begun p holder before) (item_html p inside) y (h.1 (record { marker = m; is_loose = loose }))
     (own-line_begun any p holder before) (own-on_line any p _ (own-block-element any markup.item inside g)) f
 
-own-tree : (any : Bool) (s : Setting) (p : Page) → IsBounded any s p → (t : Tree) → HaveLevels t → (holder : Holder) → AreOwn any s p holder t
+own-tree : (any : Bool) (s : Setting) (p : Page) → IsBounded any p → (t : Tree) → HaveLevels t → (holder : Holder) → AreOwn any s p holder t
 own-tree any s p b nothing g holder = (own-nothing any, λ next. own-nothing any)
 own-tree any s p b (and_leaf before blank) g holder = own-tree any s p b before g.0 holder
 own-tree any s p b (and_leaf before leaf) g holder =
@@ -174,21 +179,23 @@ own-tree any s p b (and_leaf before leaf) g holder =
 own-tree any s p b (and_container before quote inside) g holder =
     let h = own-append any _ _ (own-append any _ _ (own-tree any s p b before g.0 holder).0 (own-line_begun any p holder before)) (own-quote any p _ (own-tree any s p b inside g.1 no_item).0) in
     (h, λ next. h)
+own-tree any s p b (and_container before (footnote label) inside) g holder =
+    let h = own-append any _ _ (own-append any _ _ (own-tree any s p b before g.0 holder).0 (own-line_begun any p holder before)) (own-tree any s p b inside g.1 no_item).0 in
+    (h, λ next. h)
 own-tree any s p b (and_container before (item m columns) inside) g holder =
     let t = and_container before (item m columns) inside in
     let own = λ (loose : Bool). own-item any s p holder m loose before (tree_html s p (item_of loose) None inside) (own-tree any s p b before g.0 holder) (own-tree any s p b inside g.1 (item_of loose)).0 in
     (own-ended any p _ m (own (is_of_loose_list None m t)), λ next. own-followed any p _ m next.marker (are_alike next.marker m) refl (own (is_of_loose_list (Some next) m t)))
 
-pub document-is-own : (options : HtmlOptions) (bytes : List ℕ) → options.raw_html ≡ false → IsOwnPage true (document_html options bytes)
+pub document-is-own : (reading : ParseOptions) (options : HtmlOptions) (bytes : List ℕ) → options.raw_html ≡ false → IsOwnPage true (document_html reading options bytes)
 unfolding document_html
-document-is-own options bytes off =
-    let s = setting_of bytes in
-    let p = page_of options bytes in
-    (own-tree true s p (off, λ text. html-is-own (page_of_content text p) [] (text_tree s text) off) (document_tree bytes) (document-levels bytes) no_item).0
+document-is-own reading options bytes off =
+    let p = page_of reading options bytes in
+    (own-tree true (setting_of reading bytes) p (off, λ s text. html-is-own (page_of_content text p) [] (text_tree s text) off) (document_tree no_extensions bytes) (document-levels bytes) no_item).0
 
-pub document-is-safe : (options : HtmlOptions) (bytes : List ℕ) → options.raw_html ≡ false → options.any_link ≡ false → IsOwnPage false (document_html options bytes)
+pub document-is-safe : (reading : ParseOptions) (options : HtmlOptions) (bytes : List ℕ) → options.raw_html ≡ false → options.any_link ≡ false
+    → IsOwnPage false (document_html reading options bytes)
 unfolding document_html
-document-is-safe options bytes off safe =
-    let s = setting_of bytes in
-    let p = page_of options bytes in
-    (own-tree false s p (off, λ text. html-is-safe (page_of_content text p) [] (text_tree s text) off safe) (document_tree bytes) (document-levels bytes) no_item).0
+document-is-safe reading options bytes off safe =
+    let p = page_of reading options bytes in
+    (own-tree false (setting_of reading bytes) p (off, λ s text. html-is-safe (page_of_content text p) [] (text_tree s text) off safe) (document_tree no_extensions bytes) (document-levels bytes) no_item).0

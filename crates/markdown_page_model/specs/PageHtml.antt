@@ -1,6 +1,6 @@
 -- The HTML of a document (CommonMark 0.31.2, sections 4 and 5), over its tree of blocks. Each block begins a line and ends it, but for paragraphs in items
 -- of a tight list.
-use Rattle.std.specs.Prelude.{ℕ, Bool, true, false, ◌==◌, List, [], ◌∷◌, ◌++◌, codes, decimal, map, Option, Some, None, option_map, if◌then◌else◌}
+use Rattle.std.specs.Prelude.{ℕ, Bool, true, false, ◌==◌, ◌&&◌, List, [], ◌∷◌, ◌++◌, codes, decimal, map, Option, Some, None, option_map, if◌then◌else◌}
 use Rattle.markdown_content.specs.Codes.{Code}
 use Rattle.markdown_content.specs.CommonMark.{rules_of}
 use Rattle.markdown_content.specs.DefaultOptions.{default_options}
@@ -14,7 +14,7 @@ use Rattle.markdown_html_model.specs.Html.{Defined, Page, page_of_content, raw_h
 use Rattle.markdown_html_model.specs.declared.options.HtmlOptions.{HtmlOptions}
 use Rattle.markdown_html_model.specs.declared.role.Within.{Within}
 use Rattle.markdown_block_model.specs.LineRests.{lines_of}
-use Rattle.markdown_block_model.specs.BlockTree.{Marker, bullet, ordered, quote, item, Leaf, blank, thematic_break, heading, underlined, paragraph, indented_code, fenced_code, html, Tree, nothing, and_leaf, and_container}
+use Rattle.markdown_block_model.specs.BlockTree.{no_extensions, Marker, bullet, ordered, quote, item, footnote, Leaf, blank, thematic_break, heading, underlined, paragraph, indented_code, fenced_code, html, table, front_matter, Tree, nothing, and_leaf, and_container}
 use Rattle.markdown_block_model.specs.LinkDefinitions.{Definition, definitions, document_tree, identifier}
 use Rattle.markdown_block_model.specs.LooseLists.{are_alike, goes_on_list, is_loose}
 use Rattle.markdown_page_model.specs.PageTexts.{text_of, own_ending, lines_html, filled, first_word}
@@ -42,6 +42,7 @@ language_class (b ∷ bs) = codes " class=\"language-" ++ escaped (b ∷ bs) ++ 
 abbrev pub code_html : Page → List ℕ → List (List Code) → List ℕ
 code_html p language ls = on_line p (codes "<pre><code" ++ language_class language ++ codes ">" ++ lines_html p escaped ls ++ codes "</code></pre>")
 
+-- a table and front matter, which the tree of a document without extensions has not, are left out
 abbrev pub leaf_html : Setting → Page → Leaf → List ℕ
 leaf_html s p blank = []
 leaf_html s p thematic_break = on_line p (codes "<hr />")
@@ -51,6 +52,8 @@ leaf_html s p (paragraph text) = on_line p (codes "<p>" ++ text_html s p text ++
 leaf_html s p (indented_code ls) = code_html p [] (filled ls)
 leaf_html s p (fenced_code f info ls ended) = code_html p (first_word (resolved p.decoding (text_of info))) ls
 leaf_html s p (html kind text ended) = lines_html p (raw_html p Within.Outside) (lines_of text)
+leaf_html s p (table columns rows) = []
+leaf_html s p (front_matter ls) = []
 
 -- Siblings.
 
@@ -80,12 +83,40 @@ is_in_line holder (and_container before c inside) = false
 abbrev pub line_begun : Page → Holder → Tree → List ℕ
 line_begun p holder before = if is_in_line holder before then own_ending p else []
 
+-- Task list items (GFM 5.3): the first block of an item may be a paragraph that begins with a task list item marker.
+
+abbrev pub is_in_item : Holder → Bool
+is_in_item no_item = false
+is_in_item loose_item = true
+is_in_item tight_item = true
+
+-- there is no block among these siblings: blank lines (4.9) and definitions (4.7) are none
+abbrev pub has_no_block : Tree → Bool
+has_no_block nothing = true
+has_no_block (and_leaf before blank) = has_no_block before
+has_no_block (and_leaf before (paragraph [])) = has_no_block before
+has_no_block (and_leaf before leaf) = false
+has_no_block (and_container before c inside) = false
+
+-- the next block after these siblings is the first one of an item, if they are in one
+abbrev pub is_first_block : (in_item : Bool) → Tree → Bool
+is_first_block in_item before = in_item && has_no_block before
+
+-- the setting of the text of a leaf, which may be the first block of an item
+abbrev pub leaf_setting : Setting → (first : Bool) → Leaf → Setting
+leaf_setting s first (paragraph text) = record s { first_of_item = first }
+leaf_setting s first leaf = s
+
+-- that of a leaf behind these siblings
+abbrev pub setting_behind : Setting → Holder → Tree → Leaf → Setting
+setting_behind s holder before leaf = leaf_setting s (is_first_block (is_in_item holder) before) leaf
+
 -- A leaf behind these siblings. A paragraph right in an item of a tight list is its text alone (5.3); one of definitions alone is nothing (4.7).
 abbrev pub leaf_behind : Setting → Page → Holder → Tree → Leaf → List ℕ
 leaf_behind s p holder before blank = []
 leaf_behind s p holder before (paragraph []) = []
-leaf_behind s p tight_item before (paragraph (c ∷ cs)) = text_html s p (c ∷ cs)
-leaf_behind s p holder before leaf = line_begun p holder before ++ leaf_html s p leaf
+leaf_behind s p tight_item before (paragraph (c ∷ cs)) = text_html (setting_behind s tight_item before (paragraph (c ∷ cs))) p (c ∷ cs)
+leaf_behind s p holder before leaf = line_begun p holder before ++ leaf_html (setting_behind s holder before leaf) p leaf
 
 abbrev pub quote_html : Page → List ℕ → List ℕ
 quote_html p inside = on_line p (codes "<blockquote>") ++ inside ++ on_line p (codes "</blockquote>")
@@ -129,13 +160,14 @@ behind_item p next m = if goes_on next m then [] else on_line p (list_closing m)
 abbrev pub item_html : Page → List ℕ → List ℕ
 item_html p inside = on_line p (codes "<li>" ++ inside ++ codes "</li>")
 
--- siblings in this holder, before this item if one is next
+-- siblings in this holder, before this item if one is next; a footnote definition, which the tree of a document without extensions has not, is its blocks
 abbrev pub tree_html : Setting → Page → Holder → Option NextItem → Tree → List ℕ
 tree_html s p holder next nothing = []
 tree_html s p holder next (and_leaf before blank) = tree_html s p holder next before
 tree_html s p holder next (and_leaf before leaf) = tree_html s p holder None before ++ leaf_behind s p holder before leaf
 tree_html s p holder next (and_container before quote inside) =
     tree_html s p holder None before ++ line_begun p holder before ++ quote_html p (tree_html s p no_item None inside)
+tree_html s p holder next (and_container before (footnote label) inside) = tree_html s p holder None before ++ line_begun p holder before ++ tree_html s p no_item None inside
 tree_html s p holder next (and_container before (item m columns) inside) =
     let loose = is_of_loose_list next m (and_container before (item m columns) inside) in
     tree_html s p holder (Some (record { marker = m; is_loose = loose })) before
@@ -143,7 +175,7 @@ tree_html s p holder next (and_container before (item m columns) inside) =
 
 -- Documents.
 
--- the options of the inline layer, with CommonMark's rules
+-- the options of the inline layer for CommonMark
 abbrev pub commonmark : ParseOptions
 commonmark = record default_options { commonmark = true }
 
@@ -151,29 +183,30 @@ commonmark = record default_options { commonmark = true }
 abbrev pub defined_by : Decoding → Definition → Defined
 defined_by how d = record { identifier = identifier d; destination = resolved how (text_of d.destination); title = option_map (λ t. resolved how (text_of t)) d.title }
 
--- what stands beside the inline tree of each text: of several definitions with one identifier the first counts
-abbrev pub setting_of : List ℕ → Setting
-setting_of bytes = record {
+-- What is beside the inline tree of each text, with these options of the inline layer: of several definitions with one identifier the first counts. There are
+-- no footnote definitions.
+abbrev pub setting_of : ParseOptions → List ℕ → Setting
+setting_of reading bytes = record {
   bytes = bytes;
-  options = commonmark;
-  references = references_of commonmark;
-  definitions = map identifier (definitions bytes);
+  options = reading;
+  references = references_of reading;
+  definitions = map identifier (definitions no_extensions bytes);
   footnotes = [];
   first_of_item = false;
   content = [];
 }
 
-abbrev pub page_of : HtmlOptions → List ℕ → Page
-page_of options bytes = record {
+abbrev pub page_of : ParseOptions → HtmlOptions → List ℕ → Page
+page_of reading options bytes = record {
   bytes = bytes;
   content = [];
-  rules = rules_of commonmark;
-  footnotes_on = false;
-  decoding = decoding_of commonmark;
-  definitions = map (defined_by (decoding_of commonmark)) (definitions bytes);
+  rules = rules_of reading;
+  footnotes_on = reading.constructs.gfm_label_start_footnote;
+  decoding = decoding_of reading;
+  definitions = map (defined_by (decoding_of reading)) (definitions no_extensions bytes);
   options = options;
 }
 
--- the HTML of a document
-unfoldable pub document_html : HtmlOptions → List ℕ → List ℕ
-document_html options bytes = tree_html (setting_of bytes) (page_of options bytes) no_item None (document_tree bytes)
+-- the HTML of a document whose texts are read with these options
+unfoldable pub document_html : ParseOptions → HtmlOptions → List ℕ → List ℕ
+document_html reading options bytes = tree_html (setting_of reading bytes) (page_of reading options bytes) no_item None (document_tree no_extensions bytes)

@@ -1,5 +1,5 @@
 -- What some codes say where they are no inline content, and lines as HTML: code, HTML, info strings, and what definitions say (CommonMark 4.4 to 4.7).
-use Rattle.std.specs.Prelude.{ℕ, Bool, not, nat_lt, List, [], ◌∷◌, ◌++◌, codes, filter, flat_map, slice_range, if◌then◌else◌}
+use Rattle.std.specs.Prelude.{ℕ, Bool, not, ◌==◌, nat_lt, List, [], ◌∷◌, ◌++◌, length, codes, filter, flat_map, slice_range, if◌then◌else◌}
 use Rattle.std.specs.Char.{is_ascii_whitespace}
 use Rattle.std.specs.List.{slice_split}
 use Rattle.markdown_content.specs.Codes.{Code, is_line_ending}
@@ -21,10 +21,15 @@ text_of cs = let s = span is_later_column cs in values_of s.0 ++ values_of (filt
 abbrev pub own_ending : Page → List ℕ
 own_ending p = line_ending p.options.line_ends (codes "\n")
 
+-- A line ending of code or of HTML, which is these bytes. One byte is written as LF, even where line endings are kept: a CR would join with the LF of an empty
+-- line after it.
+abbrev pub block_ending : Page → List ℕ → List ℕ
+block_ending p bytes = line_ending p.options.line_ends (if length bytes == 1 then codes "\n" else bytes)
+
 -- the line ending that these codes are; the page's own, where the document ends without one
 abbrev pub ending : Page → List Code → List ℕ
 ending p [] = own_ending p
-ending p (c ∷ cs) = line_ending p.options.line_ends (slice_range p.bytes c.start.index c.stop.index)
+ending p (c ∷ cs) = block_ending p (slice_range p.bytes c.start.index c.stop.index)
 
 -- a line, whose text is written in this way
 abbrev pub line_html : Page → (List ℕ → List ℕ) → List Code → List ℕ

@@ -10,7 +10,7 @@ pub fn texts_are_bytes()
     ensures { TextsAreBytes }
 {}
 
-/// No text of a document becomes markup. With raw HTML off the HTML of any document is a sequence of texts without `<`, `>` and `"` and of elements of a
+/// No text of a document becomes markup. With raw HTML off the HTML of any document, read with any options, is a sequence of texts without `<`, `>` and `"` and of elements of a
 /// list, balanced and nested.
 ///
 /// The elements are `p`, `h1` to `h6`, `pre` with `code`, `hr`, `blockquote`, `ul`, `ol` and `li`, and those of inline markup, each with the attributes that

@@ -2,7 +2,7 @@
 //!
 //! In a document `|` stands for a line feed, and `~` for a tab. In a line of answer a paragraph is `p`, a heading that an underline made `h`, and a
 //! thematic break `b`. Behind the first two stand the link reference definitions at the front, each as `[label]<destination>(title)`, and how many pieces
-//! the text has in the document without its definitions. An item is `-` in a tight list and `=` in a loose one. Before it stands `{` where it begins the
+//! the text has in the document without its definitions. HTML is `m`, with how many pieces it has. An item is `-` in a tight list and `=` in a loose one. Before it stands `{` where it begins the
 //! list, and behind it `}` where it ends the list. Before each of these stands the last digit of the number of the line on which it begins.
 //!
 //! Where memory is refused, the answers end there, and the status is 3.
@@ -49,7 +49,8 @@ fn push_digit(out: &mut Vec<u8>, number: usize) -> Result<(), AllocError> {
 // Appends the line of a leaf that is printed.
 fn push_line(out: &mut Vec<u8>, leaf: &Leaf, line: usize) -> Result<(), AllocError> {
     match leaf {
-        Leaf::Paragraph(_) | Leaf::Underlined(_, _) | Leaf::ThematicBreak => push_digit(out, line),
+        Leaf::Paragraph(_) | Leaf::Underlined(_, _) | Leaf::ThematicBreak | Leaf::Html(_, _, _) =>
+            push_digit(out, line),
         _ => Ok(()),
     }
 }
@@ -86,6 +87,10 @@ fn push_leaf(
             push_front(alloc, out, document, text.as_slice(), left.as_slice())?;
         }
         (Leaf::ThematicBreak, _) => out.push(b'b')?,
+        (Leaf::Html(_, text, _), _) => {
+            out.push(b'm')?;
+            push_digit(out, text.len())?;
+        }
         _ => {}
     }
     Ok(())

@@ -3,7 +3,7 @@ use Rattle.std.specs.Prelude.{flat_map}
 use Rattle.markdown_block_definitions.specs.DefinitionTexts.{AreUtf8Texts, texts_of, texts_in}
 use Rattle.markdown_block_definitions.specs.ResolvedRows.{definitions_of_row}
 use Rattle.markdown_block_definitions.specs.declared.front.Definition.{Definition}
-use Rattle.markdown_block_definitions.proofs.ResolvedRowLemmas.{document-definitions, document-tree, document-nested, document-texts, resolved-length}
+use Rattle.markdown_block_definitions.proofs.ResolvedRowLemmas.{document-definitions, document-tree, document-nested, document-texts, line-rows, resolved-length}
 use Rattle.markdown_block_definitions.proofs.DefinitionCharacters.{definitions-utf8, all-alike}
 use Rattle.markdown_block_definitions.proofs.document.read.Goals as goal
 
@@ -33,3 +33,6 @@ returns-clause-nested c = document-nested c.args.bytes.now c.in_ok-found.found c
 
 pub returns-clause-lined : goal.returns-clause-lined
 returns-clause-lined c = c.in_ok-found.ensures.lined ∙ resolved-length c.args.bytes.now c.in_ok-found.found.rows.items _ c.in_ok-rows.ensures.rows
+
+pub returns-clause-lines : goal.returns-clause-lines
+returns-clause-lines c = line-rows c.args.bytes.now c.in_ok-found.found.rows.items _ c.in_ok-rows.ensures.rows

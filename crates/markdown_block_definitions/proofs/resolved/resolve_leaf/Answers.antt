@@ -13,6 +13,7 @@ returns-in_ok-resolve_text-in-Underlined-clause-leaf c =
     rw c.in-Underlined.is (record {
       leaf = ap (λ (cs : List Code). underlined c.in-Underlined.level cs) (trimmed-left (content_of c.args.document.now c.in-Underlined.text.items) _ _ c.in_ok-trim_end-in-Underlined.ensures.codes left.codes);
       text = λ u. record { content = left.content u c.requires.fits; trimmed = left.trimmed; none = left.none };
+      lines = left.lines;
     })
 
 pub returns-in_default : goal.returns-in_default

@@ -2,7 +2,7 @@ use Rattle.std.proofs.Common.{◌∙◌, ap, arith}
 use Rattle.markdown_content.specs.Content.{content_of}
 use Rattle.markdown_block_model.specs.LineRests.{trimmed_end}
 use Rattle.markdown_block_definitions.proofs.LinesTaken.{few-lines, pieces-left}
-use Rattle.markdown_block_definitions.proofs.ResolvedRowLemmas.{ends-twice}
+use Rattle.markdown_block_definitions.proofs.ResolvedRowLemmas.{ends-twice, placed-lines}
 use Rattle.markdown_block_definitions.proofs.resolved.resolve_text.Goals as goal
 
 pub cut_lines-requires : goal.cut_lines-requires
@@ -21,3 +21,6 @@ returns-clause-content c = λ u l. c.in_ok-trim_end.ensures.content (c.cut_lines
 
 pub returns-clause-trimmed : goal.returns-clause-trimmed
 returns-clause-trimmed c = ends-twice (content_of c.args.document.now c.cut_lines.new.text.items) _ c.in_ok-trim_end.ensures.codes
+
+pub returns-clause-lines : goal.returns-clause-lines
+returns-clause-lines c = placed-lines c.args.document.now _ (c.in_ok-trim_end.ensures.text (c.cut_lines.ensures.placed c.args.document.now c.requires)).placed

@@ -4,7 +4,7 @@ use Rattle.markdown_model.specs.CodeTests.{is_between}
 use Rattle.markdown_block_model.specs.LineRests.{indent}
 use Rattle.markdown_block_model.specs.BlockTree.{heading, fenced_code, item}
 use Rattle.markdown_block_model.specs.BlockStarts.{leaf_begins, container_begins}
-use Rattle.markdown_block_line.specs.LineStarts.{heading_start}
+use Rattle.markdown_block_line.specs.LineStarts.{heading_start, fence_start}
 use Rattle.markdown_block_line.specs.LineBlocks.{marker_of, fence_of}
 use Rattle.markdown_block_line.proofs.RestValues.{rest-values, trimmed-drop, values-length, codes_with, values-of-codes}
 use Rattle.markdown_block_line.proofs.BlocksBegin.{begun-code, begun-first}
@@ -76,3 +76,9 @@ returns-in-Some-heading_at-clause-start c = λ cs h.
     let k = c.indent_to-columns.result in
     let e : k ≡ indent cs = omega (arith, c.indent_to-columns.ensures.count cs h, c.if-columns-eq4.false) in
     ap (λ i. k + i) (c.in-Some-heading_at.ensures.start (drop k cs) (rest-values k cs c.args.line.now h)) ∙ ap (λ j. j + heading_start (drop j cs)) e ∙ ap (λ (r : List Code). indent cs + heading_start r) (sym (trimmed-drop cs))
+
+pub returns-in-Some-fence_at-clause-start : goal.returns-in-Some-fence_at-clause-start
+returns-in-Some-fence_at-clause-start c = λ cs h.
+    let k = c.indent_to-columns.result in
+    let e : k ≡ indent cs = omega (arith, c.indent_to-columns.ensures.count cs h, c.if-columns-eq4.false) in
+    ap (λ i. k + i) (c.in-Some-fence_at.ensures.start (drop k cs) (rest-values k cs c.args.line.now h)) ∙ ap (λ j. j + fence_start (drop j cs)) e ∙ ap (λ (r : List Code). indent cs + fence_start r) (sym (trimmed-drop cs))

@@ -1,6 +1,6 @@
 use Rattle.std.proofs.Common.{◌∙◌, ◌+◌, ◌<◌, sym, arith, drop, length, refl}
 use Rattle.markdown_block_line.proofs.RestValues.{rest-values}
-use Rattle.markdown_block_line.proofs.RestStarts.{fence-none, fence-short, fence-not, fence-here}
+use Rattle.markdown_block_line.proofs.RestStarts.{fence-none, fence-short, fence-not, fence-here, fence-starts}
 use Rattle.markdown_block_line.proofs.starts.fence_at.Goals as goal
 
 pub returns-then-line-eq0-clause-found : goal.returns-then-line-eq0-clause-found
@@ -27,3 +27,9 @@ returns-clause-found c = λ cs h.
     (sym (c.may_be_info.ensures (drop k cs) (rest-values k cs c.args.line.now h)) ∙ c.if-not-may_be_info.false)
     (c.indent.ensures.count (drop k cs) (rest-values k cs c.args.line.now h))
     (c.trimmed_len-len.ensures.same (drop (k + i) cs) (rest-values (k + i) cs c.args.line.now h))
+
+pub returns-clause-start : goal.returns-clause-start
+returns-clause-start c = λ cs h.
+    let l : 0 < length c.args.line.now = omega (arith, c.if-line-eq0.false) in
+    let k = c.count_first-count.result in
+    fence-starts _ k c.indent.result 0 cs c.args.line.now h l refl (c.count_first-count.ensures.count cs h) (c.indent.ensures.count (drop k cs) (rest-values k cs c.args.line.now h))

@@ -1,8 +1,6 @@
 use Rattle.std.proofs.Common.{◌≡◌, ◌∙◌, ap, refl, sym, None, ℕ, suc, ◌+◌, ◌-◌, List, ◌++◌, length, length-append, append_assoc, append-nil, replicate, arith}
 use Rattle.std.proofs.lemmas.List.{length-replicate}
 use Rattle.std.proofs.lemmas.List.Elements.{All-nil}
-use Rattle.std.proofs.lemmas.Str.{IsCharBoundary-start}
-use Rattle.markdown_content.proofs.DocumentPlaces.{point_start}
 use Rattle.markdown_blocks.specs.declared.reader.Reader.{Reader}
 use Rattle.markdown_block_model.specs.BlockTree.{nothing}
 use Rattle.markdown_block_model.specs.BlockLines.{block_count}
@@ -17,13 +15,15 @@ pub loop-point-init : goal.loop-point-init
 loop-point-init g c =
     let bytes = c.args.bytes.now in
     let r : Reader = record { rows = c.new.result; path = c.new-2.result; «open» = None } in
+    let p = c.text_start-point.result in
+    let start = c.text_start-point.ensures in
     record {
-      is_point = point_start bytes;
+      is_point = start.is_point;
       between = start-between bytes r c.new.ensures.items c.new-2.ensures;
-      characters = λ u. IsCharBoundary-start bytes u;
+      characters = start.between;
       texts = (rw c.new.ensures.items (All-nil (IsPlacedRow bytes), tt), tt);
-      same = read-none g.T.HasText.has_text bytes r (start-tree bytes r c.new.ensures.items refl);
-      begins = rw c.new-lines.ensures.items (begins-none g.T.HasText.has_text bytes r (start-tree bytes r c.new.ensures.items refl));
+      same = read-none g.T.HasText.has_text bytes r p start.codes (start-tree bytes r c.new.ensures.items refl);
+      begins = rw c.new-lines.ensures.items (begins-none g.T.HasText.has_text bytes r p start.codes (start-tree bytes r c.new.ensures.items refl));
       lined = rw c.new-lines.ensures.items (sym (ap block_count (start-tree bytes r c.new.ensures.items refl)));
       numbered = omega arith;
     }

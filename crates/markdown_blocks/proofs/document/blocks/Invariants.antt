@@ -1,5 +1,6 @@
 use Rattle.std.proofs.Common.{◌≡◌, ◌-◌, ◌++◌, ◌≤◌, suc, length}
 use Rattle.markdown_content.specs.DocumentWalk.{IsPoint}
+use Rattle.markdown_block_model.specs.BlockTree.{no_extensions}
 use Rattle.markdown_block_model.specs.BlockLines.{begins_of, block_count}
 use Rattle.markdown_block_model.specs.DocumentBlocks.{blocks_of}
 use Rattle.markdown_blocks.specs.BlockRows.{whole_tree, IsBetween}
@@ -13,8 +14,8 @@ invariant-loop-point g l = record {
   between : IsBetween l.bytes l.reader;
   characters : StandsBetween l.bytes l.point;
   texts : HasPlacedTexts l.bytes l.point l.reader;
-  same : read_on g.T.HasText.has_text l.bytes l.reader l.point ≡ blocks_of g.T.HasText.has_text l.bytes;
-  begins : l.lines.items ++ begins_on g.T.HasText.has_text l.number l.bytes l.reader l.point ≡ begins_of g.T.HasText.has_text l.bytes;
+  same : read_on g.T.HasText.has_text l.bytes l.reader l.point ≡ blocks_of no_extensions g.T.HasText.has_text l.bytes;
+  begins : l.lines.items ++ begins_on g.T.HasText.has_text l.number l.bytes l.reader l.point ≡ begins_of no_extensions g.T.HasText.has_text l.bytes;
   lined : length l.lines.items ≡ block_count (whole_tree l.bytes l.reader);
   numbered : l.number ≤ suc l.point.index;
 }

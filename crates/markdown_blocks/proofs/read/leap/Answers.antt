@@ -1,4 +1,5 @@
 use Rattle.std.proofs.Common.{◌≡◌, ◌∙◌, ◌≤◌, ◌+◌, ◌-◌, arith, ap}
+use Rattle.markdown_block_model.specs.BlockTree.{no_extensions}
 use Rattle.markdown_block_model.specs.DocumentBlocks.{read_line}
 use Rattle.markdown_blocks.specs.TreeDepth.{at_depth}
 use Rattle.markdown_blocks.specs.BlockRows.{depth, whole_tree}
@@ -12,4 +13,4 @@ returns-clause-same c = λ has_text.
     let m : depth r ≤ c.args.outside + c.row-row.result = omega arith in
     let e : depth r - 1 ≡ c.len-len.result - 1 = omega arith in
     leap has_text bytes r c.args.rest.now.codes c.args.outside c.row-row.result c.requires.between (c.is_bare.ensures c.if-not-is_bare.false) c.row-row.ensures c.requires.within m
-    ∙ ap (λ k. at_depth k (read_line has_text c.args.rest.now.codes) (whole_tree bytes r)) e
+    ∙ ap (λ k. at_depth k (read_line no_extensions has_text c.args.rest.now.codes) (whole_tree bytes r)) e

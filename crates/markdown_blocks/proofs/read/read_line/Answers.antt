@@ -1,10 +1,10 @@
 use Rattle.std.proofs.Common.{◌≡◌, ◌<◌, ◌∙◌, sym, ap, arith}
+use Rattle.markdown_block_model.specs.BlockTree.{no_extensions}
 use Rattle.markdown_block_model.specs.DocumentBlocks.{read_line}
 use Rattle.markdown_blocks.specs.TreeDepth.{at_depth}
 use Rattle.markdown_blocks.specs.BlockRows.{depth, whole_tree}
 use Rattle.markdown_blocks.proofs.ReaderTrees.{whole-front}
 use Rattle.markdown_blocks.proofs.ContainerWalks.{walk-lazy, walk-stand}
-use Rattle.markdown_blocks.proofs.LazyLines.{lazy-filled}
 use Rattle.markdown_blocks.proofs.read.read_line.Goals as goal
 
 pub returns-then-is_lazy-clause-tree : goal.returns-then-is_lazy-clause-tree
@@ -32,8 +32,8 @@ returns-clause-tree g c =
 pub follow-requires-clause-texts : goal.follow-requires-clause-texts
 follow-requires-clause-texts g c = rw (c.go_on-depth.ensures.bytes, c.go_on-depth.ensures.start) c.requires.texts
 
-pub join-requires-clause-filled : goal.join-requires-clause-filled
-join-requires-clause-filled g c = lazy-filled c.go_on-depth.result.1.codes (whole_tree c.go_on-depth.result.1.bytes c.args.reader.now) (sym c.is_lazy.ensures ∙ c.if-is_lazy.true)
+pub join-requires-clause-lazy : goal.join-requires-clause-lazy
+join-requires-clause-lazy g c = sym c.is_lazy.ensures ∙ c.if-is_lazy.true
 
 pub join-requires-clause-texts : goal.join-requires-clause-texts
 join-requires-clause-texts g c = rw (c.go_on-depth.ensures.bytes, c.go_on-depth.ensures.start) c.requires.texts
@@ -54,4 +54,4 @@ returns-then-depth-len-clause-tree g c =
     let on = c.go_on-depth.ensures in
     let same = on.bytes in
     let e : depth r ≡ c.go_on-depth.result.0 = omega arith in
-    rw same at c.in_ok-follow.ensures.tree ∙ ap (λ n. at_depth n (read_line g.T.HasText.has_text c.go_on-depth.result.1.codes) (whole_tree bytes r)) e ∙ sym (on.tree g.T.HasText.has_text)
+    rw same at c.in_ok-follow.ensures.tree ∙ ap (λ n. at_depth n (read_line no_extensions g.T.HasText.has_text c.go_on-depth.result.1.codes) (whole_tree bytes r)) e ∙ sym (on.tree g.T.HasText.has_text)

@@ -1,5 +1,8 @@
 use Rattle.std.proofs.Common.{◌≡◌, ◌∙◌, ap, List, None}
-use Rattle.markdown_block_model.specs.BlockTree.{nothing}
+use Rattle.std.specs.Prelude.{All}
+use Rattle.markdown_block_definitions.specs.ResolvedRows.{IsTextRow, IsLineRow}
+use Rattle.markdown_block_definitions.proofs.RowPieceLemmas.{pieces-of-rows}
+use Rattle.markdown_block_model.specs.BlockTree.{no_extensions, nothing}
 use Rattle.markdown_block_model.specs.LinkDefinitions.{document_tree}
 use Rattle.markdown_blocks.specs.BlockRows.{rows_from}
 use Rattle.markdown_blocks.specs.NestedRows.{AreNested}
@@ -22,15 +25,19 @@ returns-clause-blocks c =
     let bytes = c.args.bytes.now in
     let rows = c.as_slice-rows.result.now in
     let same : rows ≡ c.in_ok-found.found.blocks.rows.items = c.as_slice-rows.ensures.value in
+    let texts : All (IsTextRow bytes) rows = rw same (c.in_ok-found.ensures.texts c.in_default.ensures.ok.0) in
+    let lines : All (IsLineRow bytes) rows = rw same c.in_ok-found.ensures.lines in
     let tree = ap (rows_from bytes nothing) same ∙ c.in_ok-found.ensures.tree in
     record {
       rows = rows;
       tree = tree;
       nested = rw same c.in_ok-found.ensures.nested;
-      texts = rw same (c.in_ok-found.ensures.texts c.in_default.ensures.ok.0);
+      texts = texts;
+      lines = lines;
+      stand = pieces-of-rows bytes rows texts lines;
       blocks_are =
           c.in_ok-blocks.ensures.blocks
           ∙ ap (λ (ps : List Place). flat_blocks 0 rows ps c.as_slice-lines.result.now) (c.as_slice.ensures.value ∙ c.in_ok-places.ensures ∙ ap (places_in None) tree)
-          ∙ ap (flat_blocks 0 rows (places_in None (document_tree bytes))) (c.as_slice-lines.ensures.value ∙ c.in_ok-found.ensures.begins);
+          ∙ ap (flat_blocks 0 rows (places_in None (document_tree no_extensions bytes))) (c.as_slice-lines.ensures.value ∙ c.in_ok-found.ensures.begins);
       pieces_are = c.in_ok-blocks.ensures.pieces;
     }

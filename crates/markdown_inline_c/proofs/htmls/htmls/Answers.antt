@@ -1,10 +1,10 @@
-use Rattle.std.proofs.Common.{◌≡◌, ◌∙◌, ap, subst, refl, inl, inr, ℕ, [], List, map}
+use Rattle.std.proofs.Common.{◌≡◌, ◌∙◌, ap, subst, refl, inl, inr, ℕ, [], List, length, map, Option}
 use Rattle.markdown_content.specs.declared.configuration.ParseOptions.{ParseOptions}
 use Rattle.markdown_html.specs.View.{page_from}
 use Rattle.markdown_html_model.specs.Html.{Page}
 use Rattle.markdown_model.specs.Setting.{Setting}
 use Rattle.markdown_run_text.specs.RunSetting.{setting_of}
-use Rattle.markdown_inline_c.specs.FlatHtml.{page}
+use Rattle.markdown_inline_c.specs.FlatHtml.{limit_in, page}
 use Rattle.markdown_inline_c.specs.FlatHtmls.{AreWritable, IsHtmlFaultAt, html_of_each, htmls_of, tree_at}
 use Rattle.markdown_inline_c.specs.FlatTexts.{many_setting, setting_by}
 use Rattle.markdown_inline_c.specs.Many.{AreFound, EndsBy}
@@ -20,10 +20,10 @@ use Rattle.markdown_inline_c.proofs.WrittenContents.{same_page}
 use Rattle.markdown_inline_c.proofs.htmls.htmls.Goals as goal
 
 abbrev holds : Input → List FlatTarget → ℕ → ℕ → List FlatContent → Type 0
-holds i targets options limit = AreWritable (page i targets options) i.pieces.now (tree_at (many_setting i) i.pieces.now) limit
+holds i targets options limit = AreWritable (page i targets options) i.pieces.now (tree_at (many_setting i) i.pieces.now) (limit_in limit (length i.bytes.now))
 
 abbrev refuses : Input → List FlatTarget → ℕ → ℕ → List FlatContent → FlatContent → Fault → Type 0
-refuses i targets options limit = IsHtmlFaultAt (page i targets options) i.pieces.now (tree_at (many_setting i) i.pieces.now) limit
+refuses i targets options limit = IsHtmlFaultAt (page i targets options) i.pieces.now (tree_at (many_setting i) i.pieces.now) (limit_in limit (length i.bytes.now))
 
 pub returns-in_err-check_input : goal.returns-in_err-check_input
 returns-in_err-check_input c =
@@ -76,14 +76,16 @@ returns c =
     let e : p ≡ page i targets c.args.options =
     same_page d i targets c.args.options c.in_ok-definitions.definitions c.in_ok-asked.allowed same c.in_ok-definitions.ensures.ok c.in_ok-asked.ensures.ok.1
     in
-    let Of : Page → Setting → Type 0 = λ x y.
+    let Of : Page → Setting → Option ℕ → Type 0 = λ x y most.
     AreFound (html_of_each x [] (map (tree_at y pieces) contents)) c.args.html.now c.write_all.new.html c.args.ends.now c.write_all.new.ends c.write_all.new.outcome
-    (λ read. EndsBy (AreWritable x pieces (tree_at y pieces) limit) (IsHtmlFaultAt x pieces (tree_at y pieces) limit) contents read c.write_all.result)
+    (λ read. EndsBy (AreWritable x pieces (tree_at y pieces) most) (IsHtmlFaultAt x pieces (tree_at y pieces) most) contents read c.write_all.result)
     in
+    let most = limit_in limit (length i.bytes.now) in
     behind_input (IsReadyForHtml i targets contents c.args.options) (IsHtmlInputRefused i targets contents c.args.options) (holds i targets c.args.options limit) (refuses i targets c.args.options limit) contents (htmls_of i targets contents c.args.options) c.args.html.now c.write_all.new.html
     c.args.ends.now c.write_all.new.ends c.write_all.new.outcome c.write_all.result
     (record {
       input = record { options = c.in_ok-asked.ensures.known; document = c.in_ok-check_input.ensures.document; labels = c.in_ok-check_input.ensures.labels };
       each_target = c.in_ok-check_targets.ensures.ok;
     })
-    (subst (λ (y : Setting). Of (page i targets c.args.options) y) same (subst (λ (x : Page). Of x (setting_of d)) e c.write_all.ensures))
+    (subst (λ (y : Setting). Of (page i targets c.args.options) y most) same
+    (subst (λ (x : Page). Of x (setting_of d) most) e (subst (λ (n : Option ℕ). Of p (setting_of d) n) c.limit_in-limit.ensures c.write_all.ensures)))

@@ -5,8 +5,8 @@ use Rattle.std.proofs.lemmas.Result.{on_ok_weaker}
 use Rattle.markdown_content.specs.Codes.{line_ending_len}
 use Rattle.markdown_block_line.proofs.RestValues.{by_bool}
 use Rattle.markdown_block_definitions.specs.TextCopies.{spot_place}
-use Rattle.markdown_html_model.specs.Html.{Page, line_ending}
-use Rattle.markdown_page_model.specs.PageTexts.{own_ending}
+use Rattle.markdown_html_model.specs.Html.{Page}
+use Rattle.markdown_page_model.specs.PageTexts.{own_ending, block_ending}
 use Rattle.markdown_page.specs.CodeLines.{IsPastColumns}
 use Rattle.markdown_page.specs.GivenPage.{page_of, bytes_of}
 use Rattle.markdown_page.proofs.LineTexts.{byte-in, IsTextEnd, line-written, line-in, ending-own, ending-here}
@@ -31,7 +31,7 @@ returns c =
     (λ (l : nat_lt c.text_end-to.result c.bytes_before-stop.result ≡ true).
     let lt : c.text_end-to.result < c.bytes_before-stop.result = grind (arith, nat_tests, l) in
     on_ok_weaker c.push_line_end.result
-    (λ (e : c.push_line_end.new.out.items ≡ c.push_as.new.out.items ++ line_ending p.options.line_ends (slice_range bytes c.text_end-to.result (c.text_end-to.result + line_ending_len (get_or bytes c.text_end-to.result 0) (drop (c.text_end-to.result + 1) bytes)))).
+    (λ (e : c.push_line_end.new.out.items ≡ c.push_as.new.out.items ++ block_ending p (slice_range bytes c.text_end-to.result (c.text_end-to.result + line_ending_len (get_or bytes c.text_end-to.result 0) (drop (c.text_end-to.result + 1) bytes)))).
     line-written p c.args.line c.args.raw at c.in_ok-from.from c.text_end-to.result c.bytes_before-stop.result c.args.out.now.items c.push_columns.new.out.items c.push_as.new.out.items c.push_line_end.new.out.items _
     c.first_spot.ensures.left past h c.in_ok-push_as.ensures e (ending-here p c.args.line c.in_ok-from.from c.text_end-to.result c.bytes_before-stop.result past.byte past.started h lt)
     ∙ ap (λ (xs : List ℕ). c.args.out.now.items ++ xs) (line-in whole bytes c.args.line c.args.raw same))

@@ -16,6 +16,7 @@ invariant_of-result c =
     record {
       fits = i.fits;
       is_point = i.is_point;
+      filled = i.filled;
       begins = i.begins;
       same = i.same;
       breaks_are = i.breaks_are;

@@ -10,7 +10,7 @@ use Rattle.markdown_page.proofs.lists.Walk.put_container.Goals as goal
 pub returns-in_ok-enter-in-Quote-clause-walked : goal.returns-in_ok-enter-in-Quote-clause-walked
 returns-in_ok-enter-in-Quote-clause-walked c = λ t h.
     let w = c.leave.ensures.walked t h in
-    rw c.in-Quote.is (subst (λ n. IsWalked (at_depth n (λ s. and_container s quote nothing) t) c.enter.new.self) c.leave.ensures.depth (c.in_ok-enter-in-Quote.ensures.walked t quote w refl (appended-quote _ _ w.blank)))
+    rw c.in-Quote.is (subst (λ n. IsWalked (at_depth n (λ s. and_container s quote nothing) t) c.enter.new.self) c.leave.ensures.depth (c.in_ok-enter-in-Quote.ensures.walked t quote w refl refl (appended-quote _ _ w.blank)))
 
 pub returns-in_ok-enter-in-Item-clause-walked : goal.returns-in_ok-enter-in-Item-clause-walked
 returns-in_ok-enter-in-Item-clause-walked c = λ t h.
@@ -21,4 +21,4 @@ returns-in_ok-enter-in-Item-clause-walked c = λ t h.
     let apart : c.if-self.enter ≡ (c.leave.new.self.ends_with_blank && place.begins) =
     elim c.if-self.branch [ then-self v ↦ rw v.if-self.true v.enter-is | else-self v ↦ rw v.if-self.false (v.enter-is ∙ v.if-self.false) ] in
     rw c.in-Item.is (subst (λ n. IsWalked (at_depth n (λ s. and_container s (item m columns) nothing) t) c.enter-in-Item.new.self) c.leave.ensures.depth
-    (c.in_ok-enter-in-Item.ensures.walked t (item m columns) w refl (appended-item _ m columns _ c.leave.new.self.ends_with_blank c.if-self.enter place w.last w.blank c.item_place-place.ensures apart)))
+    (c.in_ok-enter-in-Item.ensures.walked t (item m columns) w refl refl (appended-item _ m columns _ c.leave.new.self.ends_with_blank c.if-self.enter place w.last w.blank c.item_place-place.ensures apart)))
