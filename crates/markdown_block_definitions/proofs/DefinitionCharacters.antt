@@ -22,7 +22,7 @@ use Rattle.markdown_block_model.specs.LinkDefinitions.{Definition, between, dest
 use Rattle.markdown_blocks.specs.BlockRows.{leaf_of}
 use Rattle.markdown_blocks.specs.TextRows.{HasPlacedText, IsPlacedRow}
 use Rattle.markdown_blocks.specs.declared.block.Leaf.{Leaf}
-use Rattle.markdown_blocks.specs.declared.block.Leaf.TheVariants.{Blank, ThematicBreak, Heading, Underlined, Paragraph, IndentedCode, FencedCode, Html}
+use Rattle.markdown_blocks.specs.declared.block.Leaf.TheVariants.{Blank, ThematicBreak, Heading, Underlined, Paragraph, IndentedCode, FencedCode, Html, FrontMatter}
 use Rattle.markdown_blocks.specs.declared.block.Row.{Row}
 use Rattle.markdown_blocks.specs.declared.block.Row.TheVariants.{LeafAt, ContainerAt}
 use Rattle.markdown_page_model.specs.PageTexts.{text_of}
@@ -322,6 +322,7 @@ module _ (bytes : List ℕ) (utf8 : IsUtf8 bytes) where
   leaf-utf8 (IndentedCode ls) h = All-nil Utf8In
   leaf-utf8 (FencedCode f info ls ended) h = All-nil Utf8In
   leaf-utf8 (Html k text ended) h = All-nil Utf8In
+  leaf-utf8 (FrontMatter ls) h = All-nil Utf8In
 
   row-utf8 : (r : Row) → IsPlacedRow bytes r → All Utf8In (definitions_of_row bytes r)
   row-utf8 (LeafAt d l) h = leaf-utf8 l h

@@ -10,7 +10,7 @@ use Rattle.markdown_content.specs.Content.{document_limit}
 use Rattle.markdown_content.specs.declared.parser.Piece.{Piece}
 use Rattle.markdown_model.specs.CodeTests.{is_whitespace_code}
 use Rattle.markdown_block_model.specs.BlockTree as model
-use Rattle.markdown_block_model.specs.BlockTree.{no_extensions, Tree, nothing, and_leaf, and_container}
+use Rattle.markdown_block_model.specs.BlockTree.{Extensions, Tree, nothing, and_leaf, and_container}
 use Rattle.markdown_block_model.specs.DocumentBlocks.{blocks_of}
 use Rattle.markdown_block_model.specs.LineRests.{trimmed_end}
 use Rattle.markdown_block_model.specs.LinkDefinitions.{has_text, text_of_leaf, resolved, definitions_of, definitions_in, definitions_within, definitions, document_tree}
@@ -23,7 +23,7 @@ use Rattle.markdown_blocks.specs.TreeDepth.{spine, at_depth}
 use Rattle.markdown_blocks.specs.declared.block.Blocks.{Blocks}
 use Rattle.markdown_blocks.specs.TextRows.{AreLinePieces, ArePlaced, HasPlacedText}
 use Rattle.markdown_blocks.specs.declared.block.Leaf.{Leaf}
-use Rattle.markdown_blocks.specs.declared.block.Leaf.TheVariants.{Blank, ThematicBreak, Heading, Underlined, Paragraph, IndentedCode, FencedCode, Html}
+use Rattle.markdown_blocks.specs.declared.block.Leaf.TheVariants.{Blank, ThematicBreak, Heading, Underlined, Paragraph, IndentedCode, FencedCode, Html, FrontMatter}
 use Rattle.markdown_blocks.specs.declared.block.Row.{Row}
 use Rattle.markdown_blocks.specs.declared.block.Row.TheVariants.{LeafAt, ContainerAt}
 use Rattle.markdown_blocks.proofs.NestedRowLemmas.{spine-leaf, spine-container}
@@ -58,6 +58,7 @@ other-leaf bytes (Paragraph text) f p u t = absurd (t text refl)
 other-leaf bytes (IndentedCode ls) f p u t = (record { leaf = refl; text = λ b. tt; lines = p }, refl)
 other-leaf bytes (FencedCode fence info ls ended) f p u t = (record { leaf = refl; text = λ b. tt; lines = p }, refl)
 other-leaf bytes (Html k text ended) f p u t = (record { leaf = refl; text = λ b. tt; lines = p }, refl)
+other-leaf bytes (FrontMatter ls) f p u t = (record { leaf = refl; text = λ b. tt; lines = p }, refl)
 
 -- Rows.
 
@@ -173,12 +174,12 @@ within-rows bytes (ContainerAt d c ∷ rs) t h =
 
 -- The document.
 
-module _ (bytes : List ℕ) (found : Blocks) (is : tree_of bytes found ≡ blocks_of no_extensions has_text bytes) (nested : AreNested 0 found.rows.items) where
-  pub document-definitions : flat_map (definitions_of_row bytes) found.rows.items ≡ definitions no_extensions bytes
+module _ (x : Extensions) (bytes : List ℕ) (found : Blocks) (is : tree_of bytes found ≡ blocks_of x has_text bytes) (nested : AreNested 0 found.rows.items) where
+  pub document-definitions : flat_map (definitions_of_row bytes) found.rows.items ≡ definitions x bytes
   document-definitions = sym (within-rows bytes found.rows.items nothing nested) ∙ ap definitions_within is
 
   module _ (ss : List Row) (h : AreResolved bytes found.rows.items ss) where
-    pub document-tree : rows_from bytes nothing ss ≡ document_tree no_extensions bytes
+    pub document-tree : rows_from bytes nothing ss ≡ document_tree x bytes
     document-tree = resolved-rows bytes found.rows.items ss nothing h ∙ ap resolved is
 
     pub document-nested : AreNested 0 ss

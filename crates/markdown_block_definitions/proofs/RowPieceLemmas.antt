@@ -13,7 +13,7 @@ use Rattle.markdown_block_model.specs.TextStarts.{is_line}
 use Rattle.markdown_blocks.specs.BlockRows.{leaf_of}
 use Rattle.markdown_blocks.specs.TextRows.{IsLinePiece, HasCodes, AreLinePieces}
 use Rattle.markdown_blocks.specs.declared.block.Leaf.{Leaf}
-use Rattle.markdown_blocks.specs.declared.block.Leaf.TheVariants.{Blank, ThematicBreak, Heading, Underlined, Paragraph, IndentedCode, FencedCode, Html}
+use Rattle.markdown_blocks.specs.declared.block.Leaf.TheVariants.{Blank, ThematicBreak, Heading, Underlined, Paragraph, IndentedCode, FencedCode, Html, FrontMatter}
 use Rattle.markdown_blocks.specs.declared.block.Row.{Row}
 use Rattle.markdown_blocks.specs.declared.block.Row.TheVariants.{LeafAt, ContainerAt}
 use Rattle.markdown_blocks.proofs.CodePieceLemmas.{piece-stands, piece-of-codes}
@@ -130,6 +130,7 @@ module _ (bytes : List ℕ) where
   leaf-pieces (IndentedCode ls) h u = code-pieces ls.items h.in_order
   leaf-pieces (FencedCode f info ls ended) h u = ((code-pieces (info ∷ []) h.0.in_order).0, code-pieces ls.items h.1.in_order)
   leaf-pieces (Html k text ended) h u = text-pieces text.items h.0.in_order h.0.one_line_each h.1
+  leaf-pieces (FrontMatter ls) h u = code-pieces ls.items h.in_order
 
   row-pieces : (r : Row) → IsTextRow bytes r → IsLineRow bytes r → HasPieces bytes r
   row-pieces (LeafAt d l) t h = leaf-pieces l h t

@@ -7,7 +7,7 @@ use Rattle.markdown_block_model.specs.LinkDefinitions.{Definition, text_of_leaf,
 use Rattle.markdown_blocks.specs.BlockRows.{leaf_of}
 use Rattle.markdown_blocks.specs.TextRows.{AreLinePieces, HasCodes}
 use Rattle.markdown_blocks.specs.declared.block.Leaf.{Leaf}
-use Rattle.markdown_blocks.specs.declared.block.Leaf.TheVariants.{Blank, ThematicBreak, Heading, Underlined, Paragraph, IndentedCode, FencedCode, Html}
+use Rattle.markdown_blocks.specs.declared.block.Leaf.TheVariants.{Blank, ThematicBreak, Heading, Underlined, Paragraph, IndentedCode, FencedCode, Html, FrontMatter}
 use Rattle.markdown_blocks.specs.declared.block.Row.{Row}
 use Rattle.markdown_blocks.specs.declared.block.Row.TheVariants.{LeafAt, ContainerAt}
 
@@ -27,6 +27,7 @@ IsTextLeaf bytes (Paragraph text) = IsTextWithPieces bytes text.items
 IsTextLeaf bytes (IndentedCode ls) = Unit {0}
 IsTextLeaf bytes (FencedCode f info ls ended) = Unit {0}
 IsTextLeaf bytes (Html k text ended) = Unit {0}
+IsTextLeaf bytes (FrontMatter ls) = Unit {0}
 
 abbrev pub IsTextRow : List ℕ → Row → Type 0
 IsTextRow bytes (LeafAt d l) = IsTextLeaf bytes l
@@ -42,6 +43,7 @@ HasLines bytes (Paragraph text) = AreLinePieces bytes text.items
 HasLines bytes (IndentedCode ls) = AreLinePieces bytes ls.items
 HasLines bytes (FencedCode f info ls ended) = AreLinePieces bytes (info ∷ []) × AreLinePieces bytes ls.items
 HasLines bytes (Html k text ended) = AreLinePieces bytes text.items × All (HasCodes bytes) text.items
+HasLines bytes (FrontMatter ls) = AreLinePieces bytes ls.items
 
 abbrev pub IsLineRow : List ℕ → Row → Type 0
 IsLineRow bytes (LeafAt d l) = HasLines bytes l

@@ -7,7 +7,7 @@ use Rattle.markdown_block_model.specs.LineRests.{lines_of}
 use Rattle.markdown_blocks.specs.CodePieces.{piece_of_codes}
 use Rattle.markdown_blocks.specs.BlockRows.{leaf_of}
 use Rattle.markdown_blocks.specs.declared.block.Leaf.{Leaf}
-use Rattle.markdown_blocks.specs.declared.block.Leaf.TheVariants.{Blank, ThematicBreak, Heading, Underlined, Paragraph, IndentedCode, FencedCode, Html}
+use Rattle.markdown_blocks.specs.declared.block.Leaf.TheVariants.{Blank, ThematicBreak, Heading, Underlined, Paragraph, IndentedCode, FencedCode, Html, FrontMatter}
 use Rattle.markdown_blocks.specs.declared.block.Row.{Row}
 use Rattle.markdown_blocks.specs.declared.block.Row.TheVariants.{LeafAt, ContainerAt}
 
@@ -45,6 +45,7 @@ pieces_in_leaf (Paragraph text) = text.items
 pieces_in_leaf (IndentedCode ls) = ls.items
 pieces_in_leaf (FencedCode f info ls ended) = info ∷ ls.items
 pieces_in_leaf (Html k text ended) = text.items
+pieces_in_leaf (FrontMatter ls) = ls.items
 
 -- the pieces of a row stand where the codes of its leaf do
 abbrev pub HasPieces : List ℕ → Row → Type 0

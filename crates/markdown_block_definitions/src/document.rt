@@ -2,7 +2,7 @@
 
 ghost use Rattle.std.specs.Prelude.{◌≡◌, ◌≤◌, length, map, IsUtf8, IfOk, All};
 ghost use Rattle.markdown_content.specs.Content.{document_limit, content_of};
-ghost use Rattle.markdown_block_model.specs.BlockTree.{no_extensions};
+ghost use Rattle.markdown_block_line.specs.LineBlocks.{extensions_of};
 ghost use Rattle.markdown_block_model.specs.BlockLines.{begins_of};
 ghost use Rattle.markdown_block_model.specs.DocumentBlocks.{blocks_of};
 ghost use Rattle.markdown_block_model.specs.LinkDefinitions.{has_text, definitions, document_tree};
@@ -16,6 +16,7 @@ use crate::copy::push_text;
 use crate::definition::definitions_len;
 use crate::front::{Definition, begins_otherwise};
 use crate::resolved::resolve_rows;
+use markdown_block_line::extensions::Extensions;
 use markdown_blocks::block::Blocks;
 use markdown_blocks::text::HasText;
 use markdown_content::parser::Piece;
@@ -56,33 +57,33 @@ impl HasText for Definitions {
 /// definitions at its front (CommonMark 4.3 and 4.7). These still stand in their paragraphs.
 ///
 /// The only error is that memory was refused.
-pub fn blocks(alloc: Global, bytes: &[u8]) -> Result<Blocks, AllocError>
+pub fn blocks(alloc: Global, extensions: Extensions, bytes: &[u8]) -> Result<Blocks, AllocError>
     requires { length bytes.now ≤ document_limit }
-    ensures tree { IfOk result (λ b. tree_of bytes.now b ≡ blocks_of no_extensions has_text bytes.now) }
+    ensures tree { IfOk result (λ b. tree_of bytes.now b ≡ blocks_of (extensions_of extensions) has_text bytes.now) }
     ensures texts { IfOk result (λ b. All (IsPlacedRow bytes.now) b.rows.items) }
     ensures nested { IfOk result (λ b. AreNested 0 b.rows.items) }
-    ensures begins { IfOk result (λ b. b.lines.items ≡ begins_of no_extensions has_text bytes.now) }
+    ensures begins { IfOk result (λ b. b.lines.items ≡ begins_of (extensions_of extensions) has_text bytes.now) }
     ensures lined { IfOk result (λ b. length b.lines.items ≡ length b.rows.items) }
 {
-    let found = markdown_blocks::document::blocks(alloc, &Definitions, bytes)?;
+    let found = markdown_blocks::document::blocks(alloc, &Definitions, extensions, bytes)?;
     Ok(found)
 }
 
 /// Reads a document of at most `usize::MAX / 8` bytes: its blocks without its link reference definitions, and these (CommonMark 4.7).
 ///
 /// A paragraph of definitions alone stays, without pieces. The only error is that memory was refused.
-pub fn read(alloc: Global, bytes: &[u8]) -> Result<Document, AllocError>
+pub fn read(alloc: Global, extensions: Extensions, bytes: &[u8]) -> Result<Document, AllocError>
     requires { length bytes.now ≤ document_limit }
-    ensures tree { IfOk result (λ d. tree_of bytes.now d.blocks ≡ document_tree no_extensions bytes.now) }
-    ensures definitions { IfOk result (λ d. map texts_of d.definitions.items ≡ map texts_in (definitions no_extensions bytes.now)) }
+    ensures tree { IfOk result (λ d. tree_of bytes.now d.blocks ≡ document_tree (extensions_of extensions) bytes.now) }
+    ensures definitions { IfOk result (λ d. map texts_of d.definitions.items ≡ map texts_in (definitions (extensions_of extensions) bytes.now)) }
     ensures utf8 { IfOk result (λ d. IsUtf8 bytes.now → All HasUtf8Texts d.definitions.items) }
     ensures texts { IfOk result (λ d. IsUtf8 bytes.now → All (IsTextRow bytes.now) d.blocks.rows.items) }
     ensures lines { IfOk result (λ d. All (IsLineRow bytes.now) d.blocks.rows.items) }
     ensures nested { IfOk result (λ d. AreNested 0 d.blocks.rows.items) }
-    ensures begins { IfOk result (λ d. d.blocks.lines.items ≡ begins_of no_extensions has_text bytes.now) }
+    ensures begins { IfOk result (λ d. d.blocks.lines.items ≡ begins_of (extensions_of extensions) has_text bytes.now) }
     ensures lined { IfOk result (λ d. length d.blocks.lines.items ≡ length d.blocks.rows.items) }
 {
-    let found = blocks(alloc, bytes)?;
+    let found = blocks(alloc, extensions, bytes)?;
     let mut definitions = Vec::new(alloc);
     let rows = resolve_rows(alloc, bytes, found.rows, &mut definitions)?;
     Ok(Document {

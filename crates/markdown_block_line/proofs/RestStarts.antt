@@ -9,7 +9,7 @@ use Rattle.std.proofs.Math.Seq.{take-length}
 use Rattle.markdown_content.specs.Codes.{Code, is_blank}
 use Rattle.markdown_model.specs.CodeTests.{values_of, is_value, is_between, is_empty, next_is}
 use Rattle.markdown_block_model.specs.LineRests.{indent, trimmed, skip, is_blank_line, is_gap, count_first, first_value, without_end, trimmed_end, only_if}
-use Rattle.markdown_block_model.specs.BlockTree.{no_extensions, heading, fenced_code, Fence}
+use Rattle.markdown_block_model.specs.BlockTree.{Extensions, heading, fenced_code, Fence}
 use Rattle.markdown_block_model.specs.LeafStarts.{fence_least, is_break_of, is_break, ends_blank, without_closing, heading_text, heading_of, heading_at, is_row_of, level_of, underline, may_be_info, fence_of, fence_at, is_closing}
 use Rattle.markdown_block_model.specs.ContainerStarts.{behind_quote}
 use Rattle.markdown_block_line.specs.LineValues.{is_blank_value, is_whitespace_value, count_value, is_break_values, len_without_end}
@@ -152,57 +152,37 @@ heading-here cs k i len h z s g e t =
 
 -- Fences.
 
-pub fence-none : (columns : ℕ) (cs : List Code) (ns : List ℕ) → values_of cs ≡ ns → length ns ≡ 0 → fence_at no_extensions columns cs ≡ None
-fence-none columns [] ns h l = refl
-fence-none columns (c ∷ cs) ns h l = absurd (omega (arith, l, ap length h))
+pub fence-none : (x : Extensions) (columns : ℕ) (cs : List Code) (ns : List ℕ) → values_of cs ≡ ns → length ns ≡ 0 → fence_at x columns cs ≡ None
+fence-none x columns [] ns h l = refl
+fence-none x columns (c ∷ cs) ns h l = absurd (omega (arith, l, ap length h))
 
 first-at : (cs : List Code) (ns : List ℕ) (d : ℕ) → values_of cs ≡ ns → 0 < length ns → first_value cs ≡ get_or ns 0 d
 first-at [] ns d h l = absurd (omega (arith, l, ap length h))
 first-at (c ∷ cs) ns d h l = ap (λ (vs : List ℕ). get_or vs 0 d) h
 
-fence-by : (columns n count : ℕ) (cs : List Code) (b : Bool) → first_value cs ≡ n → count ≡ count_first n cs → (nat_le (fence_least n) count && may_be_info no_extensions n (drop count cs)) ≡ b
-    → fence_at no_extensions columns cs ≡ only_if b (fenced_code (record { value = n; count = count; columns = columns }) (trimmed_end (trimmed (drop count cs))) [] false)
-fence-by columns n count cs b e h t =
-    ap (λ v. fence_of no_extensions columns v (count_first v cs) (drop (count_first v cs) cs)) e
-    ∙ ap (λ k. fence_of no_extensions columns n k (drop k cs)) (sym h)
+fence-by : (x : Extensions) (columns n count : ℕ) (cs : List Code) (b : Bool) → first_value cs ≡ n → count ≡ count_first n cs → (nat_le (fence_least n) count && may_be_info x n (drop count cs)) ≡ b
+    → fence_at x columns cs ≡ only_if b (fenced_code (record { value = n; count = count; columns = columns }) (trimmed_end (trimmed (drop count cs))) [] false)
+fence-by x columns n count cs b e h t =
+    ap (λ v. fence_of x columns v (count_first v cs) (drop (count_first v cs) cs)) e
+    ∙ ap (λ k. fence_of x columns n k (drop k cs)) (sym h)
     ∙ ap (λ v. only_if v (fenced_code (record { value = n; count = count; columns = columns }) (trimmed_end (trimmed (drop count cs))) [] false)) t
 
--- without math two dollars are no fence
-too-short : (n count : ℕ) (info : List Code) → count < 3 → (nat_le (fence_least n) count && may_be_info no_extensions n info) ≡ false
-too-short n count info s = by_bool (n == 36) dollar other
-  where
-    dollar : (n == 36) ≡ true → (nat_le (fence_least n) count && may_be_info no_extensions n info) ≡ false
-    dollar e =
-        let d : n ≡ 36 = grind (arith, nat_tests) in
-        ap (λ v. nat_le (fence_least n) count && may_be_info no_extensions v info) d ∙ and-none (nat_le (fence_least n) count)
+pub fence-short : (x : Extensions) (columns n count d : ℕ) (cs : List Code) (ns : List ℕ) → values_of cs ≡ ns → 0 < length ns → get_or ns 0 d ≡ n → count ≡ count_first n cs → count < fence_least n → fence_at x columns cs ≡ None
+fence-short x columns n count d cs ns h l e k s =
+    let short : nat_le (fence_least n) count ≡ false = grind (arith, nat_tests) in
+    fence-by x columns n count cs false (first-at cs ns d h l ∙ e) k (ap (λ v. v && may_be_info x n (drop count cs)) short)
 
-    other : (n == 36) ≡ false → (nat_le (fence_least n) count && may_be_info no_extensions n info) ≡ false
-    other e =
-        let x : nat_le 3 count ≡ false = grind (arith, nat_tests) in
-        ap (λ v. nat_le (if v then 2 else 3) count && may_be_info no_extensions n info) e ∙ ap (λ v. v && may_be_info no_extensions n info) x
+pub fence-not : (x : Extensions) (columns n count d : ℕ) (cs : List Code) (ns : List ℕ) → values_of cs ≡ ns → 0 < length ns → get_or ns 0 d ≡ n → count ≡ count_first n cs → may_be_info x n (drop count cs) ≡ false
+    → fence_at x columns cs ≡ None
+fence-not x columns n count d cs ns h l e k m =
+    fence-by x columns n count cs false (first-at cs ns d h l ∙ e) k (ap (λ v. nat_le (fence_least n) count && v) m ∙ and-none (nat_le (fence_least n) count))
 
-long-enough : (n count : ℕ) → 3 ≤ count → nat_le (fence_least n) count ≡ true
-long-enough n count s =
-    let x : nat_le 2 count ≡ true = grind (arith, nat_tests) in
-    let y : nat_le 3 count ≡ true = grind (arith, nat_tests) in
-    by_bool (n == 36) (λ (e : (n == 36) ≡ true). ap (λ v. nat_le (if v then 2 else 3) count) e ∙ x)
-    (λ (e : (n == 36) ≡ false). ap (λ v. nat_le (if v then 2 else 3) count) e ∙ y)
-
-pub fence-short : (columns n count d : ℕ) (cs : List Code) (ns : List ℕ) → values_of cs ≡ ns → 0 < length ns → get_or ns 0 d ≡ n → count ≡ count_first n cs → count < 3 → fence_at no_extensions columns cs ≡ None
-fence-short columns n count d cs ns h l e k s =
-    fence-by columns n count cs false (first-at cs ns d h l ∙ e) k (too-short n count (drop count cs) s)
-
-pub fence-not : (columns n count d : ℕ) (cs : List Code) (ns : List ℕ) → values_of cs ≡ ns → 0 < length ns → get_or ns 0 d ≡ n → count ≡ count_first n cs → may_be_info no_extensions n (drop count cs) ≡ false
-    → fence_at no_extensions columns cs ≡ None
-fence-not columns n count d cs ns h l e k m =
-    fence-by columns n count cs false (first-at cs ns d h l ∙ e) k (ap (λ v. nat_le (fence_least n) count && v) m ∙ and-none (nat_le (fence_least n) count))
-
-pub fence-here : (columns n count i len d : ℕ) (cs : List Code) (ns : List ℕ) → values_of cs ≡ ns → 0 < length ns → get_or ns 0 d ≡ n → count ≡ count_first n cs → 3 ≤ count
-    → may_be_info no_extensions n (drop count cs) ≡ true → i ≡ indent (drop count cs) → trimmed_end (drop (count + i) cs) ≡ take len (drop (count + i) cs)
-    → fence_at no_extensions columns cs ≡ Some (fenced_code (record { value = n; count = count; columns = columns }) (take len (drop (count + i) cs)) [] false)
-fence-here columns n count i len d cs ns h l e k s m j t =
-    let x : nat_le (fence_least n) count ≡ true = long-enough n count s in
-    fence-by columns n count cs true (first-at cs ns d h l ∙ e) k (ap (λ v. v && may_be_info no_extensions n (drop count cs)) x ∙ m)
+pub fence-here : (x : Extensions) (columns n count i len d : ℕ) (cs : List Code) (ns : List ℕ) → values_of cs ≡ ns → 0 < length ns → get_or ns 0 d ≡ n → count ≡ count_first n cs → fence_least n ≤ count
+    → may_be_info x n (drop count cs) ≡ true → i ≡ indent (drop count cs) → trimmed_end (drop (count + i) cs) ≡ take len (drop (count + i) cs)
+    → fence_at x columns cs ≡ Some (fenced_code (record { value = n; count = count; columns = columns }) (take len (drop (count + i) cs)) [] false)
+fence-here x columns n count i len d cs ns h l e k s m j t =
+    let enough : nat_le (fence_least n) count ≡ true = grind (arith, nat_tests) in
+    fence-by x columns n count cs true (first-at cs ns d h l ∙ e) k (ap (λ v. v && may_be_info x n (drop count cs)) enough ∙ m)
     ∙ ap (λ (r : List Code). Some (fenced_code (record { value = n; count = count; columns = columns }) (trimmed_end r) [] false)) (text-at cs count i j)
     ∙ ap (λ (r : List Code). Some (fenced_code (record { value = n; count = count; columns = columns }) r [] false)) t
 
@@ -215,21 +195,20 @@ any-of : (p : ℕ → Bool) (cs : List Code) → list_any (λ (c : Code). p c.va
 any-of p [] = refl
 any-of p (c ∷ cs) = ap (λ b. p c.value || b) (any-of p cs)
 
-pub info-tilde : (n : ℕ) (cs : List Code) → n ≡ 126 → may_be_info no_extensions n cs ≡ true
-info-tilde n cs e = rw e refl
+pub info-tilde : (x : Extensions) (n : ℕ) (cs : List Code) → n ≡ 126 → may_be_info x n cs ≡ true
+info-tilde x n cs e = rw e refl
 
-pub info-other : (n : ℕ) (cs : List Code) → (n ≡ 126 → ⊥) → (n ≡ 96 → ⊥) → may_be_info no_extensions n cs ≡ false
-info-other n cs a b =
-    let x : (n == 126) ≡ false = grind (arith, nat_tests) in
-    let y : (n == 96) ≡ false = grind (arith, nat_tests) in
-    ap (λ v. v || ((n == 96 || false) && not (list_any (is_value n) cs))) x ∙ ap (λ v. (v || false) && not (list_any (is_value n) cs)) y
+pub info-other : (x : Extensions) (n : ℕ) (cs : List Code) (b : Bool) → (n ≡ 126 → ⊥) → b ≡ (n == 96 || (x.math && n == 36)) → b ≡ false → may_be_info x n cs ≡ false
+info-other x n cs b a e f =
+    let t : (n == 126) ≡ false = grind (arith, nat_tests) in
+    ap (λ v. v || ((n == 96 || (x.math && n == 36)) && not (list_any (is_value n) cs))) t ∙ ap (λ v. v && not (list_any (is_value n) cs)) (sym e ∙ f)
 
-pub info-accent : (n : ℕ) (cs : List Code) (ns : List ℕ) (b : Bool) → values_of cs ≡ ns → n ≡ 96 → b ≡ list_any (λ v. v == n) ns → may_be_info no_extensions n cs ≡ not b
-info-accent n cs ns b h e t =
-    let x : (n == 126) ≡ false = grind (arith, nat_tests) in
-    let y : (n == 96) ≡ true = grind (arith, nat_tests) in
-    ap (λ v. v || ((n == 96 || false) && not (list_any (is_value n) cs))) x ∙ ap (λ v. (v || false) && not (list_any (is_value n) cs)) y
-    ∙ ap not (any-of (λ v. v == n) cs ∙ ap (list_any (λ v. v == n)) h ∙ sym t)
+pub info-apart : (x : Extensions) (n : ℕ) (cs : List Code) (ns : List ℕ) (a b : Bool) → values_of cs ≡ ns → (n ≡ 126 → ⊥) → a ≡ (n == 96 || (x.math && n == 36)) → a ≡ true → b ≡ list_any (λ v. v == n) ns
+    → may_be_info x n cs ≡ not b
+info-apart x n cs ns a b h o e t f =
+    let y : (n == 126) ≡ false = grind (arith, nat_tests) in
+    ap (λ v. v || ((n == 96 || (x.math && n == 36)) && not (list_any (is_value n) cs))) y ∙ ap (λ v. v && not (list_any (is_value n) cs)) (sym e ∙ t)
+    ∙ ap not (any-of (λ v. v == n) cs ∙ ap (list_any (λ v. v == n)) h ∙ sym f)
 
 -- The end of fenced code.
 

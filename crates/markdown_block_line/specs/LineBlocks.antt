@@ -1,4 +1,4 @@
--- What the markers, containers and fences of the code are in the tree of blocks, and what its results say.
+-- What the extensions, markers, containers and fences of the code are in the tree of blocks, and what its results say.
 use Rattle.std.specs.Prelude.{◌≡◌, ℕ, true, false, List, [], ◌∷◌, ◌++◌, drop, Option, Some, None, MatchOption}
 use Rattle.markdown_content.specs.Codes.{Code}
 use Rattle.markdown_block_model.specs.BlockTree as model
@@ -6,7 +6,11 @@ use Rattle.markdown_block_line.specs.declared.containers.Marker.{Marker}
 use Rattle.markdown_block_line.specs.declared.containers.Marker.TheVariants.{Bullet, Ordered}
 use Rattle.markdown_block_line.specs.declared.containers.Container.{Container}
 use Rattle.markdown_block_line.specs.declared.containers.Container.TheVariants.{Quote, Item}
+use Rattle.markdown_block_line.specs.declared.extensions.Extensions.{Extensions}
 use Rattle.markdown_block_line.specs.declared.starts.Fence.{Fence}
+
+abbrev pub extensions_of : Extensions → model.Extensions
+extensions_of x = record { tables = false; footnotes = false; math = x.math; front_matter = x.front_matter }
 
 abbrev pub marker_of : Marker → model.Marker
 marker_of (Bullet n) = model.bullet n

@@ -5,14 +5,14 @@ ghost use Rattle.std.specs.Prelude.{◌≡◌, ◌||◌, not, length, List, true
 ghost use Rattle.markdown_content.specs.Codes.{Code};
 ghost use Rattle.markdown_model.specs.CodeTests.{values_of};
 ghost use Rattle.markdown_block_model.specs.LineRests.{is_blank_line};
-ghost use Rattle.markdown_block_model.specs.BlockTree.{no_extensions};
 ghost use Rattle.markdown_block_model.specs.BlockStarts.{begun};
-ghost use Rattle.markdown_block_line.specs.LineBlocks.{Says};
+ghost use Rattle.markdown_block_line.specs.LineBlocks.{extensions_of, Says};
 ghost use Rattle.markdown_block_line.specs.LineBreaks.{IsBreakLens};
 ghost use Rattle.markdown_block_line.specs.LineStarts.{begun_of, StandsWhere, IsWithin};
 
 use crate::breaks::BreakLens;
 use crate::containers::{Container, item_at};
+use crate::extensions::Extensions;
 use crate::html::{Html, html_at};
 use crate::line::{indent_to, is_blank_line};
 use crate::starts::{Heading, OpenFence, behind_quote, fence_at, heading_at};
@@ -39,13 +39,14 @@ pub enum Begun {
 /// `in_paragraph` says that a paragraph stands right before it, `after_text` that one is open here or further inside. `breaks` is of the whole line, or
 /// of a rest that this one ends.
 pub fn begun_at(
+    extensions: Extensions,
     in_paragraph: bool,
     after_text: bool,
     breaks: BreakLens,
     line: &[u8],
 ) -> Option<Begun>
     requires { IsBreakLens breaks line.now }
-    ensures found { (cs : List Code) → values_of cs ≡ line.now → Says result (begun_of cs) (begun no_extensions in_paragraph after_text cs) }
+    ensures found { (cs : List Code) → values_of cs ≡ line.now → Says result (begun_of cs) (begun (extensions_of extensions) in_paragraph after_text cs) }
     ensures start { (cs : List Code) → values_of cs ≡ line.now → IfSome result (StandsWhere cs) }
     ensures within { IfSome result (IsWithin (length line.now)) }
 {
@@ -64,7 +65,7 @@ pub fn begun_at(
         let start = columns + heading.start;
         return Some(Begun::Heading(Heading { start, ..heading }));
     }
-    if let Some(fence) = fence_at(columns, rest) {
+    if let Some(fence) = fence_at(extensions, columns, rest) {
         let start = columns + fence.start;
         return Some(Begun::FencedCode(OpenFence { start, ..fence }));
     }
@@ -82,14 +83,14 @@ pub fn begun_at(
 }
 
 /// Returns whether a line that continues not all open containers would join the paragraph that is open inside them (CommonMark 5.1, laziness).
-pub fn is_lazy_line(breaks: BreakLens, line: &[u8]) -> bool
+pub fn is_lazy_line(extensions: Extensions, breaks: BreakLens, line: &[u8]) -> bool
     requires { IsBreakLens breaks line.now }
-    ensures { (cs : List Code) → values_of cs ≡ line.now → result ≡ not (is_blank_line cs || is_some (begun no_extensions false true cs)) }
+    ensures { (cs : List Code) → values_of cs ≡ line.now → result ≡ not (is_blank_line cs || is_some (begun (extensions_of extensions) false true cs)) }
 {
     if is_blank_line(line) {
         return false;
     }
-    match begun_at(false, true, breaks, line) {
+    match begun_at(extensions, false, true, breaks, line) {
         None => true,
         Some(_) => false,
     }

@@ -1,16 +1,17 @@
 //! What begins with the rest of a line (CommonMark 4.1 to 4.3, 4.5, 5.1 and 5.2). Each takes time linear in the rest at most, and allocates nothing.
 
-ghost use Rattle.std.specs.Prelude.{◌≡◌, ◌<◌, ◌≤◌, ◌+◌, min, length, take, drop, List, [], false, IfSome, ◌||◌, ◌==◌};
+ghost use Rattle.std.specs.Prelude.{◌≡◌, ◌<◌, ◌≤◌, ◌+◌, min, length, take, drop, List, [], false, IfSome, ◌||◌, ◌&&◌, ◌==◌};
 ghost use Rattle.markdown_content.specs.Codes.{Code};
 ghost use Rattle.markdown_model.specs.CodeTests.{values_of, is_value};
 ghost use Rattle.markdown_block_model.specs.LineRests.{trimmed_end, without_end};
-ghost use Rattle.markdown_block_model.specs.BlockTree.{no_extensions, heading, fenced_code, bullet, ordered};
-ghost use Rattle.markdown_block_model.specs.LeafStarts.{is_break, ends_blank, heading_text, heading_at, is_row_of, underline, may_be_info, fence_at, is_closing};
+ghost use Rattle.markdown_block_model.specs.BlockTree.{heading, fenced_code, bullet, ordered};
+ghost use Rattle.markdown_block_model.specs.LeafStarts.{is_break, ends_blank, heading_text, heading_at, is_row_of, underline, may_be_info, fence_least, fence_at, is_closing};
 ghost use Rattle.markdown_block_model.specs.ContainerStarts.{behind_quote, bullet_at, ordered_at};
-ghost use Rattle.markdown_block_line.specs.LineBlocks.{fence_of, Says};
+ghost use Rattle.markdown_block_line.specs.LineBlocks.{extensions_of, fence_of, Says};
 ghost use Rattle.markdown_block_line.specs.LineStarts.{heading_start, fence_start};
 ghost use Rattle.markdown_block_line.specs.LineValues.{front, is_break_values, is_digit_value, number_values};
 
+use crate::extensions::Extensions;
 use crate::line::{self, count_first, indent, indent_to, is_blank_line, is_gap, trimmed_len};
 
 /// A heading of number signs: its level, and where its text stands in the rest that was read.
@@ -27,9 +28,9 @@ pub struct Heading {
 /// How code is fenced.
 #[derive(Clone, Copy)]
 pub struct Fence {
-    /// A grave accent or a tilde.
+    /// A grave accent, a tilde or, with math, a dollar.
     pub value: u8,
-    /// How often it stands, 3 times at least.
+    /// How often it stands: 3 times at least, a dollar 2 times.
     pub count: usize,
     /// How many columns stand before it.
     pub columns: usize,
@@ -273,9 +274,9 @@ fn open_len(text: &[u8]) -> usize
 }
 
 /// Returns the fence that begins code behind an indent of so many columns, or `None` (CommonMark 4.5). The rest begins behind the indent.
-pub fn fence_at(columns: usize, line: &[u8]) -> Option<OpenFence>
+pub fn fence_at(extensions: Extensions, columns: usize, line: &[u8]) -> Option<OpenFence>
     ensures found { (cs : List Code) → values_of cs ≡ line.now
-        → Says result (λ f. fenced_code (fence_of f.fence) (take f.len (drop f.start cs)) [] false) (fence_at no_extensions columns cs) }
+        → Says result (λ f. fenced_code (fence_of f.fence) (take f.len (drop f.start cs)) [] false) (fence_at (extensions_of extensions) columns cs) }
     ensures start { (cs : List Code) → values_of cs ≡ line.now → IfSome result (λ f. f.start ≡ fence_start cs) }
     ensures within { IfSome result (λ f. f.start + f.len ≤ length line.now) }
 {
@@ -284,11 +285,11 @@ pub fn fence_at(columns: usize, line: &[u8]) -> Option<OpenFence>
     }
     let value = line[0];
     let count = count_first(line, value);
-    if count < 3 {
+    if count < fence_least(value) {
         return None;
     }
     let info = &line[count..];
-    if !may_be_info(info, value) {
+    if !may_be_info(extensions, info, value) {
         return None;
     }
     let start = count + indent(info);
@@ -301,14 +302,31 @@ pub fn fence_at(columns: usize, line: &[u8]) -> Option<OpenFence>
     Some(OpenFence { fence, start, len })
 }
 
+// How often a marker stands in a fence at least.
+fn fence_least(value: u8) -> usize
+    ensures { result ≡ fence_least value }
+{
+    if value == b'$' {
+        return 2;
+    }
+    3
+}
+
+// Whether fences are made of this marker, and their info strings have none of it.
+fn is_apart(extensions: Extensions, value: u8) -> bool
+    ensures { result ≡ (value == 96 || (extensions.math && value == 36)) }
+{
+    value == b'`' || extensions.math && value == b'$'
+}
+
 // Whether an info string may stand behind this marker.
-fn may_be_info(info: &[u8], value: u8) -> bool
-    ensures { (cs : List Code) → values_of cs ≡ info.now → result ≡ may_be_info no_extensions value cs }
+fn may_be_info(extensions: Extensions, info: &[u8], value: u8) -> bool
+    ensures { (cs : List Code) → values_of cs ≡ info.now → result ≡ may_be_info (extensions_of extensions) value cs }
 {
     if value == b'~' {
         return true;
     }
-    if value != b'`' {
+    if !is_apart(extensions, value) {
         return false;
     }
     !info.contains(&value)

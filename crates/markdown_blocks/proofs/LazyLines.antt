@@ -3,7 +3,7 @@ use Rattle.std.proofs.Common.{◌≡◌, ℕ, ◌≤◌, refl, ap, ◌∙◌, sy
 use Rattle.std.specs.Prelude.{is_some}
 use Rattle.markdown_content.specs.Codes.{Code}
 use Rattle.markdown_block_model.specs.LineRests.{is_blank_line}
-use Rattle.markdown_block_model.specs.BlockTree.{no_extensions, Tree, and_leaf, Leaf, blank, thematic_break, heading, underlined, paragraph, indented_code, fenced_code, html, table, front_matter}
+use Rattle.markdown_block_model.specs.BlockTree.{Tree, and_leaf, Leaf, blank, thematic_break, heading, underlined, paragraph, indented_code, fenced_code, html, table, front_matter}
 use Rattle.markdown_block_model.specs.BlockStarts.{begun}
 use Rattle.markdown_block_model.specs.DocumentBlocks.{is_lazy, ends_in_text, with_lazy_line}
 use Rattle.markdown_blocks.specs.TreeDepth.{spine, inside_at, at_depth}
@@ -13,6 +13,8 @@ use Rattle.markdown_blocks.specs.declared.block.Leaf.{Leaf as Written}
 use Rattle.markdown_blocks.proofs.DepthLemmas.{at_depth-same, at_depth-twice, at_depth-id, inside-at_depth}
 use Rattle.markdown_blocks.proofs.ReaderTrees.{closed-le, whole-le}
 use Rattle.markdown_blocks.proofs.ContainerWalks.{lazy-deep, ends-deep}
+use Rattle.markdown_block_line.specs.LineBlocks.{extensions_of}
+use Rattle.markdown_block_line.specs.declared.extensions.Extensions.{Extensions}
 
 ends-leaf : (s : Tree) (l : Leaf) → ends_in_text (and_leaf s l) ≡ is_text l
 ends-leaf s blank = refl
@@ -46,18 +48,18 @@ ends-some bytes r l h o =
     ends-deep (depth r) (whole_tree bytes r) (whole-le bytes r h)
     ∙ rw o (ap ends_in_text (inside-at_depth (depth r) (λ s. and_leaf s (leaf_of bytes l)) (closed_tree bytes r) (closed-le bytes r h.is_front)) ∙ ends-leaf (inside_at (depth r) (closed_tree bytes r)) (leaf_of bytes l))
 
-lazy-by : (bytes : List ℕ) (r : Reader) (cs : List Code) (b : Bool) → ends_in_text (whole_tree bytes r) ≡ b → is_lazy no_extensions cs (whole_tree bytes r) ≡ (b && not (is_blank_line cs || is_some (begun no_extensions false true cs)))
-lazy-by bytes r cs b h = ap (λ v. v && not (is_blank_line cs || is_some (begun no_extensions false true cs))) h
+lazy-by : (ext : Extensions) (bytes : List ℕ) (r : Reader) (cs : List Code) (b : Bool) → ends_in_text (whole_tree bytes r) ≡ b → is_lazy (extensions_of ext) cs (whole_tree bytes r) ≡ (b && not (is_blank_line cs || is_some (begun (extensions_of ext) false true cs)))
+lazy-by ext bytes r cs b h = ap (λ v. v && not (is_blank_line cs || is_some (begun (extensions_of ext) false true cs))) h
 
-pub lazy-where-text : (bytes : List ℕ) (r : Reader) (l : Written) (cs : List Code) → IsBetween bytes r → r.open ≡ Some l → is_text (leaf_of bytes l) ≡ true
-    → not (is_blank_line cs || is_some (begun no_extensions false true cs)) ≡ is_lazy no_extensions cs (whole_tree bytes r)
-lazy-where-text bytes r l cs h o t = sym (lazy-by bytes r cs true (ends-some bytes r l h o ∙ t))
+pub lazy-where-text : (ext : Extensions) (bytes : List ℕ) (r : Reader) (l : Written) (cs : List Code) → IsBetween bytes r → r.open ≡ Some l → is_text (leaf_of bytes l) ≡ true
+    → not (is_blank_line cs || is_some (begun (extensions_of ext) false true cs)) ≡ is_lazy (extensions_of ext) cs (whole_tree bytes r)
+lazy-where-text ext bytes r l cs h o t = sym (lazy-by ext bytes r cs true (ends-some bytes r l h o ∙ t))
 
-pub not-lazy-where-other : (bytes : List ℕ) (r : Reader) (l : Written) (cs : List Code) → IsBetween bytes r → r.open ≡ Some l → is_text (leaf_of bytes l) ≡ false → false ≡ is_lazy no_extensions cs (whole_tree bytes r)
-not-lazy-where-other bytes r l cs h o t = sym (lazy-by bytes r cs false (ends-some bytes r l h o ∙ t))
+pub not-lazy-where-other : (ext : Extensions) (bytes : List ℕ) (r : Reader) (l : Written) (cs : List Code) → IsBetween bytes r → r.open ≡ Some l → is_text (leaf_of bytes l) ≡ false → false ≡ is_lazy (extensions_of ext) cs (whole_tree bytes r)
+not-lazy-where-other ext bytes r l cs h o t = sym (lazy-by ext bytes r cs false (ends-some bytes r l h o ∙ t))
 
-pub not-lazy-where-none : (bytes : List ℕ) (r : Reader) (cs : List Code) → IsBetween bytes r → r.open ≡ None → false ≡ is_lazy no_extensions cs (whole_tree bytes r)
-not-lazy-where-none bytes r cs h o = sym (lazy-by bytes r cs false (ends-none bytes r h o))
+pub not-lazy-where-none : (ext : Extensions) (bytes : List ℕ) (r : Reader) (cs : List Code) → IsBetween bytes r → r.open ≡ None → false ≡ is_lazy (extensions_of ext) cs (whole_tree bytes r)
+not-lazy-where-none ext bytes r cs h o = sym (lazy-by ext bytes r cs false (ends-none bytes r h o))
 
 pub joined-none : (bytes : List ℕ) (r : Reader) (cs : List Code) → IsBetween bytes r → r.open ≡ None → closed_tree bytes r ≡ with_lazy_line cs (whole_tree bytes r)
 joined-none bytes r cs h o =
@@ -74,8 +76,8 @@ joined-some bytes r l m cs h o e =
     (lazy-leaf cs (inside_at (depth r) (closed_tree bytes r)) (leaf_of bytes l) ∙ ap (λ x. and_leaf (inside_at (depth r) (closed_tree bytes r)) x) (sym e))))
 
 -- such a line is not blank
-pub lazy-filled : (cs : List Code) (t : Tree) → is_lazy no_extensions cs t ≡ true → is_blank_line cs ≡ false
-lazy-filled cs t h = by_tests (ends_in_text t) (is_blank_line cs) (is_some (begun no_extensions false true cs)) h
+pub lazy-filled : (ext : Extensions) (cs : List Code) (t : Tree) → is_lazy (extensions_of ext) cs t ≡ true → is_blank_line cs ≡ false
+lazy-filled ext cs t h = by_tests (ends_in_text t) (is_blank_line cs) (is_some (begun (extensions_of ext) false true cs)) h
   where
     by_tests : (a b d : Bool) → (a && not (b || d)) ≡ true → b ≡ false
     by_tests true true d h = sym h
@@ -83,8 +85,8 @@ lazy-filled cs t h = by_tests (ends_in_text t) (is_blank_line cs) (is_some (begu
     by_tests false b d h = absurd (cc)
 
 -- and goes on with a paragraph
-pub lazy-text : (bytes : List ℕ) (r : Reader) (l : Written) (cs : List Code) → IsBetween bytes r → r.open ≡ Some l → is_lazy no_extensions cs (whole_tree bytes r) ≡ true → is_text (leaf_of bytes l) ≡ true
-lazy-text bytes r l cs h o e = sym (ends-some bytes r l h o) ∙ by_tests (ends_in_text (whole_tree bytes r)) (not (is_blank_line cs || is_some (begun no_extensions false true cs))) e
+pub lazy-text : (ext : Extensions) (bytes : List ℕ) (r : Reader) (l : Written) (cs : List Code) → IsBetween bytes r → r.open ≡ Some l → is_lazy (extensions_of ext) cs (whole_tree bytes r) ≡ true → is_text (leaf_of bytes l) ≡ true
+lazy-text ext bytes r l cs h o e = sym (ends-some bytes r l h o) ∙ by_tests (ends_in_text (whole_tree bytes r)) (not (is_blank_line cs || is_some (begun (extensions_of ext) false true cs))) e
   where
     by_tests : (a b : Bool) → (a && b) ≡ true → a ≡ true
     by_tests true b k = refl

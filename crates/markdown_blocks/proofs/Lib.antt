@@ -8,6 +8,7 @@ pub mod FollowLines
 pub mod ItemRowLemmas
 pub mod LazyLines
 pub mod LinePieces
+pub mod MatterLemmas
 pub mod NestedRowLemmas
 pub mod OuterCodes
 pub mod PathRows

@@ -18,6 +18,8 @@ use Rattle.markdown_block_model.specs.BlockStarts.{Begun, leaf_begins, container
 use Rattle.markdown_block_model.specs.DocumentBlocks.{is_further_blank, rest_in_item, rest_inside, with_fenced_line, with_indented_line, with_next}
 use Rattle.markdown_block_line.specs.LineStarts.{heading_start, fence_start}
 use Rattle.markdown_blocks.specs.TextRows.{is_outer, begins_ascii}
+use Rattle.markdown_block_line.specs.LineBlocks.{extensions_of}
+use Rattle.markdown_block_line.specs.declared.extensions.Extensions.{Extensions}
 
 -- what is left stands behind codes that may stand outside
 pub record IsBehind (cs rest : List Code) : Type 0 where
@@ -310,11 +312,11 @@ leaf-begun : (cs : List Code) (b : Bool) (l : Leaf) → (b ≡ true → BegunOut
 leaf-begun cs true l h = h refl
 leaf-begun cs false l h = tt
 
-fence-number : (n : ℕ) (b : Bool) → (n == 126 || ((n == 96 || false) && b)) ≡ true → (nat_lt n 128 && not (n == 10)) ≡ true
-fence-number n b h = grind (arith, nat_tests)
+fence-number : (n : ℕ) (m b : Bool) → (n == 126 || ((n == 96 || (m && n == 36)) && b)) ≡ true → (nat_lt n 128 && not (n == 10)) ≡ true
+fence-number n m b h = grind (arith, nat_tests)
 
-begun-has : (in_paragraph after_text : Bool) (cs : List Code) → BegunOuter cs (begun no_extensions in_paragraph after_text cs)
-begun-has in_paragraph after_text cs =
+begun-has : (ext : Extensions) (in_paragraph after_text : Bool) (cs : List Code) → BegunOuter cs (begun (extensions_of ext) in_paragraph after_text cs)
+begun-has ext in_paragraph after_text cs =
     let t = trimmed cs in
     let n = count_first (byte "#") t in
     let v = first_value t in
@@ -322,9 +324,9 @@ begun-has in_paragraph after_text cs =
     of-either cs (nat_lt (indent cs) 4) _ _
     (of-first cs _ _ (of-container cs cs (quote_at cs) (behind-none cs) (in-quote cs (behind_quote cs) (quote-behind cs)))
     (of-first cs _ _ (heading-begun cs (is_between 1 6 n && is_gap (drop n t)) n (heading_text (trimmed_end (trimmed (drop n t)))) (text-before (trimmed (drop n t))))
-    (of-first cs _ _ (leaf-begun cs (nat_le (fence_least v) (count_first v t) && may_be_info no_extensions v (drop (count_first v t) t)) (fenced_code (record { value = v; count = count_first v t; columns = indent cs }) (trimmed_end (trimmed (drop (count_first v t) t))) [] false)
+    (of-first cs _ _ (leaf-begun cs (nat_le (fence_least v) (count_first v t) && may_be_info (extensions_of ext) v (drop (count_first v t) t)) (fenced_code (record { value = v; count = count_first v t; columns = indent cs }) (trimmed_end (trimmed (drop (count_first v t) t))) [] false)
     (λ e. record {
-      value = fence-number v _ (second-true (nat_le (fence_least v) (count_first v t)) (may_be_info no_extensions v (drop (count_first v t) t)) e);
+      value = fence-number v ext.math _ (second-true (nat_le (fence_least v) (count_first v t)) (may_be_info (extensions_of ext) v (drop (count_first v t) t)) e);
       text = trimmed-before (trimmed (drop (count_first v t) t));
     }))
     (of-first cs _ _ (leaf-begun cs (not (k == 0 || (k == 7 && after_text))) (html k cs (ends_html k cs)) (λ e. tt))
@@ -356,8 +358,8 @@ pub outside-continued : (c : Container) (inside : Tree) (cs : List Code) (k : �
 outside-continued c inside cs k l e = outer-taken cs (drop k cs) k l refl (some-same (RestOuter cs) (rest_inside c inside cs) (Some (drop k cs)) e (inside-behind c inside cs))
 
 -- and of one that begins
-pub outside-begun : (p a : Bool) (c : Container) (cs : List Code) (k : ℕ) → k ≤ length cs → begun no_extensions p a cs ≡ Some (container_begins c (drop k cs)) → list_all is_outer (take k cs) ≡ true
-outside-begun p a c cs k l e = outer-taken cs (drop k cs) k l refl (some-same (BegunOuter cs) (begun no_extensions p a cs) (Some (container_begins c (drop k cs))) e (begun-has p a cs))
+pub outside-begun : (ext : Extensions) (p a : Bool) (c : Container) (cs : List Code) (k : ℕ) → k ≤ length cs → begun (extensions_of ext) p a cs ≡ Some (container_begins c (drop k cs)) → list_all is_outer (take k cs) ≡ true
+outside-begun ext p a c cs k l e = outer-taken cs (drop k cs) k l refl (some-same (BegunOuter cs) (begun (extensions_of ext) p a cs) (Some (container_begins c (drop k cs))) e (begun-has ext p a cs))
 
 indent-behind : (cs : List Code) → IsBehind cs (drop (indent cs) cs)
 indent-behind cs = subst (λ r. IsBehind cs r) (span-drop is_blank cs) (trimmed-behind cs)
@@ -391,16 +393,16 @@ pub outside-heading : (cs : List Code) (k : ℕ) → k ≤ length cs → k ≡ i
 outside-heading cs k l e = outside-row 35 cs k refl l e
 
 -- before an info string
-fence-line : (p a : Bool) (cs : List Code) (f : Fence) (info : List Code) → begun no_extensions p a cs ≡ Some (leaf_begins (fenced_code f info [] false)) → IsFenceLine cs info
-fence-line p a cs f info b = some-same (BegunOuter cs) (begun no_extensions p a cs) (Some (leaf_begins (fenced_code f info [] false))) b (begun-has p a cs)
+fence-line : (ext : Extensions) (p a : Bool) (cs : List Code) (f : Fence) (info : List Code) → begun (extensions_of ext) p a cs ≡ Some (leaf_begins (fenced_code f info [] false)) → IsFenceLine cs info
+fence-line ext p a cs f info b = some-same (BegunOuter cs) (begun (extensions_of ext) p a cs) (Some (leaf_begins (fenced_code f info [] false))) b (begun-has ext p a cs)
 
-pub outside-info : (p a : Bool) (cs : List Code) (f : Fence) (info : List Code) (k : ℕ) → k ≤ length cs → k ≡ indent cs + fence_start (trimmed cs)
-    → begun no_extensions p a cs ≡ Some (leaf_begins (fenced_code f info [] false)) → list_all is_outer (take k cs) ≡ true
-outside-info p a cs f info k l e b = outside-row (first_value (trimmed cs)) cs k (fence-line p a cs f info b).value l e
+pub outside-info : (ext : Extensions) (p a : Bool) (cs : List Code) (f : Fence) (info : List Code) (k : ℕ) → k ≤ length cs → k ≡ indent cs + fence_start (trimmed cs)
+    → begun (extensions_of ext) p a cs ≡ Some (leaf_begins (fenced_code f info [] false)) → list_all is_outer (take k cs) ≡ true
+outside-info ext p a cs f info k l e b = outside-row (first_value (trimmed cs)) cs k (fence-line ext p a cs f info b).value l e
 
 -- before a line of code
-pub outside-indented : (p a : Bool) (cs : List Code) → 4 ≤ length cs → begun no_extensions p a cs ≡ Some (leaf_begins (indented_code (drop 4 cs ∷ []))) → list_all is_outer (take 4 cs) ≡ true
-outside-indented p a cs l b = outer-taken cs (drop 4 cs) 4 l refl (some-same (BegunOuter cs) (begun no_extensions p a cs) (Some (leaf_begins (indented_code (drop 4 cs ∷ [])))) b (begun-has p a cs))
+pub outside-indented : (ext : Extensions) (p a : Bool) (cs : List Code) → 4 ≤ length cs → begun (extensions_of ext) p a cs ≡ Some (leaf_begins (indented_code (drop 4 cs ∷ []))) → list_all is_outer (take 4 cs) ≡ true
+outside-indented ext p a cs l b = outer-taken cs (drop 4 cs) 4 l refl (some-same (BegunOuter cs) (begun (extensions_of ext) p a cs) (Some (leaf_begins (indented_code (drop 4 cs ∷ [])))) b (begun-has ext p a cs))
 
 pub outside-fenced : (f : Fence) (cs : List Code) (k : ℕ) → k ≤ length cs → with_next no_extensions (fenced_code f [] [] false) cs ≡ Some (fenced_code f [] (drop k cs ∷ []) false) → list_all is_outer (take k cs) ≡ true
 outside-fenced f cs k l e = by_case (is_closing f cs) e
@@ -442,14 +444,14 @@ behind-row v cs k len l e before =
     ∙ first-ascii before.back before.ascii
 
 -- behind them
-pub behind-heading : (p a : Bool) (cs : List Code) (n k len : ℕ) → k + len ≤ length cs → k ≡ indent cs + heading_start (trimmed cs) → begun no_extensions p a cs ≡ Some (leaf_begins (heading n (take len (drop k cs))))
+pub behind-heading : (ext : Extensions) (p a : Bool) (cs : List Code) (n k len : ℕ) → k + len ≤ length cs → k ≡ indent cs + heading_start (trimmed cs) → begun (extensions_of ext) p a cs ≡ Some (leaf_begins (heading n (take len (drop k cs))))
     → begins_ascii (drop (k + len) cs) ≡ true
-behind-heading p a cs n k len l e b =
-    behind-row 35 cs k len l e (some-same (BegunOuter cs) (begun no_extensions p a cs) (Some (leaf_begins (heading n (take len (drop k cs))))) b (begun-has p a cs))
+behind-heading ext p a cs n k len l e b =
+    behind-row 35 cs k len l e (some-same (BegunOuter cs) (begun (extensions_of ext) p a cs) (Some (leaf_begins (heading n (take len (drop k cs))))) b (begun-has ext p a cs))
 
-pub behind-info : (p a : Bool) (cs : List Code) (f : Fence) (k len : ℕ) → k + len ≤ length cs → k ≡ indent cs + fence_start (trimmed cs)
-    → begun no_extensions p a cs ≡ Some (leaf_begins (fenced_code f (take len (drop k cs)) [] false)) → begins_ascii (drop (k + len) cs) ≡ true
-behind-info p a cs f k len l e b = behind-row (first_value (trimmed cs)) cs k len l e (fence-line p a cs f (take len (drop k cs)) b).text
+pub behind-info : (ext : Extensions) (p a : Bool) (cs : List Code) (f : Fence) (k len : ℕ) → k + len ≤ length cs → k ≡ indent cs + fence_start (trimmed cs)
+    → begun (extensions_of ext) p a cs ≡ Some (leaf_begins (fenced_code f (take len (drop k cs)) [] false)) → begins_ascii (drop (k + len) cs) ≡ true
+behind-info ext p a cs f k len l e b = behind-row (first_value (trimmed cs)) cs k len l e (fence-line ext p a cs f (take len (drop k cs)) b).text
 
 -- a line that is not blank has more than its indent
 pub filled-indent : (cs : List Code) → is_blank_line cs ≡ false → indent cs < length cs

@@ -1,14 +1,14 @@
 -- Texts of rows and of the open leaf, as lines go on.
-use Rattle.std.proofs.Common.{◌≡◌, ℕ, ◌<◌, refl, sym, subst, Bool, true, false, List, [], ◌∷◌, ◌++◌, length, Option, Some, ap, ◌∙◌, append-nil, arith}
+use Rattle.std.proofs.Common.{◌≡◌, ℕ, ◌<◌, refl, sym, subst, Bool, false, List, [], ◌∷◌, ◌++◌, length, Option, Some, ap, ◌∙◌, append-nil, arith}
 use Rattle.std.specs.Prelude.{All}
 use Rattle.std.proofs.lemmas.List.Elements.{All-push, All-cons, All-nil}
 use Rattle.markdown_event.specs.declared.event.Point.{Point}
 use Rattle.markdown_content.specs.declared.parser.Piece.{Piece}
 use Rattle.markdown_content.specs.Codes.{Code, codes_of}
-use Rattle.markdown_content.specs.Content.{ends_line, piece_codes, content_of}
+use Rattle.markdown_content.specs.Content.{piece_codes, content_of}
 use Rattle.markdown_model.specs.CodeTests.{is_empty}
 use Rattle.markdown_block_model.specs.LineRests.{trimmed_end}
-use Rattle.markdown_block_model.specs.BlockTree.{no_extensions, html, nothing}
+use Rattle.markdown_block_model.specs.BlockTree.{html, nothing}
 use Rattle.markdown_block_model.specs.BlockStarts.{leaf_begins, begun}
 use Rattle.markdown_block_line.specs.declared.containers.Container.{Container}
 use Rattle.markdown_blocks.specs.TreeDepth.{spine}
@@ -22,6 +22,8 @@ use Rattle.markdown_blocks.specs.TextRows.{HasCodes, AreLinePieces, ArePlaced, I
 use Rattle.markdown_blocks.proofs.NestedRowLemmas.{nested-append}
 use Rattle.markdown_blocks.proofs.PlacedPieces.{next-placed, one-placed, ends-at, next-lines, one-line, lines-end}
 use Rattle.markdown_blocks.proofs.ReaderTrees.{closed-le}
+use Rattle.markdown_block_line.specs.LineBlocks.{extensions_of}
+use Rattle.markdown_block_line.specs.declared.extensions.Extensions.{Extensions}
 
 -- a row more, which stands as deep as the path is long
 rows-more : (bytes : List ℕ) (r : Reader) (ps : List Row) (q : Row) → ps ≡ r.rows.items ++ q ∷ [] → HasPlacedRows bytes r → IsPlacedRow bytes q → AreNested (length (spine (closed_tree bytes r))) (q ∷ [])
@@ -70,9 +72,9 @@ further-line bytes p ps qs piece e h f l =
     (next-lines bytes p ps piece h (f l.begins) l, λ lt. lines-end bytes p ps piece l lt)
 
 -- the line that HTML begins with has codes
-pub html-filled : (a b ended : Bool) (k : ℕ) (cs : List Code) → begun no_extensions a b cs ≡ Some (leaf_begins (html k cs ended)) → is_empty cs ≡ false
-html-filled a b ended k [] e = absurd (cc)
-html-filled a b ended k (c ∷ cs) e = refl
+pub html-filled : (ext : Extensions) (a b ended : Bool) (k : ℕ) (cs : List Code) → begun (extensions_of ext) a b cs ≡ Some (leaf_begins (html k cs ended)) → is_empty cs ≡ false
+html-filled ext a b ended k [] e = absurd (cc)
+html-filled ext a b ended k (c ∷ cs) e = refl
 
 pub first-filled : (bytes : List ℕ) (ps : List Piece) (piece : Piece) (cs : List Code) → ps ≡ piece ∷ [] → piece_codes (codes_of bytes) piece ≡ cs → is_empty cs ≡ false → All (HasCodes bytes) ps
 first-filled bytes ps piece cs e k f = subst (All (HasCodes bytes)) (sym e) (All-cons (HasCodes bytes) piece [] (ap is_empty k ∙ f) (All-nil (HasCodes bytes)))

@@ -4,14 +4,15 @@ use Rattle.markdown_content.specs.Codes.{Code, codes_of}
 use Rattle.markdown_content.specs.Content.{piece_codes, content_of}
 use Rattle.markdown_block_model.specs.LineRests.{is_blank_line, trimmed, trimmed_end}
 use Rattle.markdown_block_model.specs.BlockTree as model
-use Rattle.markdown_block_model.specs.BlockTree.{no_extensions, Tree, nothing, and_leaf, and_container}
+use Rattle.markdown_block_model.specs.BlockTree.{Tree, nothing, and_leaf, and_container}
 use Rattle.markdown_block_model.specs.BlockStarts as block_starts
 use Rattle.markdown_block_model.specs.DocumentBlocks as document_blocks
-use Rattle.markdown_block_line.specs.LineBlocks.{container_of, fence_of}
+use Rattle.markdown_block_line.specs.LineBlocks.{extensions_of, container_of, fence_of}
 use Rattle.markdown_block_line.specs.declared.containers.Container.{Container}
+use Rattle.markdown_block_line.specs.declared.extensions.Extensions.{Extensions}
 use Rattle.markdown_blocks.specs.TreeDepth.{spine, inside_at, at_depth}
 use Rattle.markdown_blocks.specs.declared.block.Leaf.{Leaf}
-use Rattle.markdown_blocks.specs.declared.block.Leaf.TheVariants.{Blank, ThematicBreak, Heading, Underlined, Paragraph, IndentedCode, FencedCode, Html}
+use Rattle.markdown_blocks.specs.declared.block.Leaf.TheVariants.{Blank, ThematicBreak, Heading, Underlined, Paragraph, IndentedCode, FencedCode, Html, FrontMatter}
 use Rattle.markdown_blocks.specs.declared.block.Row.{Row}
 use Rattle.markdown_blocks.specs.declared.block.Row.TheVariants.{LeafAt, ContainerAt}
 use Rattle.markdown_blocks.specs.declared.reader.Reader.{Reader}
@@ -29,6 +30,7 @@ leaf_of bytes (Paragraph text) = model.paragraph (content_of bytes text.items)
 leaf_of bytes (IndentedCode ls) = model.indented_code (map (piece_codes (codes_of bytes)) ls.items)
 leaf_of bytes (FencedCode f info ls ended) = model.fenced_code (fence_of f) (piece_codes (codes_of bytes) info) (map (piece_codes (codes_of bytes)) ls.items) ended
 leaf_of bytes (Html k text ended) = model.html k (content_of bytes text.items) ended
+leaf_of bytes (FrontMatter ls) = model.front_matter (map (piece_codes (codes_of bytes)) ls.items)
 
 -- the tree with a row more
 abbrev pub with_row : List ℕ → Row → Tree → Tree
@@ -89,9 +91,9 @@ pub record IsStanding (bytes : List ℕ) (r : Reader) : Type 0 where
 -- What a line makes of it.
 
 -- what a leaf becomes with a further line
-abbrev pub Continues : List ℕ → Leaf → List Code → Next → Type 0
-Continues bytes l cs (WithLine next) = document_blocks.with_next no_extensions (leaf_of bytes l) cs ≡ Some (leaf_of bytes next)
-Continues bytes l cs (Without same) = (document_blocks.with_next no_extensions (leaf_of bytes l) cs ≡ None) × (same ≡ l)
+abbrev pub Continues : Extensions → List ℕ → Leaf → List Code → Next → Type 0
+Continues ext bytes l cs (WithLine next) = document_blocks.with_next (extensions_of ext) (leaf_of bytes l) cs ≡ Some (leaf_of bytes next)
+Continues ext bytes l cs (Without same) = (document_blocks.with_next (extensions_of ext) (leaf_of bytes l) cs ≡ None) × (same ≡ l)
 
 -- a leaf has begun
 pub record HasLeaf (bytes : List ℕ) (begun : block_starts.Begun) (before after : Reader) : Type 0 where
@@ -119,32 +121,32 @@ HasBegun bytes begun line outside before after = MatchOption outside (HasLeaf by
     (λ k. (0 < k) × (k ≤ length line) × HasContainer bytes begun (drop k line) before after)
 
 -- what is left to begin behind one block: nothing, or what the rest of the line inside a container begins
-pub record IsFinished (bytes : List ℕ) (line : List Code) (before after : Reader) : Type 0 where
-  pub tree : (n : ℕ) → whole_tree bytes after ≡ at_depth (depth before) (block_starts.with_rest no_extensions (suc n) line) (closed_tree bytes before)
+pub record IsFinished (ext : Extensions) (bytes : List ℕ) (line : List Code) (before after : Reader) : Type 0 where
+  pub tree : (n : ℕ) → whole_tree bytes after ≡ at_depth (depth before) (block_starts.with_rest (extensions_of ext) (suc n) line) (closed_tree bytes before)
   pub between : IsBetween bytes after
 
-pub record IsEntered (bytes : List ℕ) (line rest : List Code) (before after : Reader) : Type 0 where
+pub record IsEntered (ext : Extensions) (bytes : List ℕ) (line rest : List Code) (before after : Reader) : Type 0 where
   pub shorter : length rest < length line
   pub standing : IsStanding bytes after
   pub empty : inside_at (depth after) (closed_tree bytes after) ≡ nothing
-  pub tree : (n : ℕ) → at_depth (depth after) (block_starts.with_rest no_extensions n rest) (closed_tree bytes after) ≡ at_depth (depth before) (block_starts.with_rest no_extensions (suc n) line) (closed_tree bytes before)
+  pub tree : (n : ℕ) → at_depth (depth after) (block_starts.with_rest (extensions_of ext) n rest) (closed_tree bytes after) ≡ at_depth (depth before) (block_starts.with_rest (extensions_of ext) (suc n) line) (closed_tree bytes before)
 
 -- a block has begun: nothing is left, or the codes behind so many
-abbrev pub HasPassed : List ℕ → List Code → Option ℕ → Reader → Reader → Type 0
-HasPassed bytes line outside before after = MatchOption outside (IsFinished bytes line before after)
-    (λ k. (k ≤ length line) × IsEntered bytes line (drop k line) before after)
+abbrev pub HasPassed : Extensions → List ℕ → List Code → Option ℕ → Reader → Reader → Type 0
+HasPassed ext bytes line outside before after = MatchOption outside (IsFinished ext bytes line before after)
+    (λ k. (k ≤ length line) × IsEntered ext bytes line (drop k line) before after)
 
 -- the siblings that the reader stands behind are changed in this way
 abbrev pub Changes : List ℕ → (Tree → Tree) → Reader → Reader → Type 0
 Changes bytes f before after = whole_tree bytes after ≡ at_depth (depth before) f (closed_tree bytes before)
 
 -- what the rest of a line begins makes this tree; there are steps for it
-pub record Begins (bytes : List ℕ) (line : List Code) (r : Reader) (target : Tree) : Type 0 where
+pub record Begins (ext : Extensions) (bytes : List ℕ) (line : List Code) (r : Reader) (target : Tree) : Type 0 where
   pub steps : ℕ
   pub enough : length line < steps
   pub standing : IsStanding bytes r
   pub empty : is_blank_line line ≡ true → inside_at (depth r) (closed_tree bytes r) ≡ nothing
-  pub tree : at_depth (depth r) (block_starts.with_rest no_extensions steps line) (closed_tree bytes r) ≡ target
+  pub tree : at_depth (depth r) (block_starts.with_rest (extensions_of ext) steps line) (closed_tree bytes r) ≡ target
 
 -- a leaf is a paragraph, and what it is with a line that goes on lazily with it
 abbrev pub is_text : model.Leaf → Bool

@@ -4,6 +4,7 @@ pub mod CodePieces
 pub mod ItemRows
 pub mod LineRest
 pub mod LinesLeft
+pub mod MatterRows
 pub mod NestedRows
 pub mod PathItems
 pub mod TextRows

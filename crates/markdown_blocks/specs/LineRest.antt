@@ -7,24 +7,26 @@ use Rattle.markdown_content.specs.Content.{document_limit}
 use Rattle.markdown_content.specs.DocumentWalk.{IsPoint, codes_after}
 use Rattle.markdown_model.specs.CodeTests.{values_of}
 use Rattle.markdown_block_line.specs.DocumentLines.{line_from}
+use Rattle.markdown_block_line.specs.LineBlocks.{extensions_of}
 use Rattle.markdown_block_line.specs.LineBreaks.{IsBreakLens}
-use Rattle.markdown_block_model.specs.BlockTree.{no_extensions}
 use Rattle.markdown_block_model.specs.BlockStarts.{begun}
 use Rattle.markdown_block_line.specs.LineStarts.{begun_of, StandsWhere}
 use Rattle.markdown_block_line.specs.declared.begins.Begun.{Begun}
 use Rattle.markdown_block_line.specs.declared.breaks.BreakLens.{BreakLens}
+use Rattle.markdown_block_line.specs.declared.extensions.Extensions.{Extensions}
 use Rattle.markdown_blocks.specs.declared.reader.Reader.{Reader}
 use Rattle.markdown_blocks.specs.TextRows.{StandsBetween, is_outer, line_stop, HasPlacedTexts}
 
--- the document, where the line begins, and the codes that are left
+-- what is read beside CommonMark, the document, where the line begins, and the codes that are left
 pub record LineRest : Type 0 where
+  pub extensions : Extensions
   pub bytes : List ℕ
   pub start : Point
   pub codes : List Code
 
 -- behind so many codes
 abbrev pub behind : ℕ → LineRest → LineRest
-behind k r = record { bytes = r.bytes; start = r.start; codes = drop k r.codes }
+behind k r = record { extensions = r.extensions; bytes = r.bytes; start = r.start; codes = drop k r.codes }
 
 -- the codes of a line that begins at a place, and others after it, are those of the document from there on
 pub record IsLineStart (bytes : List ℕ) (start : Point) (line : List Code) : Type 0 where
@@ -44,10 +46,10 @@ pub record IsRest (bytes : List ℕ) (start : Point) (values : List ℕ) (breaks
   pub outer : list_all is_outer (take at (line_from bytes start)) ≡ true
 
 -- what the rest of a line was found to begin
-pub record IsBegun (cs : List Code) (b : Begun) : Type 0 where
+pub record IsBegun (ext : Extensions) (cs : List Code) (b : Begun) : Type 0 where
   pub in_paragraph : Bool
   pub after_text : Bool
-  pub is : begun no_extensions in_paragraph after_text cs ≡ Some (begun_of cs b)
+  pub is : begun (extensions_of ext) in_paragraph after_text cs ≡ Some (begun_of cs b)
   pub stands : StandsWhere cs b
 
 -- what a reader has of texts before the line, and behind it

@@ -11,7 +11,7 @@ use Rattle.markdown_block_model.specs.TextStarts.{lines_begin, is_line}
 use Rattle.markdown_block_line.specs.DocumentLines.{line_from}
 use Rattle.markdown_blocks.specs.NestedRows.{AreNested}
 use Rattle.markdown_blocks.specs.declared.block.Leaf.{Leaf}
-use Rattle.markdown_blocks.specs.declared.block.Leaf.TheVariants.{Blank, ThematicBreak, Heading, Underlined, Paragraph, IndentedCode, FencedCode, Html}
+use Rattle.markdown_blocks.specs.declared.block.Leaf.TheVariants.{Blank, ThematicBreak, Heading, Underlined, Paragraph, IndentedCode, FencedCode, Html, FrontMatter}
 use Rattle.markdown_blocks.specs.declared.block.Row.{Row}
 use Rattle.markdown_blocks.specs.declared.block.Row.TheVariants.{LeafAt, ContainerAt}
 use Rattle.markdown_blocks.specs.declared.reader.Reader.{Reader}
@@ -53,6 +53,7 @@ HasPlacedText bytes (Paragraph text) = ArePlaced bytes text.items
 HasPlacedText bytes (IndentedCode ls) = AreLinePieces bytes ls.items
 HasPlacedText bytes (FencedCode f info ls ended) = AreLinePieces bytes (info ∷ []) × AreLinePieces bytes ls.items
 HasPlacedText bytes (Html k text ended) = AreLinePieces bytes text.items × All (HasCodes bytes) text.items
+HasPlacedText bytes (FrontMatter ls) = AreLinePieces bytes ls.items
 
 abbrev pub IsPlacedRow : List ℕ → Row → Type 0
 IsPlacedRow bytes (LeafAt d l) = HasPlacedText bytes l
@@ -117,6 +118,7 @@ EndsBefore bytes p (Underlined n text) = Unit {0}
 EndsBefore bytes p (IndentedCode ls) = p.index < length bytes → LinesEnd bytes p ls.items
 EndsBefore bytes p (FencedCode f info ls ended) = ended ≡ false → p.index < length bytes → LinesEnd bytes p ls.items
 EndsBefore bytes p (Html k text ended) = p.index < length bytes → LinesEnd bytes p text.items
+EndsBefore bytes p (FrontMatter ls) = Unit {0}
 
 abbrev pub IsOpenLeaf : List ℕ → Point → Leaf → Type 0
 IsOpenLeaf bytes p l = HasPlacedText bytes l × EndsBefore bytes p l

@@ -23,6 +23,8 @@ pub enum Leaf {
     FencedCode(Fence, Piece, Vec<Piece>, bool),
     /// HTML: its kind, its text, and whether it is ended.
     Html(usize, Vec<Piece>, bool),
+    /// Front matter: the lines between its fences.
+    FrontMatter(Vec<Piece>),
 }
 
 /// A block, and how many containers stand round it.

@@ -29,7 +29,7 @@ fn next_fenced(
     rest: &Rest,
 ) -> Result<Next, AllocError>
     requires { IsOpenLeaf rest.now.bytes rest.now.start (FencedCode fence info lines false) }
-    ensures next { IfOk result (Continues rest.now.bytes (FencedCode fence info lines false) rest.now.codes) }
+    ensures next { IfOk result (Continues rest.now.extensions rest.now.bytes (FencedCode fence info lines false) rest.now.codes) }
     ensures text { IfOk result (IsOpenNext rest.now.bytes (line_stop rest.now.bytes rest.now.start)) }
 {
     let mut lines = lines;
@@ -45,7 +45,7 @@ fn next_fenced(
 // Indented code.
 fn next_indented(lines: Vec<Piece>, rest: &Rest) -> Result<Next, AllocError>
     requires { IsOpenLeaf rest.now.bytes rest.now.start (IndentedCode lines) }
-    ensures next { IfOk result (Continues rest.now.bytes (IndentedCode lines) rest.now.codes) }
+    ensures next { IfOk result (Continues rest.now.extensions rest.now.bytes (IndentedCode lines) rest.now.codes) }
     ensures text { IfOk result (IsOpenNext rest.now.bytes (line_stop rest.now.bytes rest.now.start)) }
 {
     let mut lines = lines;
@@ -61,7 +61,7 @@ fn next_indented(lines: Vec<Piece>, rest: &Rest) -> Result<Next, AllocError>
 // HTML that is not ended.
 fn next_html(kind: usize, text: Vec<Piece>, rest: &Rest) -> Result<Next, AllocError>
     requires { IsOpenLeaf rest.now.bytes rest.now.start (Html kind text false) }
-    ensures next { IfOk result (Continues rest.now.bytes (Html kind text false) rest.now.codes) }
+    ensures next { IfOk result (Continues rest.now.extensions rest.now.bytes (Html kind text false) rest.now.codes) }
     ensures text { IfOk result (IsOpenNext rest.now.bytes (line_stop rest.now.bytes rest.now.start)) }
 {
     let mut text = text;
@@ -82,7 +82,7 @@ fn next_html(kind: usize, text: Vec<Piece>, rest: &Rest) -> Result<Next, AllocEr
 /// Returns a leaf that is no paragraph, with a further line if the line continues it.
 pub fn continued(leaf: Leaf, rest: &Rest) -> Result<Next, AllocError>
     requires { IsOpenLeaf rest.now.bytes rest.now.start leaf }
-    ensures next { IfOk result (Continues rest.now.bytes leaf rest.now.codes) }
+    ensures next { IfOk result (Continues rest.now.extensions rest.now.bytes leaf rest.now.codes) }
     ensures text { IfOk result (IsOpenNext rest.now.bytes (line_stop rest.now.bytes rest.now.start)) }
 {
     match leaf {

@@ -8,6 +8,7 @@ pub mod block;
 pub mod document;
 pub mod ends;
 mod leaves;
+mod matter;
 mod path;
 mod read;
 mod reader;

@@ -6,10 +6,10 @@ ghost use Rattle.markdown_event.specs.declared.event.Point.{Point};
 ghost use Rattle.markdown_content.specs.Codes.{Code};
 ghost use Rattle.markdown_content.specs.Content.{content_of};
 ghost use Rattle.markdown_block_model.specs.LineRests.{is_blank_line, trimmed};
-ghost use Rattle.markdown_block_model.specs.BlockTree.{no_extensions, and_leaf, nothing, paragraph};
+ghost use Rattle.markdown_block_model.specs.BlockTree.{and_leaf, nothing, paragraph};
 ghost use Rattle.markdown_block_model.specs.BlockStarts.{with_rest, with_begun, with_line};
 ghost use Rattle.markdown_block_model.specs.DocumentBlocks.{read_line, rest_inside, is_lazy, with_lazy_line, is_nothing, heading_level, with_text_line, with_leaf_line, with_next, with_next_or_line};
-ghost use Rattle.markdown_block_line.specs.LineBlocks.{container_of};
+ghost use Rattle.markdown_block_line.specs.LineBlocks.{extensions_of, container_of};
 ghost use Rattle.markdown_block_line.specs.LineStarts.{begun_of, IsWithin};
 ghost use Rattle.markdown_blocks.specs.TreeDepth.{at_depth, inside_at};
 ghost use Rattle.markdown_blocks.specs.BlockRows.{leaf_of, closed_tree, whole_tree, depth, container_at, is_text, lazy_leaf, IsBetween, IsStanding, IsDeeper, HasBegun, HasPassed, Changes};
@@ -89,7 +89,7 @@ fn begin(
 ) -> Result<Option<usize>, AllocError>
     requires standing { IsStanding rest.now.bytes reader.old }
     requires within { IsWithin (length rest.now.codes) begun }
-    requires is { IsBegun rest.now.codes begun }
+    requires is { IsBegun rest.now.extensions rest.now.codes begun }
     requires texts { HasPlacedRows rest.now.bytes reader.old }
     ensures begun { IfOk result (λ outside. HasBegun rest.now.bytes (begun_of rest.now.codes begun) rest.now.codes outside reader.old reader.new) }
     ensures outer { IfOk result (λ outside. IfSome outside (λ k. list_all is_outer (take k rest.now.codes) ≡ true)) }
@@ -135,7 +135,7 @@ fn begin_next(alloc: Global, reader: &mut Reader, rest: &Rest) -> Result<Option<
     requires standing { IsStanding rest.now.bytes reader.old }
     requires empty { is_blank_line rest.now.codes ≡ true → inside_at (depth reader.old) (closed_tree rest.now.bytes reader.old) ≡ nothing }
     requires texts { HasPlacedRows rest.now.bytes reader.old }
-    ensures begun { IfOk result (λ outside. HasPassed rest.now.bytes rest.now.codes outside reader.old reader.new) }
+    ensures begun { IfOk result (λ outside. HasPassed rest.now.extensions rest.now.bytes rest.now.codes outside reader.old reader.new) }
     ensures outer { IfOk result (λ outside. IfSome outside (λ k. list_all is_outer (take k rest.now.codes) ≡ true)) }
     ensures texts { IfOk result (λ _. TextsBehind rest.now reader.new) }
 {
@@ -160,7 +160,7 @@ fn begin_rest(alloc: Global, reader: &mut Reader, rest: &Rest) -> Result<(), All
     requires standing { IsStanding rest.now.bytes reader.old }
     requires empty { is_blank_line rest.now.codes ≡ true → inside_at (depth reader.old) (closed_tree rest.now.bytes reader.old) ≡ nothing }
     requires texts { HasPlacedRows rest.now.bytes reader.old }
-    ensures tree { IfOk result (λ _. Changes rest.now.bytes (with_rest no_extensions (suc (length rest.now.codes)) rest.now.codes) reader.old reader.new) }
+    ensures tree { IfOk result (λ _. Changes rest.now.bytes (with_rest (extensions_of rest.now.extensions) (suc (length rest.now.codes)) rest.now.codes) reader.old reader.new) }
     ensures between { IfOk result (λ _. IsBetween rest.now.bytes reader.new) }
     ensures texts { IfOk result (λ _. TextsBehind rest.now reader.new) }
 {
@@ -180,9 +180,9 @@ fn begin_all(
 ) -> Result<(), AllocError>
     requires standing { IsStanding rest.now.bytes reader.old }
     requires within { IsWithin (length rest.now.codes) begun }
-    requires is { IsBegun rest.now.codes begun }
+    requires is { IsBegun rest.now.extensions rest.now.codes begun }
     requires texts { HasPlacedRows rest.now.bytes reader.old }
-    ensures tree { IfOk result (λ _. Changes rest.now.bytes (with_begun no_extensions (begun_of rest.now.codes begun)) reader.old reader.new) }
+    ensures tree { IfOk result (λ _. Changes rest.now.bytes (with_begun (extensions_of rest.now.extensions) (begun_of rest.now.codes begun)) reader.old reader.new) }
     ensures between { IfOk result (λ _. IsBetween rest.now.bytes reader.new) }
     ensures texts { IfOk result (λ _. TextsBehind rest.now reader.new) }
 {
@@ -199,7 +199,7 @@ fn begin_all(
 fn stand(alloc: Global, reader: &mut Reader, rest: &Rest) -> Result<(), AllocError>
     requires standing { IsStanding rest.now.bytes reader.old }
     requires texts { HasPlacedRows rest.now.bytes reader.old }
-    ensures tree { IfOk result (λ _. Changes rest.now.bytes (with_line no_extensions rest.now.codes) reader.old reader.new) }
+    ensures tree { IfOk result (λ _. Changes rest.now.bytes (with_line (extensions_of rest.now.extensions) rest.now.codes) reader.old reader.new) }
     ensures between { IfOk result (λ _. IsBetween rest.now.bytes reader.new) }
     ensures texts { IfOk result (λ _. TextsBehind rest.now reader.new) }
 {
@@ -243,7 +243,7 @@ fn follow_text<T: HasText>(
     requires texts { HasPlacedRows rest.now.bytes reader.old }
     requires text { IsOpenLeaf rest.now.bytes rest.now.start (Paragraph text) }
     ensures tree { IfOk result (λ _.
-        Changes rest.now.bytes (λ s. with_text_line no_extensions T.has_text rest.now.codes s (content_of rest.now.bytes text.items)) reader.old reader.new) }
+        Changes rest.now.bytes (λ s. with_text_line (extensions_of rest.now.extensions) T.has_text rest.now.codes s (content_of rest.now.bytes text.items)) reader.old reader.new) }
     ensures between { IfOk result (λ _. IsBetween rest.now.bytes reader.new) }
     ensures texts { IfOk result (λ _. TextsBehind rest.now reader.new) }
 {
@@ -283,8 +283,8 @@ fn follow_other(
     requires texts { HasPlacedRows rest.now.bytes reader.old }
     requires text { IsOpenLeaf rest.now.bytes rest.now.start leaf }
     ensures tree { IfOk result (λ _.
-        Changes rest.now.bytes (λ s. with_next_or_line no_extensions rest.now.codes s (leaf_of rest.now.bytes leaf)
-        (with_next no_extensions (leaf_of rest.now.bytes leaf) rest.now.codes)) reader.old reader.new) }
+        Changes rest.now.bytes (λ s. with_next_or_line (extensions_of rest.now.extensions) rest.now.codes s (leaf_of rest.now.bytes leaf)
+        (with_next (extensions_of rest.now.extensions) (leaf_of rest.now.bytes leaf) rest.now.codes)) reader.old reader.new) }
     ensures between { IfOk result (λ _. IsBetween rest.now.bytes reader.new) }
     ensures texts { IfOk result (λ _. TextsBehind rest.now reader.new) }
 {
@@ -313,7 +313,7 @@ fn follow_leaf<T: HasText>(
     requires texts { HasPlacedRows rest.now.bytes reader.old }
     requires text { IsOpenLeaf rest.now.bytes rest.now.start leaf }
     ensures tree { IfOk result (λ _.
-        Changes rest.now.bytes (λ s. with_leaf_line no_extensions T.has_text rest.now.codes s (leaf_of rest.now.bytes leaf)) reader.old reader.new) }
+        Changes rest.now.bytes (λ s. with_leaf_line (extensions_of rest.now.extensions) T.has_text rest.now.codes s (leaf_of rest.now.bytes leaf)) reader.old reader.new) }
     ensures between { IfOk result (λ _. IsBetween rest.now.bytes reader.new) }
     ensures texts { IfOk result (λ _. TextsBehind rest.now reader.new) }
 {
@@ -339,7 +339,7 @@ fn follow<T: HasText>(
     requires between { IsBetween rest.now.bytes reader.old }
     requires texts { TextsBefore rest.now reader.old }
     ensures tree { IfOk result (λ _.
-        whole_tree rest.now.bytes reader.new ≡ at_depth (depth reader.old) (read_line no_extensions T.has_text rest.now.codes) (whole_tree rest.now.bytes reader.old)) }
+        whole_tree rest.now.bytes reader.new ≡ at_depth (depth reader.old) (read_line (extensions_of rest.now.extensions) T.has_text rest.now.codes) (whole_tree rest.now.bytes reader.old)) }
     ensures between { IfOk result (λ _. IsBetween rest.now.bytes reader.new) }
     ensures texts { IfOk result (λ _. TextsBehind rest.now reader.new) }
 {
@@ -407,8 +407,8 @@ fn leap(reader: &Reader, outside: usize, rest: &Rest) -> usize
     ensures within { result < depth reader.now }
     ensures forward { outside ≤ result }
     ensures same { (has_text : List Code → Bool)
-        → at_depth outside (read_line no_extensions has_text rest.now.codes) (whole_tree rest.now.bytes reader.now)
-        ≡ at_depth result (read_line no_extensions has_text rest.now.codes) (whole_tree rest.now.bytes reader.now) }
+        → at_depth outside (read_line (extensions_of rest.now.extensions) has_text rest.now.codes) (whole_tree rest.now.bytes reader.now)
+        ≡ at_depth result (read_line (extensions_of rest.now.extensions) has_text rest.now.codes) (whole_tree rest.now.bytes reader.now) }
 {
     if !rest.is_bare() {
         return outside;
@@ -427,9 +427,10 @@ fn go_on<'a>(reader: &Reader, rest: &Rest<'a>) -> (usize, Rest<'a>)
     ensures within { result.0 ≤ depth reader.now }
     ensures bytes { result.1.bytes ≡ rest.now.bytes }
     ensures start { result.1.start ≡ rest.now.start }
+    ensures extensions { result.1.extensions ≡ rest.now.extensions }
     ensures tree { (has_text : List Code → Bool)
-        → read_line no_extensions has_text rest.now.codes (whole_tree rest.now.bytes reader.now)
-        ≡ at_depth result.0 (read_line no_extensions has_text result.1.codes) (whole_tree rest.now.bytes reader.now) }
+        → read_line (extensions_of rest.now.extensions) has_text rest.now.codes (whole_tree rest.now.bytes reader.now)
+        ≡ at_depth result.0 (read_line (extensions_of rest.now.extensions) has_text result.1.codes) (whole_tree rest.now.bytes reader.now) }
     ensures stops { result.0 < depth reader.now
         → rest_inside (container_at result.0 reader.now) (inside_at (suc result.0) (whole_tree rest.now.bytes reader.now)) result.1.codes ≡ None }
 {
@@ -461,7 +462,7 @@ fn is_text(leaf: &Leaf) -> bool
 // Whether a line continues the open leaf lazily.
 fn is_lazy(reader: &Reader, rest: &Rest) -> bool
     requires { IsBetween rest.now.bytes reader.now }
-    ensures { result ≡ is_lazy no_extensions rest.now.codes (whole_tree rest.now.bytes reader.now) }
+    ensures { result ≡ is_lazy (extensions_of rest.now.extensions) rest.now.codes (whole_tree rest.now.bytes reader.now) }
 {
     match &reader.open {
         None => false,
@@ -495,7 +496,7 @@ fn longer(leaf: Leaf, rest: &Rest) -> Result<Leaf, AllocError>
 // A line that continues the open leaf lazily.
 fn join(reader: &mut Reader, rest: &Rest) -> Result<(), AllocError>
     requires between { IsBetween rest.now.bytes reader.old }
-    requires lazy { is_lazy no_extensions rest.now.codes (whole_tree rest.now.bytes reader.old) ≡ true }
+    requires lazy { is_lazy (extensions_of rest.now.extensions) rest.now.codes (whole_tree rest.now.bytes reader.old) ≡ true }
     requires texts { TextsBefore rest.now reader.old }
     ensures tree { IfOk result (λ _. whole_tree rest.now.bytes reader.new ≡ with_lazy_line rest.now.codes (whole_tree rest.now.bytes reader.old)) }
     ensures between { IfOk result (λ _. IsBetween rest.now.bytes reader.new) }
@@ -520,7 +521,7 @@ pub fn read_line<T: HasText>(
 ) -> Result<(), AllocError>
     requires between { IsBetween line.now.bytes reader.old }
     requires texts { TextsBefore line.now reader.old }
-    ensures tree { IfOk result (λ _. whole_tree line.now.bytes reader.new ≡ read_line no_extensions T.has_text line.now.codes (whole_tree line.now.bytes reader.old)) }
+    ensures tree { IfOk result (λ _. whole_tree line.now.bytes reader.new ≡ read_line (extensions_of line.now.extensions) T.has_text line.now.codes (whole_tree line.now.bytes reader.old)) }
     ensures between { IfOk result (λ _. IsBetween line.now.bytes reader.new) }
     ensures texts { IfOk result (λ _. TextsBehind line.now reader.new) }
 {

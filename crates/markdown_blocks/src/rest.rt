@@ -1,4 +1,4 @@
-//! The rest of a line: the document, where the line begins, the values of its codes, and how many of these stand before the rest.
+//! The rest of a line: what is read beside CommonMark, the document, where the line begins, the values of its codes, and how many of these stand before the rest.
 
 ghost use Rattle.std.specs.Prelude.{◌≡◌, ◌<◌, ◌≤◌, ◌+◌, ◌||◌, ◌∷◌, [], length, take, drop, not, is_some, true, false, List, IfSome};
 ghost use Rattle.std.specs.List.{list_all};
@@ -7,13 +7,13 @@ ghost use Rattle.markdown_content.specs.Content.{document_limit, piece_codes};
 ghost use Rattle.markdown_content.specs.DocumentWalk.{IsPoint};
 ghost use Rattle.markdown_model.specs.CodeTests.{values_of};
 ghost use Rattle.markdown_block_model.specs.LineRests.{indent, is_blank_line};
-ghost use Rattle.markdown_block_model.specs.BlockTree.{no_extensions, Tree};
+ghost use Rattle.markdown_block_model.specs.BlockTree.{Tree};
 ghost use Rattle.markdown_block_model.specs.TextStarts.{lines_begin, is_line};
 ghost use Rattle.markdown_block_model.specs.LeafStarts.{underline};
 ghost use Rattle.markdown_block_model.specs.BlockStarts.{begun};
 ghost use Rattle.markdown_block_model.specs.DocumentBlocks.{rest_inside, is_nothing};
 ghost use Rattle.markdown_block_line.specs.DocumentLines.{line_from};
-ghost use Rattle.markdown_block_line.specs.LineBlocks.{container_of, Says};
+ghost use Rattle.markdown_block_line.specs.LineBlocks.{extensions_of, container_of, Says};
 ghost use Rattle.markdown_block_line.specs.LineStarts.{begun_of, StandsWhere, IsWithin};
 ghost use Rattle.markdown_blocks.specs.ItemRows.{IsBare};
 ghost use Rattle.markdown_blocks.specs.LineRest.{behind, IsLineStart};
@@ -23,6 +23,7 @@ use markdown_block_line::begins::{self, Begun};
 use markdown_block_line::breaks::{BreakLens, break_lens};
 use markdown_block_line::containers::{self, Container};
 use markdown_block_line::document::past_codes;
+use markdown_block_line::extensions::Extensions;
 use markdown_block_line::{line, starts};
 use markdown_content::parser::Piece;
 use markdown_event::event::Point;
@@ -31,6 +32,8 @@ use std::marker::Model;
 /// The rest of a line of a document.
 #[derive(Drop)]
 pub struct Rest<'a> {
+    // What is read beside CommonMark.
+    extensions: Extensions,
     document: &'a [u8],
     // Where the line begins.
     start: Point,
@@ -49,23 +52,29 @@ impl<'a> Model for Rest<'a> {
 
     ghost Value = { LineRest };
 
-    ghost view = { λ r. record { bytes = r.document.now; start = r.start; codes = drop r.at (line_from r.document.now r.start) } };
+    ghost view = { λ r. record { extensions = r.extensions; bytes = r.document.now; start = r.start; codes = drop r.at (line_from r.document.now r.start) } };
 
     ghost invariant = { λ r. IsRest r.document.now r.start r.values.now r.breaks r.at };
 }
 
 impl<'a> Rest<'a> {
     /// Makes the rest of a line that has all of it.
-    pub fn new(document: &'a [u8], start: Point, values: &'a [u8]) -> Rest<'a>
+    pub fn new(
+        extensions: Extensions,
+        document: &'a [u8],
+        start: Point,
+        values: &'a [u8],
+    ) -> Rest<'a>
         requires fits { length document.now ≤ document_limit }
         requires is_point { IsPoint document.now start }
         requires filled { start.index < length document.now }
         requires begins { IsLineStart document.now start (line_from document.now start) }
         requires same { values_of (line_from document.now start) ≡ values.now }
         requires between { StandsBetween document.now start }
-        ensures { result ≡ record { bytes = document.entry.now; start = start; codes = line_from document.entry.now start } }
+        ensures { result ≡ record { extensions = extensions; bytes = document.entry.now; start = start; codes = line_from document.entry.now start } }
     {
         Rest {
+            extensions,
             document,
             start,
             values,
@@ -102,6 +111,7 @@ impl<'a> Rest<'a> {
         ensures { result ≡ behind count self.now }
     {
         Rest {
+            extensions: self.extensions,
             document: self.document,
             start: self.start,
             values: self.values,
@@ -142,18 +152,24 @@ impl<'a> Rest<'a> {
 
     /// Returns what begins here, or `None`. `in_paragraph` says that a paragraph stands right before, and `after_text` that one is open here or further inside.
     pub fn begun(&self, in_paragraph: bool, after_text: bool) -> Option<Begun>
-        ensures found { Says result (begun_of self.now.codes) (begun no_extensions in_paragraph after_text self.now.codes) }
+        ensures found { Says result (begun_of self.now.codes) (begun (extensions_of self.now.extensions) in_paragraph after_text self.now.codes) }
         ensures start { IfSome result (StandsWhere self.now.codes) }
         ensures within { IfSome result (IsWithin (length self.now.codes)) }
     {
-        begins::begun_at(in_paragraph, after_text, self.breaks, self.values())
+        begins::begun_at(
+            self.extensions,
+            in_paragraph,
+            after_text,
+            self.breaks,
+            self.values(),
+        )
     }
 
     /// Returns whether the line would continue a paragraph lazily (CommonMark 5.1).
     pub fn is_lazy(&self) -> bool
-        ensures { result ≡ not (is_blank_line self.now.codes || is_some (begun no_extensions false true self.now.codes)) }
+        ensures { result ≡ not (is_blank_line self.now.codes || is_some (begun (extensions_of self.now.extensions) false true self.now.codes)) }
     {
-        begins::is_lazy_line(self.breaks, self.values())
+        begins::is_lazy_line(self.extensions, self.breaks, self.values())
     }
 
     /// Returns the piece of the document that has so many codes, behind so many.

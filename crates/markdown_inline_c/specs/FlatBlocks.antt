@@ -6,19 +6,19 @@ use Rattle.markdown_block_line.specs.declared.containers.Container.{Container}
 use Rattle.markdown_block_line.specs.declared.containers.Container.TheVariants.{Quote, Item}
 use Rattle.markdown_block_line.specs.declared.containers.Marker.TheVariants.{Bullet, Ordered}
 use Rattle.markdown_block_model.specs.BlockLines.{begins_of}
-use Rattle.markdown_block_model.specs.BlockTree.{no_extensions, nothing}
+use Rattle.markdown_block_model.specs.BlockTree.{nothing}
 use Rattle.markdown_block_model.specs.LinkDefinitions.{document_tree, has_text}
 use Rattle.markdown_blocks.specs.BlockRows.{rows_from}
 use Rattle.markdown_blocks.specs.NestedRows.{AreNested}
 use Rattle.markdown_blocks.specs.declared.block.Leaf.{Leaf}
-use Rattle.markdown_blocks.specs.declared.block.Leaf.TheVariants.{Blank, ThematicBreak, Heading, Underlined, Paragraph, IndentedCode, FencedCode, Html}
+use Rattle.markdown_blocks.specs.declared.block.Leaf.TheVariants.{Blank, ThematicBreak, Heading, Underlined, Paragraph, IndentedCode, FencedCode, Html, FrontMatter}
 use Rattle.markdown_blocks.specs.declared.block.Row.{Row}
 use Rattle.markdown_blocks.specs.declared.block.Row.TheVariants.{LeafAt, ContainerAt}
 use Rattle.markdown_content.specs.KnownPlaces.{IsDocument}
 use Rattle.markdown_content.specs.declared.parser.Piece.{Piece}
 use Rattle.markdown_inline_c.specs.Answers.{IsRefused, over}
+use Rattle.markdown_inline_c.specs.FlatExtensions.{AreKnownBlocks, IsBlocksFault, extensions_in}
 use Rattle.markdown_inline_c.specs.FlatLines.{flat_piece}
-use Rattle.markdown_inline_c.specs.Statuses.{IsReadFault}
 use Rattle.markdown_inline_c.specs.declared.blocks.BlockKind.{BlockKind}
 use Rattle.markdown_inline_c.specs.declared.flat.BlocksCount.{BlocksCount}
 use Rattle.markdown_inline_c.specs.declared.flat.FlatBlock.{FlatBlock}
@@ -39,6 +39,7 @@ block_kind_number BlockKind.FencedCode = 5
 block_kind_number BlockKind.Html = 6
 block_kind_number BlockKind.Quote = 7
 block_kind_number BlockKind.Item = 8
+block_kind_number BlockKind.FrontMatter = 9
 
 -- where an item stands in its list, by bits
 abbrev pub list_bits : Place → ℕ
@@ -57,6 +58,7 @@ flat_leaf depth (Paragraph text) pieces = plain_block BlockKind.Paragraph depth 
 flat_leaf depth (IndentedCode ls) pieces = plain_block BlockKind.IndentedCode depth pieces
 flat_leaf depth (FencedCode fence info ls ended) pieces = record (plain_block BlockKind.FencedCode depth pieces) { marker = fence.value }
 flat_leaf depth (Html kind text ended) pieces = record (plain_block BlockKind.Html depth pieces) { number = kind }
+flat_leaf depth (FrontMatter ls) pieces = plain_block BlockKind.FrontMatter depth pieces
 
 abbrev pub flat_container : (depth : ℕ) → Container → Place → (pieces : Range) → FlatBlock
 flat_container depth Quote place pieces = plain_block BlockKind.Quote depth pieces
@@ -79,6 +81,7 @@ pieces_of_leaf (Paragraph text) = text.items
 pieces_of_leaf (IndentedCode ls) = ls.items
 pieces_of_leaf (FencedCode fence info ls ended) = info ∷ ls.items
 pieces_of_leaf (Html kind text ended) = text.items
+pieces_of_leaf (FrontMatter ls) = ls.items
 
 abbrev pub pieces_of_row : Row → List Piece
 pieces_of_row (LeafAt depth leaf) = pieces_of_leaf leaf
@@ -98,17 +101,17 @@ flat_blocks before (r ∷ rows) (place ∷ places) (line ∷ lines) =
 abbrev pub flat_pieces : List Row → List FlatPiece
 flat_pieces rows = map flat_piece (flat_map pieces_of_row rows)
 
--- Of a document these are the blocks, with where each item stands in its list and on which line each block begins, and the pieces. The rows that they are
+-- Of a document, read with the blocks that the bits ask for, these are the blocks, with where each item stands in its list and on which line each block begins, and the pieces. The rows that they are
 -- made of have its tree, each text of theirs is a text content, each piece is of one line and stands where the codes of the tree do, and each row stands at most
 -- one deeper than the container before it.
-pub record AreBlocks (bytes : List ℕ) (blocks : List FlatBlock) (pieces : List FlatPiece) : Type 0 where
+pub record AreBlocks (bits : ℕ) (bytes : List ℕ) (blocks : List FlatBlock) (pieces : List FlatPiece) : Type 0 where
   pub rows : List Row
-  pub tree : rows_from bytes nothing rows ≡ document_tree no_extensions bytes
+  pub tree : rows_from bytes nothing rows ≡ document_tree (extensions_in bits) bytes
   pub nested : AreNested 0 rows
   pub texts : All (IsTextRow bytes) rows
   pub lines : All (IsLineRow bytes) rows
   pub stand : All (HasPieces bytes) rows
-  pub blocks_are : blocks ≡ flat_blocks 0 rows (places_in None (document_tree no_extensions bytes)) (begins_of no_extensions has_text bytes)
+  pub blocks_are : blocks ≡ flat_blocks 0 rows (places_in None (document_tree (extensions_in bits) bytes)) (begins_of (extensions_in bits) has_text bytes)
   pub pieces_are : pieces ≡ flat_pieces rows
 
 -- What the call leaves.
@@ -132,15 +135,16 @@ pub record AreBlocksHandedOut (blocks blocks_old blocks_new : List FlatBlock) (p
   pub handed_out : AreBlocksDone blocks blocks_old blocks_new pieces pieces_old pieces_new status ⊎ AreBlocksTooMany blocks blocks_old blocks_new pieces pieces_old pieces_new status
 
 -- the document is read, and its blocks are handed out
-pub record IsBlocksRead (bytes : List ℕ) (blocks_old blocks_new : List FlatBlock) (pieces_old pieces_new : List FlatPiece) (count : BlocksCount) (status : ℕ) : Type 0 where
+pub record IsBlocksRead (bits : ℕ) (bytes : List ℕ) (blocks_old blocks_new : List FlatBlock) (pieces_old pieces_new : List FlatPiece) (count : BlocksCount) (status : ℕ) : Type 0 where
+  pub known : AreKnownBlocks bits
   pub is_document : IsDocument bytes
   pub blocks : List FlatBlock
   pub pieces : List FlatPiece
-  pub are : AreBlocks bytes blocks pieces
+  pub are : AreBlocks bits bytes blocks pieces
   pub handed_out : AreBlocksHandedOut blocks blocks_old blocks_new pieces pieces_old pieces_new count status
 
 -- the document is read, or it is refused and nothing is written
-abbrev pub IsBlocksAnswer : (bytes : List ℕ) (blocks_old blocks_new : List FlatBlock) (pieces_old pieces_new : List FlatPiece) (count_old count_new : BlocksCount) (status : ℕ) → Type 0
-IsBlocksAnswer bytes blocks_old blocks_new pieces_old pieces_new count_old count_new status =
-    IsBlocksRead bytes blocks_old blocks_new pieces_old pieces_new count_new status
-    ⊎ (IsRefused (IsReadFault bytes) status × ((blocks_new ≡ blocks_old) × ((pieces_new ≡ pieces_old) × (count_new ≡ count_old))))
+abbrev pub IsBlocksAnswer : (bits : ℕ) (bytes : List ℕ) (blocks_old blocks_new : List FlatBlock) (pieces_old pieces_new : List FlatPiece) (count_old count_new : BlocksCount) (status : ℕ) → Type 0
+IsBlocksAnswer bits bytes blocks_old blocks_new pieces_old pieces_new count_old count_new status =
+    IsBlocksRead bits bytes blocks_old blocks_new pieces_old pieces_new count_new status
+    ⊎ (IsRefused (IsBlocksFault bits bytes) status × ((blocks_new ≡ blocks_old) × ((pieces_new ≡ pieces_old) × (count_new ≡ count_old))))

@@ -1,14 +1,13 @@
 -- Definitions of a document as a caller in C gets them (CommonMark 4.7).
 use Rattle.std.specs.Prelude.{◌≡◌, ◌<◌, ◌⊎◌, ◌++◌, ◌∷◌, [], ℕ, ◌+◌, if◌then◌else◌, List, length, map, flat_map, Option, None, Some, option_map, is_some}
 use Rattle.markdown_block_definitions.specs.DefinitionTexts.{Texts, texts_in}
-use Rattle.markdown_block_model.specs.BlockTree.{no_extensions}
 use Rattle.markdown_block_model.specs.LinkDefinitions.{definitions}
 use Rattle.markdown_content.specs.KnownPlaces.{IsDocument}
 use Rattle.markdown_html_model.specs.Resolved.{decoding_of, resolved}
 use Rattle.markdown_inline_c.specs.Answers.{IsRefused, over}
 use Rattle.markdown_inline_c.specs.FlatHtml.{IsTarget, title_of}
 use Rattle.markdown_inline_c.specs.FlatInput.{IsLabelRange, range_bytes}
-use Rattle.markdown_inline_c.specs.Statuses.{IsReadFault}
+use Rattle.markdown_inline_c.specs.FlatExtensions.{AreKnownBlocks, IsBlocksFault, extensions_in}
 use Rattle.markdown_inline_c.specs.declared.flat.DefinitionsCount.{DefinitionsCount}
 use Rattle.markdown_inline_c.specs.declared.flat.FlatTarget.{FlatTarget}
 use Rattle.markdown_inline_c.specs.declared.flat.Range.{Range}
@@ -77,22 +76,22 @@ pub record AreWritten (how : Decoding) (labels : List ℕ) (ts : List Texts) (ra
   pub ranges_are : ranges ≡ flat_ranges how 0 ts
   pub targets_are : targets ≡ flat_targets how 0 ts
 
--- Those of a document.
+-- Those of a document, read with the blocks that the bits ask for.
 
-abbrev pub texts_of_document : List ℕ → List Texts
-texts_of_document bytes = map texts_in (definitions no_extensions bytes)
+abbrev pub texts_of_document : ℕ → List ℕ → List Texts
+texts_of_document bits bytes = map texts_in (definitions (extensions_in bits) bytes)
 
-abbrev pub document_labels : List ℕ → List ℕ
-document_labels bytes = flat_labels (decoding_of commonmark) (texts_of_document bytes)
+abbrev pub document_labels : ℕ → List ℕ → List ℕ
+document_labels bits bytes = flat_labels (decoding_of commonmark) (texts_of_document bits bytes)
 
-abbrev pub document_ranges : List ℕ → List Range
-document_ranges bytes = flat_ranges (decoding_of commonmark) 0 (texts_of_document bytes)
+abbrev pub document_ranges : ℕ → List ℕ → List Range
+document_ranges bits bytes = flat_ranges (decoding_of commonmark) 0 (texts_of_document bits bytes)
 
-abbrev pub document_targets : List ℕ → List FlatTarget
-document_targets bytes = flat_targets (decoding_of commonmark) 0 (texts_of_document bytes)
+abbrev pub document_targets : ℕ → List ℕ → List FlatTarget
+document_targets bits bytes = flat_targets (decoding_of commonmark) 0 (texts_of_document bits bytes)
 
-abbrev pub AreDefinitions : List ℕ → (labels : List ℕ) (ranges : List Range) (targets : List FlatTarget) → Type 0
-AreDefinitions bytes labels ranges targets = AreWritten (decoding_of commonmark) labels (texts_of_document bytes) ranges targets
+abbrev pub AreDefinitions : ℕ → List ℕ → (labels : List ℕ) (ranges : List Range) (targets : List FlatTarget) → Type 0
+AreDefinitions bits bytes labels ranges targets = AreWritten (decoding_of commonmark) labels (texts_of_document bits bytes) ranges targets
 
 -- What the call leaves.
 
@@ -118,16 +117,17 @@ pub record AreDefinitionsHandedOut (labels labels_old labels_new : List ℕ) (ra
       ⊎ AreDefinitionsTooMany labels labels_old labels_new ranges ranges_old ranges_new targets targets_old targets_new status
 
 -- the document is read, and its definitions are handed out
-pub record IsDefinitionsRead (bytes labels_old labels_new : List ℕ) (ranges_old ranges_new : List Range) (targets_old targets_new : List FlatTarget) (count : DefinitionsCount) (status : ℕ) : Type 0 where
+pub record IsDefinitionsRead (bits : ℕ) (bytes labels_old labels_new : List ℕ) (ranges_old ranges_new : List Range) (targets_old targets_new : List FlatTarget) (count : DefinitionsCount) (status : ℕ) : Type 0 where
+  pub known : AreKnownBlocks bits
   pub is_document : IsDocument bytes
-  pub flat : AreFlat (decoding_of commonmark) (document_labels bytes) (texts_of_document bytes) (document_ranges bytes) (document_targets bytes)
-  pub handed_out : AreDefinitionsHandedOut (document_labels bytes) labels_old labels_new (document_ranges bytes) ranges_old ranges_new (document_targets bytes) targets_old targets_new count status
+  pub flat : AreFlat (decoding_of commonmark) (document_labels bits bytes) (texts_of_document bits bytes) (document_ranges bits bytes) (document_targets bits bytes)
+  pub handed_out : AreDefinitionsHandedOut (document_labels bits bytes) labels_old labels_new (document_ranges bits bytes) ranges_old ranges_new (document_targets bits bytes) targets_old targets_new count status
 
 -- the document is read, or it is refused and nothing is written
-abbrev pub IsDefinitionsAnswer : (bytes labels_old labels_new : List ℕ) (ranges_old ranges_new : List Range) (targets_old targets_new : List FlatTarget) (count_old count_new : DefinitionsCount) (status : ℕ) → Type 0
-IsDefinitionsAnswer bytes labels_old labels_new ranges_old ranges_new targets_old targets_new count_old count_new status =
-    IsDefinitionsRead bytes labels_old labels_new ranges_old ranges_new targets_old targets_new count_new status
-    ⊎ (IsRefused (IsReadFault bytes) status × ((labels_new ≡ labels_old) × ((ranges_new ≡ ranges_old) × ((targets_new ≡ targets_old) × (count_new ≡ count_old)))))
+abbrev pub IsDefinitionsAnswer : (bits : ℕ) (bytes labels_old labels_new : List ℕ) (ranges_old ranges_new : List Range) (targets_old targets_new : List FlatTarget) (count_old count_new : DefinitionsCount) (status : ℕ) → Type 0
+IsDefinitionsAnswer bits bytes labels_old labels_new ranges_old ranges_new targets_old targets_new count_old count_new status =
+    IsDefinitionsRead bits bytes labels_old labels_new ranges_old ranges_new targets_old targets_new count_new status
+    ⊎ (IsRefused (IsBlocksFault bits bytes) status × ((labels_new ≡ labels_old) × ((ranges_new ≡ ranges_old) × ((targets_new ≡ targets_old) × (count_new ≡ count_old)))))
 
 -- What functions promise each other.
 

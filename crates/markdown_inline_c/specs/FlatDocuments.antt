@@ -8,6 +8,7 @@ use Rattle.markdown_page.specs.DocumentBrought.{document_brought}
 use Rattle.markdown_page_model.specs.PageHtml.{commonmark, document_html}
 use Rattle.markdown_inline_c.specs.Answers.{IsHandedOut}
 use Rattle.markdown_inline_c.specs.FlatEvents.{number_or_max}
+use Rattle.markdown_inline_c.specs.FlatExtensions.{AreKnownBlocks, extensions_in}
 use Rattle.markdown_inline_c.specs.FlatHtml.{AreKnownForHtml, IsWithinLimit, html_options_of, limit_in}
 use Rattle.markdown_inline_c.specs.Refusals.{IsDocumentRefused, blames_none}
 use Rattle.markdown_inline_c.specs.Statuses.{fault_status}
@@ -29,20 +30,21 @@ pub record IsReadingKnown (options : ℕ) : Type 0 where
   pub footnote_calls : has_option options 0x40 ≡ false
 
 abbrev pub reserves_nothing : DocumentOptions → Bool
-reserves_nothing o = list_all (λ word. word == 0) o.reserved && list_all (λ word. word == 0) o.reserved_words
+reserves_nothing o = o.reserved == 0 && list_all (λ word. word == 0) o.reserved_words
 
 -- each bit is known, and the reserved words are 0
 pub record AreDocumentOptions (o : DocumentOptions) : Type 0 where
   pub reading : IsReadingKnown o.options
   pub html : AreKnownForHtml o.html []
+  pub blocks : AreKnownBlocks o.blocks
   pub reserved : IsTrue (reserves_nothing o)
 
 abbrev pub html_of_document : List ℕ → DocumentOptions → List ℕ
-html_of_document bytes o = document_html (reading_of o.options) (html_options_of o.html) bytes
+html_of_document bytes o = document_html (reading_of o.options) (extensions_in o.blocks) (html_options_of o.html) bytes
 
 -- what definitions bring to the document is no more than the limit
 abbrev pub IsDocumentWithin : List ℕ → DocumentOptions → Type 0
-IsDocumentWithin bytes o = IsWithinLimit (limit_in o.limit (length bytes)) (document_brought (reading_of o.options) (html_options_of o.html) bytes)
+IsDocumentWithin bytes o = IsWithinLimit (limit_in o.limit (length bytes)) (document_brought (reading_of o.options) (extensions_in o.blocks) (html_options_of o.html) bytes)
 
 -- the options are known, the bytes are a document, and definitions bring no more to it than the limit
 pub record IsDocumentInput (bytes : List ℕ) (o : DocumentOptions) : Type 0 where

@@ -4,6 +4,7 @@ pub mod FlatInput
 pub mod FlatBlocks
 pub mod FlatDefinitions
 pub mod FlatDocuments
+pub mod FlatExtensions
 pub mod FlatEvents
 pub mod ShortEvents
 pub mod FlatLeaves

@@ -4,12 +4,14 @@ ghost use Rattle.std.specs.Prelude.{◌≡◌, ◌++◌, ◌∷◌, [], IfErr, I
 ghost use Rattle.markdown_blocks.specs.declared.block.Row.{Row};
 ghost use Rattle.markdown_content.specs.KnownPlaces.{IsDocument};
 ghost use Rattle.markdown_inline_c.specs.FlatBlocks.{AreBlocks, AreBlocksHandedOut, block_kind_number, flat_block, flat_blocks, flat_container, flat_leaf, flat_pieces, list_bits, pieces_of_leaf, pieces_of_row, plain_block};
+ghost use Rattle.markdown_inline_c.specs.FlatExtensions.{AreKnownBlocks, IsBlocksFault};
 ghost use Rattle.markdown_inline_c.specs.FlatLines.{flat_piece};
-ghost use Rattle.markdown_inline_c.specs.Statuses.{IsReadFault, fault_status};
+ghost use Rattle.markdown_inline_c.specs.Statuses.{fault_status};
 ghost use Rattle.markdown_page.specs.declared.lists.Place.{Place};
 
 use crate::answer::write_front;
 use crate::check::check_document;
+use crate::extensions::known_extensions;
 use crate::fault::{DONE, Fault, TOO_SMALL};
 use crate::flat::{BlocksCount, FlatBlock, FlatPiece, Range};
 use crate::line_pieces::flat_piece;
@@ -41,6 +43,8 @@ pub enum BlockKind {
     Quote,
     /// An item of a list (CommonMark 5.2).
     Item,
+    /// Front matter.
+    FrontMatter,
 }
 
 /// The blocks of a document, and their pieces.
@@ -106,6 +110,7 @@ fn flat_leaf(depth: usize, leaf: &Leaf, pieces: Range) -> FlatBlock
             number: *kind,
             ..plain_block(BlockKind::Html, depth, pieces)
         },
+        Leaf::FrontMatter(_) => plain_block(BlockKind::FrontMatter, depth, pieces),
     }
 }
 
@@ -162,6 +167,7 @@ fn push_leaf(found: &mut Vec<FlatPiece>, leaf: &Leaf) -> Result<(), AllocError>
             push_all(found, lines.as_slice())
         }
         Leaf::Html(_, text, _) => push_all(found, text.as_slice()),
+        Leaf::FrontMatter(lines) => push_all(found, lines.as_slice()),
     }
 }
 
@@ -206,16 +212,18 @@ fn flat_rows(
     Ok(found)
 }
 
-/// The blocks of a document, or why it is refused.
-pub fn found_blocks(alloc: Global, bytes: &[u8]) -> Result<FoundBlocks, Fault>
-    ensures blocks { IfOk result (λ found. AreBlocks bytes.now found.blocks.items found.pieces.items) }
+/// The blocks of a document, read with the blocks that these bits ask for, or why it is refused.
+pub fn found_blocks(alloc: Global, bits: u32, bytes: &[u8]) -> Result<FoundBlocks, Fault>
+    ensures blocks { IfOk result (λ found. AreBlocks bits bytes.now found.blocks.items found.pieces.items) }
+    ensures known { IfOk result (λ _. AreKnownBlocks bits) }
     ensures document { IfOk result (λ _. IsDocument bytes.now) }
-    ensures err { IfErr result (IsReadFault bytes.now) }
+    ensures err { IfErr result (IsBlocksFault bits bytes.now) }
 {
+    let extensions = known_extensions(bits)?;
     if let Err(refusal) = check_document(bytes) {
         return Err(refusal.fault);
     }
-    let found = read(alloc, bytes)?;
+    let found = read(alloc, extensions, bytes)?;
     let rows = found.blocks.rows.as_slice();
     let places = places(alloc, bytes, rows)?;
     let lines = found.blocks.lines.as_slice();

@@ -5,10 +5,12 @@ ghost use Rattle.markdown_block_definitions.specs.DefinitionTexts.{Texts, HasUtf
 ghost use Rattle.markdown_content.specs.KnownPlaces.{IsDocument};
 ghost use Rattle.markdown_html_model.specs.Resolved.{resolved};
 ghost use Rattle.markdown_inline_c.specs.FlatDefinitions.{AreDefinitions, AreDefinitionsHandedOut, AreWritten, IsAppendedText, IsTargetOf};
-ghost use Rattle.markdown_inline_c.specs.Statuses.{IsReadFault, fault_status};
+ghost use Rattle.markdown_inline_c.specs.FlatExtensions.{AreKnownBlocks, IsBlocksFault};
+ghost use Rattle.markdown_inline_c.specs.Statuses.{fault_status};
 
 use crate::answer::write_front;
 use crate::check::check_document;
+use crate::extensions::known_extensions;
 use crate::fault::{DONE, Fault, TOO_SMALL};
 use crate::flat::{DefinitionsCount, FlatTarget, Range};
 use markdown_block_definitions::document::read;
@@ -119,12 +121,14 @@ fn flat_definitions(
     Ok(found)
 }
 
-/// The definitions of a document, or why it is refused.
-pub fn found_definitions(alloc: Global, bytes: &[u8]) -> Result<FoundDefinitions, Fault>
-    ensures definitions { IfOk result (λ found. AreDefinitions bytes.now found.labels.items found.definitions.items found.targets.items) }
+/// The definitions of a document, read with the blocks that these bits ask for, or why it is refused.
+pub fn found_definitions(alloc: Global, bits: u32, bytes: &[u8]) -> Result<FoundDefinitions, Fault>
+    ensures definitions { IfOk result (λ found. AreDefinitions bits bytes.now found.labels.items found.definitions.items found.targets.items) }
+    ensures known { IfOk result (λ _. AreKnownBlocks bits) }
     ensures document { IfOk result (λ _. IsDocument bytes.now) }
-    ensures err { IfErr result (IsReadFault bytes.now) }
+    ensures err { IfErr result (IsBlocksFault bits bytes.now) }
 {
+    let extensions = known_extensions(bits)?;
     if let Err(refusal) = check_document(bytes) {
         return Err(refusal.fault);
     }
@@ -132,7 +136,7 @@ pub fn found_definitions(alloc: Global, bytes: &[u8]) -> Result<FoundDefinitions
         commonmark: true,
         ..ParseOptions::default()
     };
-    let found = read(alloc, bytes)?;
+    let found = read(alloc, extensions, bytes)?;
     let definitions = flat_definitions(alloc, decoding_of(&rules), found.definitions.as_slice())?;
     Ok(definitions)
 }

@@ -3,17 +3,21 @@
 ghost use Rattle.std.specs.Prelude.{◌≡◌, ◌==◌, IfErr, IfOk};
 ghost use Rattle.std.specs.List.{list_all};
 ghost use Rattle.markdown_inline_c.specs.FlatDocuments.{AreDocumentOptions, IsDocumentAnswer, IsDocumentHtmlRefused, IsDocumentInput, IsReadingKnown, html_of_document, reading_of, reserves_nothing};
+ghost use Rattle.markdown_block_line.specs.LineBlocks.{extensions_of};
+ghost use Rattle.markdown_inline_c.specs.FlatExtensions.{extensions_in};
 ghost use Rattle.markdown_inline_c.specs.FlatHtml.{html_options_of};
 ghost use Rattle.markdown_inline_c.specs.declared.fault.Fault.TheVariants.{UnknownOption};
 
 use crate::answer::answer;
 use crate::check::check_document;
+use crate::extensions::known_extensions;
 use crate::fault::{DONE, Fault};
 use crate::flat::DocumentOptions;
 use crate::html::{self, limit_in};
 use crate::input::{self, FIRST_OF_ITEM};
 use crate::outcome::Outcome;
 use crate::refusal::Refusal;
+use markdown_block_line::extensions::Extensions;
 use markdown_content::configuration::{ParseOptions, has_option};
 use markdown_html_model::options::HtmlOptions;
 use markdown_page::document::{Page, to_html_within};
@@ -33,7 +37,7 @@ fn are_zero(words: &[usize]) -> bool
 fn reserves_nothing(options: &DocumentOptions) -> bool
     ensures { result ≡ reserves_nothing options.now }
 {
-    options.reserved.iter().all(|word| *word == 0) && are_zero(&options.reserved_words)
+    options.reserved == 0 && are_zero(&options.reserved_words)
 }
 
 // How texts of the document are read, if each bit is one of an option that documents have.
@@ -54,9 +58,12 @@ fn known_reading(options: u32) -> Result<ParseOptions, Fault>
 }
 
 // How the document is read and written, if each bit is known, and if the reserved words are 0.
-fn known_options(options: &DocumentOptions) -> Result<(ParseOptions, HtmlOptions), Fault>
+fn known_options(
+    options: &DocumentOptions,
+) -> Result<(ParseOptions, Extensions, HtmlOptions), Fault>
     ensures known { IfOk result (λ _. AreDocumentOptions options.now) }
-    ensures ok { IfOk result (λ found. (found.0 ≡ reading_of options.now.options) × (found.1 ≡ html_options_of options.now.html)) }
+    ensures ok { IfOk result (λ found. (found.0 ≡ reading_of options.now.options)
+        × ((extensions_of found.1 ≡ extensions_in options.now.blocks) × (found.2 ≡ html_options_of options.now.html))) }
     ensures err { IfErr result (λ fault. (fault ≡ UnknownOption) × (AreDocumentOptions options.now → ⊥)) }
 {
     if !reserves_nothing(options) {
@@ -64,6 +71,7 @@ fn known_options(options: &DocumentOptions) -> Result<(ParseOptions, HtmlOptions
     }
     Ok((
         known_reading(options.options)?,
+        known_extensions(options.blocks)?,
         html::known_options(options.html, &[])?,
     ))
 }
@@ -79,10 +87,10 @@ pub fn document_html(
     ensures input { IfOk result (λ _. IsDocumentInput bytes.now options.now) }
     ensures err { IfErr result (IsDocumentHtmlRefused bytes.now options.now) }
 {
-    let (reading, allowed) = known_options(options)?;
+    let (reading, extensions, allowed) = known_options(options)?;
     check_document(bytes)?;
     let limit = limit_in(options.limit, bytes.len());
-    match to_html_within(alloc, bytes, &reading, allowed, limit)? {
+    match to_html_within(alloc, bytes, extensions, &reading, allowed, limit)? {
         Page::Html(html) => Ok(html),
         Page::NoDocument => Err(Refusal::from(Fault::NotUtf8)),
         Page::BeyondLimit => Err(Refusal::from(Fault::References)),

@@ -61,8 +61,10 @@ pub struct DocumentOptions {
     pub options: u32,
     /// What HTML may hold, and how it is written, each by a bit.
     pub html: u32,
-    /// Nothing: both have to be 0.
-    pub reserved: [u32; 2],
+    /// Which blocks are read beside CommonMark's, each by a bit: code fenced with dollars, which is math, 0x1, and front matter 0x2.
+    pub blocks: u32,
+    /// Nothing: it has to be 0.
+    pub reserved: u32,
     /// How many bytes references may expand to: 0 is the default, and `usize::MAX` is no limit.
     pub limit: usize,
     /// Nothing: each has to be 0.

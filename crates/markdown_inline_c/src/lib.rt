@@ -34,6 +34,7 @@ pub mod check;
 pub mod contents;
 pub mod definitions;
 pub mod document;
+pub mod extensions;
 pub mod fault;
 pub mod flat;
 pub mod form;
@@ -342,8 +343,8 @@ pub extern "C" fn markdown_inline_html_of(
 /// The HTML of a document: of its blocks and of what is inside them, by CommonMark 0.31.2. No text becomes markup and no link leads to a script, unless
 /// the options say otherwise.
 ///
-/// Of the options, `options` are those of an input: 0 is CommonMark, and neither the first of an item nor footnote calls can be asked for. `html` and `limit` are
-/// those of `markdown_inline_html`; the limit is for what definitions bring to all texts of the document together. The reserved words are 0.
+/// Of the options, `options` are those of an input: 0 is CommonMark, and neither the first of an item nor footnote calls can be asked for. `blocks` has 0x1 for
+/// code fenced with dollars, which is math, and 0x2 for front matter, which is left out of the HTML. `html` and `limit` are those of `markdown_inline_html`; the limit is for what definitions bring to all texts of the document together. The reserved words are 0.
 ///
 /// With status 0 the HTML, in UTF-8, is at the front of `html`; `count` of the outcome is how many bytes it has, and `done` is 1. With status 6 `count` is that
 /// too, and they are more than there is room for. The status is that of the first thing that is wrong, in the order 2, 9, 3, 11; or it is 5. With status 3 the
@@ -434,42 +435,50 @@ pub extern "C" fn markdown_inline_htmls(
 /// The blocks of a document, in its order, and the pieces of their texts (CommonMark 0.31, sections 4 and 5). A block that holds others stands before
 /// them, and they stand one deeper. Definitions are no text: a paragraph of definitions alone has no pieces.
 ///
-/// The pieces of a heading or a paragraph are a text of the document, those of code and HTML are its lines; of fenced code the info string stands first.
+/// The pieces of a heading or a paragraph are a text of the document, those of code, HTML and front matter are its lines; of fenced code the info string stands
+/// first. `block_options` are the blocks that are read beside CommonMark's, as in the options of a document.
 ///
 /// With status 0 blocks and pieces stand at the fronts of the arrays, and `count` is how many they are. With status 6 `count` is that too, and one of
-/// the arrays has too little room. The status is 9, 3 or 5 too. Nothing else is written.
+/// the arrays has too little room. The status is 2, 9, 3 or 5 too. Nothing else is written.
 #[unsafe(no_mangle)]
 pub extern "C" fn markdown_inline_blocks(
     alloc: Global,
     bytes: &[u8],
+    block_options: u32,
     blocks: &mut [FlatBlock],
     pieces: &mut [FlatPiece],
     count: &mut BlocksCount,
 ) -> u32
-    ensures { IsBlocksAnswer bytes.now blocks.old blocks.new pieces.old pieces.new count.old count.new result }
+    ensures { IsBlocksAnswer block_options bytes.now blocks.old blocks.new pieces.old pieces.new count.old count.new result }
 {
-    answer_blocks(found_blocks(alloc, bytes), blocks, pieces, count)
+    answer_blocks(
+        found_blocks(alloc, block_options, bytes),
+        blocks,
+        pieces,
+        count,
+    )
 }
 
 /// The link reference definitions of a document, in its order, as an input takes them, with a target for each (CommonMark 0.31, section 4.7). Labels
-/// stand as they are written; in destinations and titles escapes and character references are resolved.
+/// stand as they are written; in destinations and titles escapes and character references are resolved. `block_options` are those of `markdown_inline_blocks`.
 ///
 /// With status 0 they stand at the fronts of the arrays, and `count` is how many definitions there are, with as many targets, and how many bytes their labels,
-/// destinations and titles have. With status 6 `count` is that too, and one of the arrays has too little room. The status is 9, 3 or 5 too. Nothing else
-/// is written.
+/// destinations and titles have. With status 6 `count` is that too, and one of the arrays has too little room. The status is 2, 9, 3 or 5 too.
+/// Nothing else is written.
 #[unsafe(no_mangle)]
 pub extern "C" fn markdown_inline_definitions(
     alloc: Global,
     bytes: &[u8],
+    block_options: u32,
     labels: &mut [u8],
     definitions: &mut [Range],
     targets: &mut [FlatTarget],
     count: &mut DefinitionsCount,
 ) -> u32
-    ensures { IsDefinitionsAnswer bytes.now labels.old labels.new definitions.old definitions.new targets.old targets.new count.old count.new result }
+    ensures { IsDefinitionsAnswer block_options bytes.now labels.old labels.new definitions.old definitions.new targets.old targets.new count.old count.new result }
 {
     answer_definitions(
-        found_definitions(alloc, bytes),
+        found_definitions(alloc, block_options, bytes),
         labels,
         definitions,
         targets,

@@ -1,5 +1,5 @@
 -- What definitions bring to the tree of the rows so far, and how it is taken from a limit.
-use Rattle.std.proofs.Common.{◌≡◌, ℕ, zero, suc, ◌+◌, ◌-◌, ◌≤◌, ◌<◌, ap, refl, Bool, false, List, [], ◌∷◌, length, Option, Some, None, arith}
+use Rattle.std.proofs.Common.{◌≡◌, ℕ, zero, suc, ◌+◌, ◌-◌, ◌≤◌, ap, refl, Bool, false, List, [], ◌∷◌, length, Option, Some, None, arith}
 use Rattle.markdown_model.specs.Setting.{Setting}
 use Rattle.markdown_html_model.specs.Html.{Page}
 use Rattle.markdown_block_model.specs.BlockTree.{Container, Leaf}

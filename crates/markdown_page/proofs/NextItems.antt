@@ -11,7 +11,7 @@ use Rattle.markdown_block_line.specs.declared.containers.Container.TheVariants.{
 use Rattle.markdown_blocks.specs.TreeDepth.{spine, at_depth}
 use Rattle.markdown_blocks.specs.BlockRows.{leaf_of, rows_from}
 use Rattle.markdown_blocks.specs.declared.block.Leaf.{Leaf as RowLeaf}
-use Rattle.markdown_blocks.specs.declared.block.Leaf.TheVariants.{Blank, ThematicBreak, Heading, Underlined, Paragraph, IndentedCode, FencedCode, Html}
+use Rattle.markdown_blocks.specs.declared.block.Leaf.TheVariants.{Blank, ThematicBreak, Heading, Underlined, Paragraph, IndentedCode, FencedCode, Html, FrontMatter}
 use Rattle.markdown_blocks.specs.declared.block.Row.{Row}
 use Rattle.markdown_blocks.specs.declared.block.Row.TheVariants.{LeafAt, ContainerAt}
 use Rattle.markdown_page_model.specs.PageHtml.{NextItem, goes_on, is_of_loose_list}
@@ -64,6 +64,7 @@ row-leaf bytes (Paragraph x) = refl
 row-leaf bytes (IndentedCode x) = refl
 row-leaf bytes (FencedCode f i x e) = refl
 row-leaf bytes (Html k x e) = refl
+row-leaf bytes (FrontMatter ls) = refl
 
 row-container : (d : ℕ) (c : RowContainer) → row_kind (ContainerAt d c) ≡ container_kind (container_of c)
 row-container d Quote = refl

@@ -1,23 +1,22 @@
 -- A document without definitions has nothing brought to it.
-use Rattle.std.proofs.Common.{◌≡◌, ℕ, ◌+◌, ◌<◌, refl, List, [], ◌∷◌, length, ◌==◌, Option, Some, None, Bool, true, false, if◌then◌else◌, arith}
+use Rattle.std.proofs.Common.{◌≡◌, ℕ, refl, List, [], ◌∷◌, length, ◌==◌, Option, Some, None, Bool, true, false, if◌then◌else◌, arith}
 use Rattle.std.proofs.lemmas.Bool.Decides.{Decides-eqb}
-use Rattle.markdown_content.specs.Codes.{Code}
 use Rattle.markdown_content.specs.declared.configuration.ParseOptions.{ParseOptions}
 use Rattle.markdown_content.specs.Tree.{Forest, empty, leaf_then, group_then}
 use Rattle.markdown_model.specs.Setting.{Setting}
 use Rattle.markdown_model.specs.InlineTree.{text_tree}
-use Rattle.markdown_html_model.specs.Html.{Defined, Page, PartsSoFar, Target, defined, label_identifier, label_text, page_of_content, reference_target, target_of}
+use Rattle.markdown_html_model.specs.Html.{Defined, Page, PartsSoFar, defined, page_of_content, reference_target}
 use Rattle.markdown_html_model.specs.Roles.{role_of}
 use Rattle.markdown_html_model.specs.declared.options.HtmlOptions.{HtmlOptions}
 use Rattle.markdown_html_model.specs.declared.role.Role.{Role}
 use Rattle.markdown_html.specs.Brought.{brought, brought_by, own_brought, parts_inside, target_bytes}
-use Rattle.markdown_block_model.specs.BlockTree.{no_extensions, Leaf, blank, thematic_break, heading, underlined, paragraph, indented_code, fenced_code, html, table, front_matter, Tree, nothing, and_leaf, and_container}
+use Rattle.markdown_block_model.specs.BlockTree.{Extensions, Leaf, blank, thematic_break, heading, underlined, paragraph, indented_code, fenced_code, html, table, front_matter, Tree, nothing, and_leaf, and_container}
 use Rattle.markdown_block_model.specs.LinkDefinitions as link_definitions
 use Rattle.markdown_block_model.specs.LinkDefinitions.{definitions, document_tree}
 use Rattle.markdown_block_definitions.specs.declared.front.Definition.{Definition}
 use Rattle.markdown_page.specs.DefinitionStrings.{AreTextsOf}
 use Rattle.markdown_page_model.specs.PageHtml.{is_first_block, leaf_setting, page_of, setting_of}
-use Rattle.markdown_page.specs.DocumentBrought.{IsBeyond, document_brought, leaf_brought, text_brought, tree_brought}
+use Rattle.markdown_page.specs.DocumentBrought.{IsBeyond, document_brought, leaf_brought, tree_brought}
 use Rattle.markdown_page.specs.PlacedTree.{is_item}
 
 nowhere-else : (q : List ℕ) (ds : List Defined) → ds ≡ [] → target_bytes (defined q ds) ≡ 0
@@ -60,9 +59,9 @@ to-blocks s p e i nothing = refl
 to-blocks s p e i (and_leaf b l) = let h = to-blocks s p e i b in let k = to-leaf (leaf_setting s (is_first_block i b) l) p e l in omega (arith, h, k)
 to-blocks s p e i (and_container b c x) = let h = to-blocks s p e i b in let k = to-blocks s p e (is_item c) x in omega (arith, h, k)
 
-nothing-brought : (reading : ParseOptions) (options : HtmlOptions) (bytes : List ℕ) → definitions no_extensions bytes ≡ [] → document_brought reading options bytes ≡ 0
+nothing-brought : (reading : ParseOptions) (x : Extensions) (options : HtmlOptions) (bytes : List ℕ) → definitions x bytes ≡ [] → document_brought reading x options bytes ≡ 0
 unfolding document_brought
-nothing-brought reading options bytes e = to-blocks (setting_of reading bytes) (page_of reading options bytes) (rw e refl) false (document_tree no_extensions bytes)
+nothing-brought reading x options bytes e = to-blocks (setting_of reading x bytes) (page_of reading x options bytes) (rw e refl) false (document_tree x bytes)
 
 -- So the limit is looked at only where there are definitions.
 
@@ -71,21 +70,21 @@ none-in [] xs texts e = refl
 none-in (d ∷ ds) [] texts e = absurd (cc)
 none-in (d ∷ ds) (x ∷ xs) texts e = let eqb = Decides-eqb (length (x ∷ xs)) 0 in let none = eqb.0 e in absurd (omega (arith, none))
 
-module _ (reading : ParseOptions) (options : HtmlOptions) (bytes : List ℕ) (xs : List Definition) (texts : AreTextsOf xs (definitions no_extensions bytes)) (limit : Option ℕ) where
-  by-count : (none : Bool) → (length xs == 0) ≡ none → IsBeyond (if none then None else limit) (document_brought reading options bytes) → IsBeyond limit (document_brought reading options bytes)
+module _ (reading : ParseOptions) (x : Extensions) (options : HtmlOptions) (bytes : List ℕ) (xs : List Definition) (texts : AreTextsOf xs (definitions x bytes)) (limit : Option ℕ) where
+  by-count : (none : Bool) → (length xs == 0) ≡ none → IsBeyond (if none then None else limit) (document_brought reading x options bytes) → IsBeyond limit (document_brought reading x options bytes)
   by-count true e h = absurd h
   by-count false e h = h
 
-  pub beyond_with : IsBeyond (if length xs == 0 then None else limit) (document_brought reading options bytes) → IsBeyond limit (document_brought reading options bytes)
+  pub beyond_with : IsBeyond (if length xs == 0 then None else limit) (document_brought reading x options bytes) → IsBeyond limit (document_brought reading x options bytes)
   beyond_with h = by-count (length xs == 0) refl h
 
   none-beyond : (l : Option ℕ) (n : ℕ) → n ≡ 0 → IsBeyond l n → ⊥
   none-beyond None n e h = h
   none-beyond (Some k) n e h = absurd (omega (arith, e, h))
 
-  by-limit : (none : Bool) → (length xs == 0) ≡ none → (IsBeyond (if none then None else limit) (document_brought reading options bytes) → ⊥) → IsBeyond limit (document_brought reading options bytes) → ⊥
-  by-limit true e h k = none-beyond limit (document_brought reading options bytes) (nothing-brought reading options bytes (none-in (definitions no_extensions bytes) xs texts e)) k
+  by-limit : (none : Bool) → (length xs == 0) ≡ none → (IsBeyond (if none then None else limit) (document_brought reading x options bytes) → ⊥) → IsBeyond limit (document_brought reading x options bytes) → ⊥
+  by-limit true e h k = none-beyond limit (document_brought reading x options bytes) (nothing-brought reading x options bytes (none-in (definitions x bytes) xs texts e)) k
   by-limit false e h k = h k
 
-  pub within_with : (IsBeyond (if length xs == 0 then None else limit) (document_brought reading options bytes) → ⊥) → IsBeyond limit (document_brought reading options bytes) → ⊥
+  pub within_with : (IsBeyond (if length xs == 0 then None else limit) (document_brought reading x options bytes) → ⊥) → IsBeyond limit (document_brought reading x options bytes) → ⊥
   within_with h = by-limit (length xs == 0) refl h

@@ -1,5 +1,5 @@
 -- How many bytes definitions bring to a document, and what a limit on them makes of its HTML.
-use Rattle.std.specs.Prelude.{◌≡◌, ℕ, ◌+◌, ◌<◌, Bool, false, List, [], ◌∷◌, Option, None, Some}
+use Rattle.std.specs.Prelude.{◌≡◌, ℕ, ◌+◌, ◌<◌, Bool, false, List, [], Option, None, Some}
 use Rattle.markdown_content.specs.Codes.{Code}
 use Rattle.markdown_content.specs.KnownPlaces.{IsDocument}
 use Rattle.markdown_content.specs.declared.configuration.ParseOptions.{ParseOptions}
@@ -9,7 +9,7 @@ use Rattle.markdown_html_model.specs.Html as inline
 use Rattle.markdown_html_model.specs.Html.{page_of_content}
 use Rattle.markdown_html_model.specs.declared.options.HtmlOptions.{HtmlOptions}
 use Rattle.markdown_html.specs.Brought.{brought}
-use Rattle.markdown_block_model.specs.BlockTree.{no_extensions, Leaf, heading, underlined, paragraph, Tree, nothing, and_leaf, and_container}
+use Rattle.markdown_block_model.specs.BlockTree.{Extensions, Leaf, heading, underlined, paragraph, Tree, nothing, and_leaf, and_container}
 use Rattle.markdown_block_model.specs.LinkDefinitions.{document_tree}
 use Rattle.markdown_page_model.specs.PageHtml.{is_first_block, leaf_setting, setting_of, page_of, document_html}
 use Rattle.markdown_page.specs.PlacedTree.{is_item}
@@ -37,9 +37,9 @@ tree_brought s p in_item nothing = 0
 tree_brought s p in_item (and_leaf before leaf) = tree_brought s p in_item before + leaf_brought (leaf_setting s (is_first_block in_item before) leaf) p leaf
 tree_brought s p in_item (and_container before c inside) = tree_brought s p in_item before + tree_brought s p (is_item c) inside
 
--- what definitions bring to a document whose texts are read with these options
-unfoldable pub document_brought : ParseOptions → HtmlOptions → List ℕ → ℕ
-document_brought reading options bytes = tree_brought (setting_of reading bytes) (page_of reading options bytes) false (document_tree no_extensions bytes)
+-- what definitions bring to a document whose texts are read with these options, and its blocks with these extensions
+unfoldable pub document_brought : ParseOptions → Extensions → HtmlOptions → List ℕ → ℕ
+document_brought reading extensions options bytes = tree_brought (setting_of reading extensions bytes) (page_of reading extensions options bytes) false (document_tree extensions bytes)
 
 -- so many bytes are more than the limit, if there is one
 abbrev pub IsBeyond : Option ℕ → ℕ → Type 0
@@ -52,8 +52,8 @@ HoldsOfHtml P (Page.Html html) = P html.items
 HoldsOfHtml P page = Unit {0}
 
 -- the HTML of a document to which definitions bring no more than the limit, or why there is none
-abbrev pub IsPage : ParseOptions → HtmlOptions → List ℕ → Option ℕ → Page → Type 0
-IsPage reading options bytes limit (Page.Html html) =
-    IsDocument bytes × (IsBeyond limit (document_brought reading options bytes) → ⊥) × (html.items ≡ document_html reading options bytes)
-IsPage reading options bytes limit Page.NoDocument = IsDocument bytes → ⊥
-IsPage reading options bytes limit Page.BeyondLimit = IsDocument bytes × IsBeyond limit (document_brought reading options bytes)
+abbrev pub IsPage : ParseOptions → Extensions → HtmlOptions → List ℕ → Option ℕ → Page → Type 0
+IsPage reading extensions options bytes limit (Page.Html html) =
+    IsDocument bytes × (IsBeyond limit (document_brought reading extensions options bytes) → ⊥) × (html.items ≡ document_html reading extensions options bytes)
+IsPage reading extensions options bytes limit Page.NoDocument = IsDocument bytes → ⊥
+IsPage reading extensions options bytes limit Page.BeyondLimit = IsDocument bytes × IsBeyond limit (document_brought reading extensions options bytes)

@@ -1,13 +1,14 @@
 //! Code (CommonMark 4.4 and 4.5).
 
-ghost use Rattle.std.specs.Prelude.{◌≡◌, ◌≤◌, ◌<◌, ◌++◌, ℕ, OnOk, IfOk, take, drop, length, slice_index, codes, true, false, []};
+ghost use Rattle.std.specs.Prelude.{◌≡◌, ◌≤◌, ◌<◌, ◌++◌, ℕ, OnOk, IfOk, take, drop, length, slice_index, codes, true, false, [], ◌==◌, if◌then◌else◌};
+ghost use Rattle.std.specs.Str.{byte};
 ghost use Rattle.std.specs.Char.{is_ascii_whitespace};
 ghost use Rattle.markdown_content.specs.Codes.{codes_of};
 ghost use Rattle.markdown_content.specs.Content.{piece_codes};
 ghost use Rattle.markdown_html_model.specs.Escaped.{escaped};
 ghost use Rattle.markdown_html_model.specs.Resolved.{resolved};
 ghost use Rattle.markdown_page_model.specs.PageTexts.{filled, first_word, text_of};
-ghost use Rattle.markdown_page_model.specs.PageHtml.{code_html, language_class};
+ghost use Rattle.markdown_page_model.specs.PageHtml.{code_html, fenced_html, language_class};
 ghost use Rattle.markdown_page.specs.CodeLines.{lines_in};
 ghost use Rattle.markdown_page.specs.GivenPage.{bytes_of, page_of};
 
@@ -15,6 +16,7 @@ use crate::given::Given;
 use crate::lines::{push_lines, push_piece_text};
 use crate::lists::is_blank_piece;
 use crate::tags::push_ending;
+use markdown_block_line::starts::Fence;
 use markdown_content::parser::Piece;
 use markdown_html_model::escape::push_escaped;
 use markdown_html_model::resolve::{decoding_of, push_resolved};
@@ -145,16 +147,27 @@ fn info_text(alloc: Global, given: &Given, info: Piece) -> Result<Vec<u8>, Alloc
     Ok(resolved)
 }
 
+// The class of fenced code behind `language-`: the first word of its info string, or that of math, which is fenced with dollars.
+fn language<'a>(fence: Fence, info: &'a [u8]) -> &'a [u8]
+    ensures { result.now ≡ (if fence.value == byte "$" then codes "math math-display" else first_word info.now) }
+{
+    if fence.value == b'$' {
+        return b"math math-display";
+    }
+    first_word(info)
+}
+
 // Appends fenced code.
 pub(crate) fn push_fenced(
     alloc: Global,
     given: &Given,
     out: &mut Vec<u8>,
+    fence: Fence,
     info: Piece,
     lines: &[Piece],
 ) -> Result<(), AllocError>
-    ensures { let g = given.now in OnOk result (out.new.items ≡ out.old.items ++ code_html (page_of g) (first_word (resolved (page_of g).decoding (text_of (piece_codes (codes_of (bytes_of g)) info)))) (lines_in (bytes_of g) lines.now)) }
+    ensures { let g = given.now in OnOk result (out.new.items ≡ out.old.items ++ fenced_html (page_of g) fence.value (first_word (resolved (page_of g).decoding (text_of (piece_codes (codes_of (bytes_of g)) info)))) (lines_in (bytes_of g) lines.now)) }
 {
     let info = info_text(alloc, given, info)?;
-    push_code(given, out, first_word(info.as_slice()), lines)
+    push_code(given, out, language(fence, info.as_slice()), lines)
 }

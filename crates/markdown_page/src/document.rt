@@ -1,16 +1,10 @@
 //! The HTML of a document (CommonMark 0.31.2).
 
-ghost use Rattle.std.specs.Prelude.{◌≡◌, ◌≤◌, ◌==◌, if◌then◌else◌, None, All, IsUtf8, false, true, length, IfOk, IfSome, MatchOption};
+ghost use Rattle.std.specs.Prelude.{◌≡◌, ◌≤◌, ◌==◌, if◌then◌else◌, None, false, true, length, IfOk, IfSome, MatchOption};
 ghost use Rattle.markdown_content.specs.Content.{document_limit};
 ghost use Rattle.markdown_content.specs.KnownPlaces.{IsDocument};
-ghost use Rattle.markdown_block_model.specs.BlockTree.{no_extensions};
-ghost use Rattle.markdown_block_model.specs.LinkDefinitions.{definitions, document_tree};
-ghost use Rattle.markdown_block_definitions.specs.DefinitionTexts.{HasUtf8Texts};
-ghost use Rattle.markdown_block_definitions.specs.ResolvedRows.{IsTextRow};
-ghost use Rattle.markdown_blocks.specs.BlockRows.{tree_of};
-ghost use Rattle.markdown_blocks.specs.NestedRows.{AreNested};
+ghost use Rattle.markdown_block_line.specs.LineBlocks.{extensions_of};
 ghost use Rattle.markdown_page.specs.DocumentBrought.{IsPage, HoldsOfHtml};
-ghost use Rattle.markdown_page.specs.DefinitionStrings.{AreTextsOf};
 ghost use Rattle.markdown_page_model.specs.PageHtml.{document_html};
 ghost use Rattle.markdown_page_model.specs.PageMarkup.{IsOwnPage};
 
@@ -18,8 +12,9 @@ use crate::definitions::{identifiers, targets};
 use crate::limit::Stop;
 use crate::lists::places;
 use crate::page::page_html;
-use markdown_block_definitions::document::{self, read};
+use markdown_block_definitions::document::read;
 use markdown_block_definitions::front::Definition;
+use markdown_block_line::extensions::Extensions;
 use markdown_content::configuration::ParseOptions;
 use markdown_content::content::DOCUMENT_LIMIT;
 use markdown_content::parser::ParseState;
@@ -47,24 +42,19 @@ fn limit_with(definitions: &[Definition], limit: Option<usize>) -> Option<usize>
     if definitions.is_empty() { None } else { limit }
 }
 
-// The HTML of a document of which this was read, if definitions bring no more to it than the limit, where there is one.
-#[tactic(auto, using(crate::proofs::NothingBrought::beyond_with, crate::proofs::NothingBrought::within_with))]
+// The HTML of a document, if definitions bring no more to it than the limit, where there is one.
 fn html_of(
     alloc: Global,
     bytes: &[u8],
-    found: &document::Document,
+    extensions: Extensions,
     reading: &ParseOptions,
     options: HtmlOptions,
     limit: Option<usize>,
 ) -> Result<Page, AllocError>
     requires fits { length bytes.now ≤ document_limit }
-    requires tree { tree_of bytes.now found.now.blocks ≡ document_tree no_extensions bytes.now }
-    requires definitions { AreTextsOf found.now.definitions.items (definitions no_extensions bytes.now) }
-    requires utf8 { IsUtf8 bytes.now → All HasUtf8Texts found.now.definitions.items }
-    requires texts { IsUtf8 bytes.now → All (IsTextRow bytes.now) found.now.blocks.rows.items }
-    requires nested { AreNested 0 found.now.blocks.rows.items }
-    ensures { IfOk result (IsPage reading.now options bytes.now limit) }
+    ensures { IfOk result (IsPage reading.now (extensions_of extensions) options bytes.now limit) }
 {
+    let found = read(alloc, extensions, bytes)?;
     let definitions = found.definitions.as_slice();
     let parse_state = ParseState {
         bytes,
@@ -89,7 +79,7 @@ fn html_of(
 
 /// Returns the HTML of a Markdown document, if definitions bring no more to it than a limit. None is no limit.
 ///
-/// `reading` and `options` are as in `to_html`.
+/// `extensions`, `reading` and `options` are as in `to_html`.
 ///
 /// A definition brings the bytes of its destination and of its title to each link and image that refers to it, so n references to one definition of n bytes
 /// bring n * n bytes. Where all definitions together bring more than the limit, nothing is written of the text that goes beyond it, or of what stands behind.
@@ -98,11 +88,12 @@ fn html_of(
 pub fn to_html_within(
     alloc: Global,
     bytes: &[u8],
+    extensions: Extensions,
     reading: &ParseOptions,
     options: HtmlOptions,
     limit: Option<usize>,
 ) -> Result<Page, AllocError>
-    ensures exact { IfOk result (IsPage reading.now options bytes.now limit) }
+    ensures exact { IfOk result (IsPage reading.now (extensions_of extensions) options bytes.now limit) }
     ensures own { options.raw_html ≡ false → IfOk result (HoldsOfHtml (IsOwnPage true)) }
     ensures safe { options.raw_html ≡ false → options.any_link ≡ false → IfOk result (HoldsOfHtml (IsOwnPage false)) }
 {
@@ -112,14 +103,14 @@ pub fn to_html_within(
     // so no text becomes markup, and no link leads to a script
     no_markup_from_document();
     no_script_from_document();
-    let found = read(alloc, bytes)?;
-    html_of(alloc, bytes, &found, reading, options, limit)
+    html_of(alloc, bytes, extensions, reading, options, limit)
 }
 
 /// Returns the HTML of a Markdown document: of its blocks, and of the text inside them. There is none exactly where the bytes are not UTF-8, or are more than
 /// `usize::MAX / 8`.
 ///
-/// `reading` are the options of the inline layer, any of them; `ParseOptions { commonmark: true, ..ParseOptions::default() }` is CommonMark. With
+/// `extensions` are the blocks that are read beside CommonMark's. Front matter is left out of the HTML; code fenced with dollars has the classes `language-math` and
+/// `math-display`. `reading` are the options of the inline layer, any of them; `ParseOptions { commonmark: true, ..ParseOptions::default() }` is CommonMark. With
 /// `gfm_task_list_item` a paragraph that is the first block of a list item may begin with a checkbox. Documents have no footnote definitions, so with
 /// `gfm_label_start_footnote` no footnote is called.
 ///
@@ -131,15 +122,16 @@ pub fn to_html_within(
 pub fn to_html(
     alloc: Global,
     bytes: &[u8],
+    extensions: Extensions,
     reading: &ParseOptions,
     options: HtmlOptions,
 ) -> Result<Option<Vec<u8>>, AllocError>
     ensures exact { IfOk result (λ page. MatchOption page (IsDocument bytes.now → ⊥)
-        (λ html. IsDocument bytes.now × (html.items ≡ document_html reading.now options bytes.now))) }
+        (λ html. IsDocument bytes.now × (html.items ≡ document_html reading.now (extensions_of extensions) options bytes.now))) }
     ensures own { options.raw_html ≡ false → IfOk result (λ page. IfSome page (λ html. IsOwnPage true html.items)) }
     ensures safe { options.raw_html ≡ false → options.any_link ≡ false → IfOk result (λ page. IfSome page (λ html. IsOwnPage false html.items)) }
 {
-    match to_html_within(alloc, bytes, reading, options, None)? {
+    match to_html_within(alloc, bytes, extensions, reading, options, None)? {
         Page::Html(html) => Ok(Some(html)),
         // nothing goes beyond no limit
         Page::NoDocument | Page::BeyondLimit => Ok(None),

@@ -109,10 +109,11 @@ fn push_block(
         ),
         Leaf::Paragraph(text) => push_paragraph(alloc, given, out, left, is_first, text.as_slice()),
         Leaf::IndentedCode(lines) => Ok(push_indented(given, out, lines.as_slice())?),
-        Leaf::FencedCode(_, info, lines, _) => {
-            Ok(push_fenced(alloc, given, out, *info, lines.as_slice())?)
+        Leaf::FencedCode(fence, info, lines, _) => {
+            Ok(push_fenced(alloc, given, out, *fence, *info, lines.as_slice())?)
         }
         Leaf::Html(_, text, _) => Ok(push_html(given, out, text.as_slice())?),
+        Leaf::FrontMatter(_) => Ok(()),
     }
 }
 

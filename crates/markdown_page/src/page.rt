@@ -2,15 +2,13 @@
 
 ghost use Rattle.std.specs.Prelude.{◌≡◌, [], All, IfErr, IfOk, map, string_bytes};
 ghost use Rattle.markdown_block_definitions.specs.ResolvedRows.{IsTextRow};
-ghost use Rattle.markdown_block_model.specs.BlockTree.{no_extensions};
 ghost use Rattle.markdown_block_model.specs.BlockTree as model;
-ghost use Rattle.markdown_block_model.specs.LinkDefinitions.{definitions, document_tree, identifier};
 ghost use Rattle.markdown_blocks.specs.BlockRows.{rows_from};
 ghost use Rattle.markdown_blocks.specs.NestedRows.{AreNested};
-ghost use Rattle.markdown_html_model.specs.Resolved.{decoding_of};
-ghost use Rattle.markdown_page_model.specs.PageHtml.{defined_by, document_html};
+ghost use Rattle.markdown_page_model.specs.PageHtml.{document_html};
 ghost use Rattle.markdown_page.specs.DocumentBrought.{IsBeyond, document_brought};
 ghost use Rattle.markdown_page.specs.BroughtSoFar.{IsStop};
+ghost use Rattle.markdown_page.specs.GivenPage.{IsReadBy};
 ghost use Rattle.markdown_page.specs.ListPlaces.{places_in};
 
 use crate::given::Given;
@@ -34,16 +32,16 @@ pub(crate) fn page_html(
     places: &[Place],
     limit: Option<usize>,
 ) -> Result<Vec<u8>, Stop>
-    requires names { map string_bytes document.now.definitions.items ≡ map identifier (definitions no_extensions document.now.bytes.now) }
     requires footnotes { map string_bytes document.now.gfm_footnote_definitions.items ≡ [] }
-    requires targets { targets.now ≡ map (defined_by (decoding_of document.now.options.now)) (definitions no_extensions document.now.bytes.now) }
     requires nested { AreNested 0 rows.now }
     requires texts { All (IsTextRow document.now.bytes.now) rows.now }
     requires places { places.now ≡ places_in None (rows_from document.now.bytes.now model.nothing rows.now) }
-    requires tree { rows_from document.now.bytes.now model.nothing rows.now ≡ document_tree no_extensions document.now.bytes.now }
-    ensures html { IfOk result (λ html. html.items ≡ document_html document.now.options.now options document.now.bytes.now) }
-    ensures within { IfOk result (λ _. IsBeyond limit (document_brought document.now.options.now options document.now.bytes.now) → ⊥) }
-    ensures stop { IfErr result (IsStop limit (document_brought document.now.options.now options document.now.bytes.now)) }
+    ensures html { (x : model.Extensions) → IsReadBy x document.now targets.now rows.now
+        → IfOk result (λ html. html.items ≡ document_html document.now.options.now x options document.now.bytes.now) }
+    ensures within { (x : model.Extensions) → IsReadBy x document.now targets.now rows.now
+        → IfOk result (λ _. IsBeyond limit (document_brought document.now.options.now x options document.now.bytes.now) → ⊥) }
+    ensures stop { (x : model.Extensions) → IsReadBy x document.now targets.now rows.now
+        → IfErr result (IsStop limit (document_brought document.now.options.now x options document.now.bytes.now)) }
 {
     let given = Given {
         document,

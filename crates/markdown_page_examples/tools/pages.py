@@ -6,8 +6,8 @@ Run it in the crate's folder, and `rt fmt` after it. A row of tools/choices.txt 
     [lf|crlf|safe] [option ..] «document»: «HTML»
 
 Without a word the HTML is written as in the standard: HTML stays HTML, links lead anywhere, and line endings are kept. With `lf` or `crlf` each line ending
-is of that kind. With `safe` HTML is text, and links lead to listed schemes. Texts are read by CommonMark, changed by the options that are named: each is a
-definition of specs/PageNotation.antt, such as `tasks`.
+is of that kind. With `safe` HTML is text, and links lead to listed schemes. The document is read by CommonMark, changed by the options that are named: each is
+a definition of specs/PageNotation.antt, such as `tasks`.
 
 The documents of tools/standard.txt are those of markdown_block_examples: the n-th line is the HTML of its n-th row. How a text is written, the head of
 blocks.py there says. A line '== Name' begins a group of rows, and a line that begins with `#` is no row.
@@ -25,10 +25,9 @@ from examples import imports
 FILES = {'StandardPages': ('standard.txt', 'standard_pages', 'The HTML of the examples of CommonMark'),
          'ChosenPages': ('choices.txt', 'chosen_pages', "What CommonMark's examples do not show of HTML")}
 # What an option is called in rows.
-OPTIONS = ['strikethrough', 'two_tildes', 'bare_urls', 'tasks', 'math', 'two_dollars', 'calls', 'crate_rules']
+OPTIONS = ['strikethrough', 'two_tildes', 'bare_urls', 'tasks', 'math', 'two_dollars', 'front_matter', 'calls', 'crate_rules']
 USES = [('Rattle.std.specs.Prelude', ['◌≡◌', '[]', '◌∷◌', 'codes']),
-        ('Rattle.markdown_page_model.specs.PageHtml', ['commonmark']),
-        ('Rattle.markdown_page_examples.specs.PageNotation', ['page_answer', 'page_by', 'lf_answer', 'crlf_answer', 'safe_answer', 'safe_by', *OPTIONS])]
+        ('Rattle.markdown_page_examples.specs.PageNotation', ['standard', 'page_answer', 'page_by', 'lf_answer', 'lf_by', 'crlf_answer', 'crlf_by', 'safe_answer', 'safe_by', *OPTIONS])]
 HEAD = '''# The HTML of the examples of the CommonMark Spec %s by John MacFarlane, under CC BY-SA 4.0 (LICENSE-EXAMPLES). The n-th line is the HTML of example n, whose
 # document is the n-th row of standard.txt in markdown_block_examples. tools/pages.py writes it from the specification's text.
 '''
@@ -87,10 +86,10 @@ def read(row):
 
 def statement(row):
     words, document, html = ROW.fullmatch(row).groups()
-    written, options = [word for word in words.split() if word not in OPTIONS], 'commonmark'
+    written, options = [word for word in words.split() if word not in OPTIONS], 'standard'
     for option in reversed([word for word in words.split() if word in OPTIONS]):
         options = '(%s %s)' % (option, options)
-    how = '_answer' if options == 'commonmark' else '_by ' + options
+    how = '_answer' if options == 'standard' else '_by ' + options
     return '%s%s %s ≡ %s' % (''.join(written) or 'page', how, bytes_of('«%s»' % document), bytes_of('«%s»' % html))
 
 

@@ -1,6 +1,7 @@
 -- The HTML of a tree of blocks is the writer's own markup.
-use Rattle.std.proofs.Common.{◌≡◌, ◌∙◌, sym, ap, refl, subst, ℕ, decimal, Bool, true, false, ◌&&◌, if◌then◌else◌, List, [], ◌∷◌, ◌++◌, append-nil, append_assoc, arith, codes, None, Some}
+use Rattle.std.proofs.Common.{◌≡◌, ◌∙◌, sym, ap, refl, subst, ℕ, decimal, Bool, true, false, ◌&&◌, ◌==◌, if◌then◌else◌, List, [], ◌∷◌, ◌++◌, append-nil, append_assoc, arith, codes, None, Some}
 use Rattle.std.proofs.lemmas.List.Folds.{list_all-append}
+use Rattle.std.specs.Str.{byte}
 use Rattle.markdown_content.specs.Codes.{Code}
 use Rattle.markdown_content.specs.declared.configuration.ParseOptions.{ParseOptions}
 use Rattle.markdown_model.specs.InlineTree.{text_tree}
@@ -14,7 +15,7 @@ use Rattle.markdown_html_model.specs.declared.options.LineEnds.{LineEnds}
 use Rattle.markdown_html_model.specs.declared.role.Within.{Within}
 use Rattle.markdown_html_model.proofs.HtmlIsOwn.{html-is-own, html-is-safe}
 use Rattle.markdown_html_model.proofs.NoMarkup.{escaped_quiet}
-use Rattle.markdown_block_model.specs.BlockTree.{no_extensions, Marker, bullet, ordered, quote, item, footnote, Leaf, blank, thematic_break, heading, underlined, paragraph, indented_code, fenced_code, html, table, front_matter, Tree, nothing, and_leaf, and_container}
+use Rattle.markdown_block_model.specs.BlockTree.{Extensions, Marker, bullet, ordered, quote, item, footnote, Leaf, blank, thematic_break, heading, underlined, paragraph, indented_code, fenced_code, html, table, front_matter, Tree, nothing, and_leaf, and_container}
 use Rattle.markdown_block_model.specs.LineRests.{lines_of}
 use Rattle.markdown_block_model.specs.LinkDefinitions.{document_tree}
 use Rattle.markdown_block_model.specs.LooseLists.{are_alike, goes_on_list}
@@ -73,7 +74,7 @@ own-leaf any s p b (heading level text) g = own-on_line any p _ (own-text-elemen
 own-leaf any s p b (underlined level text) g = own-on_line any p _ (own-text-element any (markup.heading level) _ g (b.1 s text))
 own-leaf any s p b (paragraph text) g = own-on_line any p _ (own-text-element any markup.paragraph _ tt (b.1 s text))
 own-leaf any s p b (indented_code ls) g = own-code any p [] (filled ls)
-own-leaf any s p b (fenced_code f info ls ended) g = own-code any p (first_word (resolved p.decoding (text_of info))) ls
+own-leaf any s p b (fenced_code f info ls ended) g = own-code any p (if f.value == byte "$" then codes "math math-display" else first_word (resolved p.decoding (text_of info))) ls
 own-leaf any s p b (html kind text ended) g = own-quiet any _ (quiet-lines p (raw_html p Within.Outside) (λ text. quiet-raw p.options.raw_html text b.0) (lines_of text))
 own-leaf any s p b (table columns rows) g = own-nothing any
 own-leaf any s p b (front_matter ls) g = own-nothing any
@@ -187,15 +188,15 @@ own-tree any s p b (and_container before (item m columns) inside) g holder =
     let own = λ (loose : Bool). own-item any s p holder m loose before (tree_html s p (item_of loose) None inside) (own-tree any s p b before g.0 holder) (own-tree any s p b inside g.1 (item_of loose)).0 in
     (own-ended any p _ m (own (is_of_loose_list None m t)), λ next. own-followed any p _ m next.marker (are_alike next.marker m) refl (own (is_of_loose_list (Some next) m t)))
 
-pub document-is-own : (reading : ParseOptions) (options : HtmlOptions) (bytes : List ℕ) → options.raw_html ≡ false → IsOwnPage true (document_html reading options bytes)
+pub document-is-own : (reading : ParseOptions) (extensions : Extensions) (options : HtmlOptions) (bytes : List ℕ) → options.raw_html ≡ false → IsOwnPage true (document_html reading extensions options bytes)
 unfolding document_html
-document-is-own reading options bytes off =
-    let p = page_of reading options bytes in
-    (own-tree true (setting_of reading bytes) p (off, λ s text. html-is-own (page_of_content text p) [] (text_tree s text) off) (document_tree no_extensions bytes) (document-levels bytes) no_item).0
+document-is-own reading extensions options bytes off =
+    let p = page_of reading extensions options bytes in
+    (own-tree true (setting_of reading extensions bytes) p (off, λ s text. html-is-own (page_of_content text p) [] (text_tree s text) off) (document_tree extensions bytes) (document-levels extensions bytes) no_item).0
 
-pub document-is-safe : (reading : ParseOptions) (options : HtmlOptions) (bytes : List ℕ) → options.raw_html ≡ false → options.any_link ≡ false
-    → IsOwnPage false (document_html reading options bytes)
+pub document-is-safe : (reading : ParseOptions) (extensions : Extensions) (options : HtmlOptions) (bytes : List ℕ) → options.raw_html ≡ false → options.any_link ≡ false
+    → IsOwnPage false (document_html reading extensions options bytes)
 unfolding document_html
-document-is-safe reading options bytes off safe =
-    let p = page_of reading options bytes in
-    (own-tree false (setting_of reading bytes) p (off, λ s text. html-is-safe (page_of_content text p) [] (text_tree s text) off safe) (document_tree no_extensions bytes) (document-levels bytes) no_item).0
+document-is-safe reading extensions options bytes off safe =
+    let p = page_of reading extensions options bytes in
+    (own-tree false (setting_of reading extensions bytes) p (off, λ s text. html-is-safe (page_of_content text p) [] (text_tree s text) off safe) (document_tree extensions bytes) (document-levels extensions bytes) no_item).0

@@ -1,6 +1,7 @@
 -- The HTML of a document (CommonMark 0.31.2, sections 4 and 5), over its tree of blocks. Each block begins a line and ends it, but for paragraphs in items
 -- of a tight list.
 use Rattle.std.specs.Prelude.{ℕ, Bool, true, false, ◌==◌, ◌&&◌, List, [], ◌∷◌, ◌++◌, codes, decimal, map, Option, Some, None, option_map, if◌then◌else◌}
+use Rattle.std.specs.Str.{byte}
 use Rattle.markdown_content.specs.Codes.{Code}
 use Rattle.markdown_content.specs.CommonMark.{rules_of}
 use Rattle.markdown_content.specs.DefaultOptions.{default_options}
@@ -14,7 +15,7 @@ use Rattle.markdown_html_model.specs.Html.{Defined, Page, page_of_content, raw_h
 use Rattle.markdown_html_model.specs.declared.options.HtmlOptions.{HtmlOptions}
 use Rattle.markdown_html_model.specs.declared.role.Within.{Within}
 use Rattle.markdown_block_model.specs.LineRests.{lines_of}
-use Rattle.markdown_block_model.specs.BlockTree.{no_extensions, Marker, bullet, ordered, quote, item, footnote, Leaf, blank, thematic_break, heading, underlined, paragraph, indented_code, fenced_code, html, table, front_matter, Tree, nothing, and_leaf, and_container}
+use Rattle.markdown_block_model.specs.BlockTree.{Extensions, Marker, bullet, ordered, quote, item, footnote, Leaf, blank, thematic_break, heading, underlined, paragraph, indented_code, fenced_code, html, table, front_matter, Tree, nothing, and_leaf, and_container}
 use Rattle.markdown_block_model.specs.LinkDefinitions.{Definition, definitions, document_tree, identifier}
 use Rattle.markdown_block_model.specs.LooseLists.{are_alike, goes_on_list, is_loose}
 use Rattle.markdown_page_model.specs.PageTexts.{text_of, own_ending, lines_html, filled, first_word}
@@ -42,7 +43,11 @@ language_class (b ∷ bs) = codes " class=\"language-" ++ escaped (b ∷ bs) ++ 
 abbrev pub code_html : Page → List ℕ → List (List Code) → List ℕ
 code_html p language ls = on_line p (codes "<pre><code" ++ language_class language ++ codes ">" ++ lines_html p escaped ls ++ codes "</code></pre>")
 
--- a table and front matter, which the tree of a document without extensions has not, are left out
+-- fenced code, or math, whose fence is of dollars: no language is named for it
+abbrev pub fenced_html : Page → ℕ → List ℕ → List (List Code) → List ℕ
+fenced_html p value language ls = code_html p (if value == byte "$" then codes "math math-display" else language) ls
+
+-- front matter is left out, and a table, which the tree of a document without this extension has not
 abbrev pub leaf_html : Setting → Page → Leaf → List ℕ
 leaf_html s p blank = []
 leaf_html s p thematic_break = on_line p (codes "<hr />")
@@ -50,7 +55,7 @@ leaf_html s p (heading level text) = heading_html p level (text_html s p text)
 leaf_html s p (underlined level text) = heading_html p level (text_html s p text)
 leaf_html s p (paragraph text) = on_line p (codes "<p>" ++ text_html s p text ++ codes "</p>")
 leaf_html s p (indented_code ls) = code_html p [] (filled ls)
-leaf_html s p (fenced_code f info ls ended) = code_html p (first_word (resolved p.decoding (text_of info))) ls
+leaf_html s p (fenced_code f info ls ended) = fenced_html p f.value (first_word (resolved p.decoding (text_of info))) ls
 leaf_html s p (html kind text ended) = lines_html p (raw_html p Within.Outside) (lines_of text)
 leaf_html s p (table columns rows) = []
 leaf_html s p (front_matter ls) = []
@@ -160,7 +165,7 @@ behind_item p next m = if goes_on next m then [] else on_line p (list_closing m)
 abbrev pub item_html : Page → List ℕ → List ℕ
 item_html p inside = on_line p (codes "<li>" ++ inside ++ codes "</li>")
 
--- siblings in this holder, before this item if one is next; a footnote definition, which the tree of a document without extensions has not, is its blocks
+-- siblings in this holder, before this item if one is next; a footnote definition, which the tree of a document without this extension has not, is its blocks
 abbrev pub tree_html : Setting → Page → Holder → Option NextItem → Tree → List ℕ
 tree_html s p holder next nothing = []
 tree_html s p holder next (and_leaf before blank) = tree_html s p holder next before
@@ -185,28 +190,28 @@ defined_by how d = record { identifier = identifier d; destination = resolved ho
 
 -- What is beside the inline tree of each text, with these options of the inline layer: of several definitions with one identifier the first counts. There are
 -- no footnote definitions.
-abbrev pub setting_of : ParseOptions → List ℕ → Setting
-setting_of reading bytes = record {
+abbrev pub setting_of : ParseOptions → Extensions → List ℕ → Setting
+setting_of reading extensions bytes = record {
   bytes = bytes;
   options = reading;
   references = references_of reading;
-  definitions = map identifier (definitions no_extensions bytes);
+  definitions = map identifier (definitions extensions bytes);
   footnotes = [];
   first_of_item = false;
   content = [];
 }
 
-abbrev pub page_of : ParseOptions → HtmlOptions → List ℕ → Page
-page_of reading options bytes = record {
+abbrev pub page_of : ParseOptions → Extensions → HtmlOptions → List ℕ → Page
+page_of reading extensions options bytes = record {
   bytes = bytes;
   content = [];
   rules = rules_of reading;
   footnotes_on = reading.constructs.gfm_label_start_footnote;
   decoding = decoding_of reading;
-  definitions = map (defined_by (decoding_of reading)) (definitions no_extensions bytes);
+  definitions = map (defined_by (decoding_of reading)) (definitions extensions bytes);
   options = options;
 }
 
--- the HTML of a document whose texts are read with these options
-unfoldable pub document_html : ParseOptions → HtmlOptions → List ℕ → List ℕ
-document_html reading options bytes = tree_html (setting_of reading bytes) (page_of reading options bytes) no_item None (document_tree no_extensions bytes)
+-- the HTML of a document whose texts are read with these options, and its blocks with these extensions
+unfoldable pub document_html : ParseOptions → Extensions → HtmlOptions → List ℕ → List ℕ
+document_html reading extensions options bytes = tree_html (setting_of reading extensions bytes) (page_of reading extensions options bytes) no_item None (document_tree extensions bytes)

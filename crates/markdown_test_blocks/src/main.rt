@@ -2,7 +2,7 @@
 //!
 //! In a document `|` stands for a line feed, and `~` for a tab. In a line of answer a paragraph is `p`, a heading that an underline made `h`, and a
 //! thematic break `b`. Behind the first two stand the link reference definitions at the front, each as `[label]<destination>(title)`, and how many pieces
-//! the text has in the document without its definitions. HTML is `m`, with how many pieces it has. An item is `-` in a tight list and `=` in a loose one. Before it stands `{` where it begins the
+//! the text has in the document without its definitions. HTML is `m`, and front matter `f`, with how many pieces it has. An item is `-` in a tight list and `=` in a loose one. Before it stands `{` where it begins the
 //! list, and behind it `}` where it ends the list. Before each of these stands the last digit of the number of the line on which it begins.
 //!
 //! Where memory is refused, the answers end there, and the status is 3.
@@ -11,12 +11,19 @@
 use markdown_block_definitions::document;
 use markdown_block_definitions::front::{Definition, definitions_at_front};
 use markdown_block_line::containers::Container;
+use markdown_block_line::extensions::Extensions;
 use markdown_blocks::block::{Leaf, Row};
 use markdown_content::parser::Piece;
 use markdown_page::lists::{Place, places};
 use std::alloc::{AllocError, Global};
 use std::io::{Read, Write};
 use std::process::ExitCode;
+
+// What is read beside CommonMark's blocks: all that the reader knows.
+const EXTENSIONS: Extensions = Extensions {
+    math: true,
+    front_matter: true,
+};
 
 // Appends a text between two marks, with its line feeds and tabs as in a document of the input.
 fn push_text(out: &mut Vec<u8>, open: u8, text: &[u8], close: u8) -> Result<(), AllocError> {
@@ -49,8 +56,11 @@ fn push_digit(out: &mut Vec<u8>, number: usize) -> Result<(), AllocError> {
 // Appends the line of a leaf that is printed.
 fn push_line(out: &mut Vec<u8>, leaf: &Leaf, line: usize) -> Result<(), AllocError> {
     match leaf {
-        Leaf::Paragraph(_) | Leaf::Underlined(_, _) | Leaf::ThematicBreak | Leaf::Html(_, _, _) =>
-            push_digit(out, line),
+        Leaf::Paragraph(_)
+        | Leaf::Underlined(_, _)
+        | Leaf::ThematicBreak
+        | Leaf::Html(_, _, _)
+        | Leaf::FrontMatter(_) => push_digit(out, line),
         _ => Ok(()),
     }
 }
@@ -90,6 +100,10 @@ fn push_leaf(
         (Leaf::Html(_, text, _), _) => {
             out.push(b'm')?;
             push_digit(out, text.len())?;
+        }
+        (Leaf::FrontMatter(lines), _) => {
+            out.push(b'f')?;
+            push_digit(out, lines.len())?;
         }
         _ => {}
     }
@@ -134,8 +148,8 @@ fn push_row(
 // Appends the answer to a document.
 fn push_answer(alloc: Global, out: &mut Vec<u8>, document: &[u8]) -> Result<(), AllocError> {
     if document.len() <= usize::MAX / 8 {
-        let blocks = document::blocks(alloc, document)?;
-        let resolved = document::read(alloc, document)?.blocks;
+        let blocks = document::blocks(alloc, EXTENSIONS, document)?;
+        let resolved = document::read(alloc, EXTENSIONS, document)?.blocks;
         let places = places(alloc, document, resolved.rows.as_slice())?;
         let lines = resolved.lines.iter();
         for (((row, left), place), line) in blocks

@@ -27,7 +27,8 @@ Constructs beside CommonMark's
     --strikethrough  ~~a~~ and ~a~ are struck through
     --bare-urls      URLs and email addresses are links without < and > too
     --tasks          [ ] and [x] that begin a list item are checkboxes
-    --math           $a$ and $$a$$ are math
+    --math           $a$ and $$a$$ are math, and so are lines between two lines of $$
+    --front-matter   lines between two lines of --- or of +++ at the start of a file are left out
 
 HTML
     --raw         HTML of the file stays HTML; otherwise it is escaped

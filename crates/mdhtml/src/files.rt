@@ -18,7 +18,14 @@ const BYTE_ORDER_MARK: &[u8] = b"\xEF\xBB\xBF";
 fn html_of(alloc: Global, bytes: &[u8], task: &Task) -> Result<Vec<u8>, Fault> {
     let text = bytes.strip_prefix(BYTE_ORDER_MARK).unwrap_or(bytes);
     let limit = task.limit(text);
-    match to_html_within(alloc, text, &task.reading, task.html, Some(limit))? {
+    match to_html_within(
+        alloc,
+        text,
+        task.extensions,
+        &task.reading,
+        task.html,
+        Some(limit),
+    )? {
         Page::Html(html) => Ok(html),
         Page::NoDocument => Err(fault::not_text(bytes)),
         Page::BeyondLimit => Err(Fault::Limit(limit)),

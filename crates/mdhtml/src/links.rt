@@ -235,7 +235,7 @@ pub(crate) fn print(alloc: Global, bytes: &[u8], task: &Task, lines: Lines) -> R
     if bytes.len() > DOCUMENT_LIMIT {
         return Err(fault::not_text(bytes));
     }
-    let found = read(alloc, bytes)?;
+    let found = read(alloc, task.extensions, bytes)?;
     let definitions = found.definitions.as_slice();
     let names = identifiers(alloc, definitions)?;
     let known = numbered(alloc, names.as_slice())?;

@@ -1,5 +1,6 @@
 //! What is printed of each file.
 
+use markdown_block_line::extensions::Extensions;
 use markdown_content::configuration::{COMMONMARK, ParseOptions};
 use markdown_html_model::options::{HtmlOptions, LineEnds};
 
@@ -22,6 +23,8 @@ pub(crate) struct Task {
     pub(crate) output: Output,
     /// Whether links are printed as JSON.
     pub(crate) is_json: bool,
+    /// Which blocks are read beside CommonMark's.
+    pub(crate) extensions: Extensions,
     /// Which constructs a text may have.
     pub(crate) reading: ParseOptions,
     /// How HTML is written.
@@ -36,6 +39,7 @@ impl Task {
         Task {
             output: Output::Html,
             is_json: false,
+            extensions: Extensions::NONE,
             reading: ParseOptions {
                 constructs: COMMONMARK,
                 commonmark: true,
@@ -44,6 +48,12 @@ impl Task {
             html: HtmlOptions::safe(),
             is_limited: true,
         }
+    }
+
+    // Asks for math in texts, and for blocks of it.
+    fn set_math(&mut self) {
+        self.reading.constructs.math_text = true;
+        self.extensions.math = true;
     }
 
     /// Sets an option, and returns whether it is known.
@@ -55,7 +65,8 @@ impl Task {
             "--strikethrough" => self.reading.constructs.gfm_strikethrough = true,
             "--bare-urls" => self.reading.constructs.gfm_autolink_literal = true,
             "--tasks" => self.reading.constructs.gfm_task_list_item = true,
-            "--math" => self.reading.constructs.math_text = true,
+            "--math" => self.set_math(),
+            "--front-matter" => self.extensions.front_matter = true,
             "--raw" => self.html.raw_html = true,
             "--any-link" => self.html.any_link = true,
             "--lf" => self.html.line_ends = LineEnds::Lf,

@@ -2,7 +2,7 @@
 use Rattle.std.proofs.Common.{refl}
 use Rattle.markdown_page_examples.proofs.PageComputed.{page_computed}
 use Rattle.markdown_page_examples.specs.ChosenPages.{LineFeeds, ListTags, CodeTexts, HtmlTexts, PageDefinitions, PageMarks, PageRules, LineEndings, SafePages, StandardChoices}
-use Rattle.markdown_page_examples.specs.ChosenPages.{PageStrikethrough, PageBareUrls, PageTasks, PageMath, PagesOfTheCrate, PageCalls, AllOptions}
+use Rattle.markdown_page_examples.specs.ChosenPages.{PageStrikethrough, PageBareUrls, PageTasks, PageMath, PageMathFences, PageFrontMatter, PagesOfTheCrate, PageCalls, AllOptions}
 use Rattle.markdown_page_examples.proofs.chosen_pages.Goals as goal
 
 line_feeds : LineFeeds
@@ -61,6 +61,14 @@ page_math : PageMath
 unfolding page_computed
 page_math = (refl, refl, refl, refl)
 
+page_math_fences : PageMathFences
+unfolding page_computed
+page_math_fences = (refl, refl, refl, refl, refl, refl, refl, refl, refl, refl, refl, refl, refl, refl, refl, refl, refl, refl, refl, refl, refl, refl, refl)
+
+page_front_matter : PageFrontMatter
+unfolding page_computed
+page_front_matter = (refl, refl, refl, refl, refl, refl, refl, refl, refl, refl, refl, refl, refl, refl, refl, refl, refl, refl, refl, refl, refl, refl, refl, refl, refl)
+
 pages_of_the_crate : PagesOfTheCrate
 unfolding page_computed
 pages_of_the_crate = (refl, refl, refl, refl)
@@ -74,4 +82,4 @@ unfolding page_computed
 all_options = (refl)
 
 pub returns : goal.returns
-returns c = (line_feeds, list_tags, code_texts, html_texts, page_definitions, page_marks, page_rules, line_endings, safe_pages, standard_choices, page_strikethrough, page_bare_urls, page_tasks, page_math, pages_of_the_crate, page_calls, all_options)
+returns c = (line_feeds, list_tags, code_texts, html_texts, page_definitions, page_marks, page_rules, line_endings, safe_pages, standard_choices, page_strikethrough, page_bare_urls, page_tasks, page_math, page_math_fences, page_front_matter, pages_of_the_crate, page_calls, all_options)

@@ -12,14 +12,14 @@ use Rattle.markdown_block_line.proofs.begins.begun_at.Goals as goal
 
 pub returns-then-columns-eq4-clause-found : goal.returns-then-columns-eq4-clause-found
 returns-then-columns-eq4-clause-found c = λ cs h.
-    begun-code c.args.in_paragraph c.args.after_text cs c.indent_to-columns.result (c.indent_to-columns.ensures.count cs h) c.if-columns-eq4.true c.if-after_text.false
+    begun-code c.args.extensions c.args.in_paragraph c.args.after_text cs c.indent_to-columns.result (c.indent_to-columns.ensures.count cs h) c.if-columns-eq4.true c.if-after_text.false
     (sym (c.is_blank_line.ensures cs h) ∙ c.if-is_blank_line.false)
 
 pub returns-in-Some-heading_at-clause-found : goal.returns-in-Some-heading_at-clause-found
 returns-in-Some-heading_at-clause-found c = λ cs h.
     let k = c.indent_to-columns.result in
     let s = c.in-Some-heading_at.heading in
-    begun-first c.args.in_paragraph c.args.after_text cs k _ _ _ _ _ _ (c.indent_to-columns.ensures.count cs h) c.if-columns-eq4.false (c.in_default.ensures.found cs h)
+    begun-first c.args.extensions c.args.in_paragraph c.args.after_text cs k _ _ _ _ _ _ (c.indent_to-columns.ensures.count cs h) c.if-columns-eq4.false (c.in_default.ensures.found cs h)
     (c.in-Some-heading_at.ensures.found (drop k cs) (rest-values k cs c.args.line.now h)) refl refl refl refl
     ∙ ap (λ (r : List Code). Some (leaf_begins (heading s.level (take s.len r)))) (drop-drop s.start k cs)
 
@@ -28,7 +28,7 @@ returns-in-Some-fence_at-clause-found c = λ cs h.
     let k = c.indent_to-columns.result in
     let s = c.in-Some-fence_at.fence in
     let r = rest-values k cs c.args.line.now h in
-    begun-first c.args.in_paragraph c.args.after_text cs k _ _ _ _ _ _ (c.indent_to-columns.ensures.count cs h) c.if-columns-eq4.false (c.in_default.ensures.found cs h)
+    begun-first c.args.extensions c.args.in_paragraph c.args.after_text cs k _ _ _ _ _ _ (c.indent_to-columns.ensures.count cs h) c.if-columns-eq4.false (c.in_default.ensures.found cs h)
     (c.in_default-heading_at.ensures.found (drop k cs) r) (c.in-Some-fence_at.ensures.found (drop k cs) r) refl refl refl
     ∙ ap (λ (r : List Code). Some (leaf_begins (fenced_code (fence_of s.fence) (take s.len r) [] false))) (drop-drop s.start k cs)
 
@@ -36,7 +36,7 @@ pub returns-in-Some-html_at-clause-found : goal.returns-in-Some-html_at-clause-f
 returns-in-Some-html_at-clause-found c = λ cs h.
     let k = c.indent_to-columns.result in
     let r = rest-values k cs c.args.line.now h in
-    begun-first c.args.in_paragraph c.args.after_text cs k _ _ _ _ _ _ (c.indent_to-columns.ensures.count cs h) c.if-columns-eq4.false (c.in_default.ensures.found cs h)
+    begun-first c.args.extensions c.args.in_paragraph c.args.after_text cs k _ _ _ _ _ _ (c.indent_to-columns.ensures.count cs h) c.if-columns-eq4.false (c.in_default.ensures.found cs h)
     (c.in_default-heading_at.ensures.found (drop k cs) r) (c.in_default-fence_at.ensures.found (drop k cs) r) (c.in-Some-html_at.ensures cs h) refl refl
 
 pub returns-then-contains-clause-found : goal.returns-then-contains-clause-found
@@ -44,7 +44,7 @@ returns-then-contains-clause-found c = λ cs h.
     let k = c.indent_to-columns.result in
     let r = rest-values k cs c.args.line.now h in
     let l = sym (values-length (drop k cs)) ∙ ap length r in
-    begun-first c.args.in_paragraph c.args.after_text cs k _ _ _ _ _ _ (c.indent_to-columns.ensures.count cs h) c.if-columns-eq4.false (c.in_default.ensures.found cs h)
+    begun-first c.args.extensions c.args.in_paragraph c.args.after_text cs k _ _ _ _ _ _ (c.indent_to-columns.ensures.count cs h) c.if-columns-eq4.false (c.in_default.ensures.found cs h)
     (c.in_default-heading_at.ensures.found (drop k cs) r) (c.in_default-fence_at.ensures.found (drop k cs) r) (c.in_default-html_at.ensures cs h)
     (c.requires cs k h ∙ ap (is_between c.args.breaks.least c.args.breaks.most) l ∙ sym c.contains.ensures ∙ c.if-contains.true) refl
 
@@ -56,7 +56,7 @@ returns-in_default-item_at-clause-found c = λ cs h.
     let k = c.indent_to-columns.result in
     let r = rest-values k cs c.args.line.now h in
     let l = sym (values-length (drop k cs)) ∙ ap length r in
-    begun-first c.args.in_paragraph c.args.after_text cs k _ _ _ _ _ _ (c.indent_to-columns.ensures.count cs h) c.if-columns-eq4.false (c.in_default.ensures.found cs h)
+    begun-first c.args.extensions c.args.in_paragraph c.args.after_text cs k _ _ _ _ _ _ (c.indent_to-columns.ensures.count cs h) c.if-columns-eq4.false (c.in_default.ensures.found cs h)
     (c.in_default-heading_at.ensures.found (drop k cs) r) (c.in_default-fence_at.ensures.found (drop k cs) r) (c.in_default-html_at.ensures cs h)
     (c.requires cs k h ∙ ap (is_between c.args.breaks.least c.args.breaks.most) l ∙ sym c.contains.ensures ∙ c.if-contains.false) (c.in_default-item_at.ensures.found (drop k cs) r)
 
@@ -66,7 +66,7 @@ returns-clause-found c = λ cs h.
     let s = c.in-Some-item_at.item in
     let r = rest-values k cs c.args.line.now h in
     let l = sym (values-length (drop k cs)) ∙ ap length r in
-    begun-first c.args.in_paragraph c.args.after_text cs k _ _ _ _ _ _ (c.indent_to-columns.ensures.count cs h) c.if-columns-eq4.false (c.in_default.ensures.found cs h)
+    begun-first c.args.extensions c.args.in_paragraph c.args.after_text cs k _ _ _ _ _ _ (c.indent_to-columns.ensures.count cs h) c.if-columns-eq4.false (c.in_default.ensures.found cs h)
     (c.in_default-heading_at.ensures.found (drop k cs) r) (c.in_default-fence_at.ensures.found (drop k cs) r) (c.in_default-html_at.ensures cs h)
     (c.requires cs k h ∙ ap (is_between c.args.breaks.least c.args.breaks.most) l ∙ sym c.contains.ensures ∙ c.if-contains.false) (c.in-Some-item_at.ensures.found (drop k cs) r)
     ∙ ap (λ (d : List Code). Some (container_begins (item (marker_of s.marker) s.columns) d)) (drop-drop s.outside k cs)

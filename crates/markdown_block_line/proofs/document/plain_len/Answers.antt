@@ -1,4 +1,4 @@
-use Rattle.std.proofs.Common.{◌≤◌, ◌-◌, length, arith}
+use Rattle.std.proofs.Common.{◌-◌, length, arith}
 use Rattle.std.proofs.Math.Nat.{min-le_right}
 use Rattle.markdown_content.proofs.DocumentPlaces.{stands-point}
 use Rattle.markdown_block_line.proofs.document.plain_len.Goals as goal

@@ -1,32 +1,15 @@
-use Rattle.std.proofs.Common.{◌≡◌, ◌∙◌, ap, refl, sym, None, ℕ, suc, ◌+◌, ◌-◌, List, ◌++◌, length, length-append, append_assoc, append-nil, replicate, arith}
+use Rattle.std.proofs.Common.{◌≡◌, ◌∙◌, ap, sym, ℕ, suc, ◌+◌, ◌-◌, List, ◌++◌, length, length-append, append_assoc, append-nil, replicate, arith}
 use Rattle.std.proofs.lemmas.List.{length-replicate}
-use Rattle.std.proofs.lemmas.List.Elements.{All-nil}
-use Rattle.markdown_blocks.specs.declared.reader.Reader.{Reader}
 use Rattle.markdown_block_model.specs.BlockTree.{nothing}
 use Rattle.markdown_block_model.specs.BlockLines.{block_count}
 use Rattle.markdown_blocks.specs.BlockRows.{whole_tree}
 use Rattle.markdown_blocks.specs.LinesLeft.{begins_on}
 use Rattle.markdown_blocks.proofs.ReaderCounts.{count-rows, count-read}
-use Rattle.markdown_blocks.specs.TextRows.{IsPlacedRow}
-use Rattle.markdown_blocks.proofs.DocumentTrees.{read-none, read-all, begins-none, begins-all, start-between, start-tree}
+use Rattle.markdown_blocks.proofs.DocumentTrees.{read-all, begins-all}
 use Rattle.markdown_blocks.proofs.document.blocks.Goals as goal
 
 pub loop-point-init : goal.loop-point-init
-loop-point-init g c =
-    let bytes = c.args.bytes.now in
-    let r : Reader = record { rows = c.new.result; path = c.new-2.result; «open» = None } in
-    let p = c.text_start-point.result in
-    let start = c.text_start-point.ensures in
-    record {
-      is_point = start.is_point;
-      between = start-between bytes r c.new.ensures.items c.new-2.ensures;
-      characters = start.between;
-      texts = (rw c.new.ensures.items (All-nil (IsPlacedRow bytes), tt), tt);
-      same = read-none g.T.HasText.has_text bytes r p start.codes (start-tree bytes r c.new.ensures.items refl);
-      begins = rw c.new-lines.ensures.items (begins-none g.T.HasText.has_text bytes r p start.codes (start-tree bytes r c.new.ensures.items refl));
-      lined = rw c.new-lines.ensures.items (sym (ap block_count (start-tree bytes r c.new.ensures.items refl)));
-      numbered = omega arith;
-    }
+loop-point-init g c = c.in_ok-reader.ensures g.T.HasText.has_text
 
 pub loop-point-preserved : goal.loop-point-preserved
 loop-point-preserved g c =
@@ -48,9 +31,9 @@ loop-point-preserved g c =
       texts = stop.ensures.texts;
       same = stop.ensures.same ∙ l.invariant.same;
       begins =
-          ap (λ (ls : List ℕ). ls ++ begins_on has_text (l.number + 1) bytes r stop.point) noted
-          ∙ append_assoc l.lines.items (replicate (after - before) l.number) (begins_on has_text (l.number + 1) bytes r stop.point)
-          ∙ ap (λ n. l.lines.items ++ (replicate (after - before) l.number ++ begins_on has_text n bytes r stop.point)) (sym next)
+          ap (λ (ls : List ℕ). ls ++ begins_on c.args.extensions has_text (l.number + 1) bytes r stop.point) noted
+          ∙ append_assoc l.lines.items (replicate (after - before) l.number) (begins_on c.args.extensions has_text (l.number + 1) bytes r stop.point)
+          ∙ ap (λ n. l.lines.items ++ (replicate (after - before) l.number ++ begins_on c.args.extensions has_text n bytes r stop.point)) (sym next)
           ∙ ap (λ ls. l.lines.items ++ ls) (sym (stop.ensures.begins l.number))
           ∙ l.invariant.begins;
       lined =
@@ -63,7 +46,7 @@ pub returns-clause-tree : goal.returns-clause-tree
 returns-clause-tree g c =
     let bytes = c.args.bytes.now in
     let l = c.loop-point in
-    c.in_ok-put_open.ensures.tree bytes ∙ sym (read-all g.T.HasText.has_text bytes l.reader l.point l.invariant.is_point c.loop-point-test.false) ∙ l.invariant.same
+    c.in_ok-put_open.ensures.tree bytes ∙ sym (read-all c.args.extensions g.T.HasText.has_text bytes l.reader l.point l.invariant.is_point c.loop-point-test.false) ∙ l.invariant.same
 
 pub returns-clause-texts : goal.returns-clause-texts
 returns-clause-texts g c = (c.in_ok-put_open.ensures.texts c.args.bytes.now c.loop-point.point c.loop-point.invariant.between c.loop-point.invariant.texts).0
@@ -75,7 +58,7 @@ pub returns-clause-begins : goal.returns-clause-begins
 returns-clause-begins g c =
     let l = c.loop-point in
     sym (append-nil l.lines.items)
-    ∙ ap (λ ls. l.lines.items ++ ls) (sym (begins-all g.T.HasText.has_text l.number c.args.bytes.now l.reader l.point l.invariant.is_point c.loop-point-test.false))
+    ∙ ap (λ ls. l.lines.items ++ ls) (sym (begins-all c.args.extensions g.T.HasText.has_text l.number c.args.bytes.now l.reader l.point l.invariant.is_point c.loop-point-test.false))
     ∙ l.invariant.begins
 
 pub returns-clause-lined : goal.returns-clause-lined

@@ -8,7 +8,7 @@ returns-in_ok-begin_rest-in-Some-clause-tree c =
     let bytes = c.args.rest.now.bytes in
     let codes = c.args.rest.now.codes in
     let begun = rw c.in-Some.is at c.in_ok-begin.ensures.begun in
-    all-container bytes (drop c.in-Some.outside codes) c.args.reader.now c.begin.new.reader c.begin_rest.new.reader (begun_of codes c.args.begun) begun.2 (rw c.behind.ensures at c.in_ok-begin_rest-in-Some.ensures.tree)
+    all-container c.args.rest.now.extensions bytes (drop c.in-Some.outside codes) c.args.reader.now c.begin.new.reader c.begin_rest.new.reader (begun_of codes c.args.begun) begun.2 (rw c.behind.ensures at c.in_ok-begin_rest-in-Some.ensures.tree)
 
 pub behind-requires-clause-outer : goal.behind-requires-clause-outer
 behind-requires-clause-outer c = rw c.in-Some.is at c.in_ok-begin.ensures.outer

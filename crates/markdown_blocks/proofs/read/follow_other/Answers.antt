@@ -7,7 +7,7 @@ pub returns-in_ok-stand-in-Without-clause-tree : goal.returns-in_ok-stand-in-Wit
 returns-in_ok-stand-in-Without-clause-tree c =
     let bytes = c.args.rest.now.bytes in
     let g = rw c.in-Without.is at c.in_ok-leaf.ensures.next in
-    c.in_ok-stand-in-Without.ensures.tree ∙ next-none bytes _ c.args.reader.now c.put_leaf.new.reader c.args.leaf c.in-Without.leaf g.0 g.1 c.put_leaf.ensures.path (c.in_ok-put_leaf-in-Without.ensures.tree bytes)
+    c.in_ok-stand-in-Without.ensures.tree ∙ next-none c.args.rest.now.extensions bytes _ c.args.reader.now c.put_leaf.new.reader c.args.leaf c.in-Without.leaf g.0 g.1 c.put_leaf.ensures.path (c.in_ok-put_leaf-in-Without.ensures.tree bytes)
 
 pub returns-in-WithLine-clause-texts : goal.returns-in-WithLine-clause-texts
 returns-in-WithLine-clause-texts c = rw c.open_leaf.ensures (c.requires.texts, rw c.in-WithLine.is at c.in_ok-leaf.ensures.text)

@@ -13,7 +13,7 @@ use Rattle.markdown_blocks.proofs.read.follow_text.Goals as goal
 pub returns-then-is_blank-clause-tree : goal.returns-then-is_blank-clause-tree
 returns-then-is_blank-clause-tree g c =
     let bytes = c.args.rest.now.bytes in
-    rw c.open_leaf.ensures (text-blank g.T.HasText.has_text bytes c.args.rest.now.codes (content_of bytes c.args.text.items) c.args.reader.now c.put_leaf.new.reader (sym c.is_blank.ensures ∙ c.if-is_blank.true)
+    rw c.open_leaf.ensures (text-blank c.args.rest.now.extensions g.T.HasText.has_text bytes c.args.rest.now.codes (content_of bytes c.args.text.items) c.args.reader.now c.put_leaf.new.reader (sym c.is_blank.ensures ∙ c.if-is_blank.true)
     c.put_leaf.ensures.path (c.in_ok-put_leaf.ensures.tree bytes))
 
 pub returns-in_ok-push-in-None-clause-tree : goal.returns-in_ok-push-in-None-clause-tree
@@ -21,7 +21,7 @@ returns-in_ok-push-in-None-clause-tree g c =
     let bytes = c.args.rest.now.bytes in
     let codes = c.args.rest.now.codes in
     let none : heading_level g.T.HasText.has_text codes (content_of bytes c.args.text.items) ≡ None = rw (sym c.deref.ensures.value) (sym c.in_ok-heading.ensures ∙ c.in_default.is) in
-    rw c.open_leaf-in-None.ensures (text-longer g.T.HasText.has_text bytes codes (content_of bytes c.args.text.items) c.args.reader.now (Paragraph c.push.new.self) (sym c.is_blank.ensures ∙ c.if-is_blank.false) none c.in-None.ensures.found
+    rw c.open_leaf-in-None.ensures (text-longer c.args.rest.now.extensions g.T.HasText.has_text bytes codes (content_of bytes c.args.text.items) c.args.reader.now (Paragraph c.push.new.self) (sym c.is_blank.ensures ∙ c.if-is_blank.false) none c.in-None.ensures.found
     (ap (λ (cs : List Code). paragraph cs) (text-more bytes _ _ _ _ c.in_ok-push-in-None.ensures.items (trimmed-is codes _ c.trimmed_piece.ensures.codes))))
 
 pub returns-in_ok-begin_all-in-Some-begun-clause-tree : goal.returns-in_ok-begin_all-in-Some-begun-clause-tree
@@ -29,7 +29,7 @@ returns-in_ok-begin_all-in-Some-begun-clause-tree g c =
     let bytes = c.args.rest.now.bytes in
     let codes = c.args.rest.now.codes in
     let none : heading_level g.T.HasText.has_text codes (content_of bytes c.args.text.items) ≡ None = rw (sym c.deref.ensures.value) (sym c.in_ok-heading.ensures ∙ c.in_default.is) in
-    text-begun g.T.HasText.has_text bytes codes (content_of bytes c.args.text.items) c.args.reader.now c.put_leaf-in-Some-begun.new.reader c.begin_all.new.reader (begun_of codes c.in-Some-begun.begun)
+    text-begun c.args.rest.now.extensions g.T.HasText.has_text bytes codes (content_of bytes c.args.text.items) c.args.reader.now c.put_leaf-in-Some-begun.new.reader c.begin_all.new.reader (begun_of codes c.in-Some-begun.begun)
     (sym c.is_blank.ensures ∙ c.if-is_blank.false) none c.in-Some-begun.ensures.found c.put_leaf-in-Some-begun.ensures.path (c.in_ok-put_leaf-in-Some-begun.ensures.tree bytes) c.in_ok-begin_all-in-Some-begun.ensures.tree
 
 pub begin_all-requires-clause-is : goal.begin_all-requires-clause-is

@@ -21,10 +21,11 @@ loop-depth-preserved c =
     record {
       within = omega arith;
       same_bytes = rw c.behind-inner-in-Some.ensures c.loop-depth.invariant.same_bytes;
+      same_extensions = rw c.behind-inner-in-Some.ensures c.loop-depth.invariant.same_extensions;
       same_start = rw c.behind-inner-in-Some.ensures c.loop-depth.invariant.same_start;
       tree = λ (has_text : List Code → Bool).
-          let leapt = rw c.loop-depth.invariant.same_bytes at (c.leap-depth.ensures.same has_text) in
-          rw c.behind-inner-in-Some.ensures (c.loop-depth.invariant.tree has_text ∙ leapt ∙ rw add-one (walk-step has_text n (whole_tree bytes r) r.path _ _ (whole-front bytes r c.requires) k x));
+          let leapt = rw (c.loop-depth.invariant.same_bytes, c.loop-depth.invariant.same_extensions) at (c.leap-depth.ensures.same has_text) in
+          rw c.behind-inner-in-Some.ensures (c.loop-depth.invariant.tree has_text ∙ leapt ∙ rw add-one (walk-step c.args.rest.now.extensions has_text n (whole_tree bytes r) r.path _ _ (whole-front bytes r c.requires) k x));
     }
 
 pub returns-in-None-clause-stops : goal.returns-in-None-clause-stops
@@ -39,7 +40,7 @@ returns-in-None-clause-stops c =
 
 pub returns-in-None-clause-tree : goal.returns-in-None-clause-tree
 returns-in-None-clause-tree c = λ (has_text : List Code → Bool).
-    let leapt = rw c.loop-depth.invariant.same_bytes at (c.leap-depth.ensures.same has_text) in
+    let leapt = rw (c.loop-depth.invariant.same_bytes, c.loop-depth.invariant.same_extensions) at (c.leap-depth.ensures.same has_text) in
     c.loop-depth.invariant.tree has_text ∙ leapt
 
 pub behind-inner-requires-in-Some-clause-outer : goal.behind-inner-requires-in-Some-clause-outer

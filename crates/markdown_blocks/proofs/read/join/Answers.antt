@@ -11,7 +11,7 @@ returns-in_ok-leaf-in-Some-clause-tree c =
     rw c.open_leaf.ensures (joined-some c.args.rest.now.bytes c.args.reader.now _ _ c.args.rest.now.codes c.requires.between (sym c.in-Some.ensures.value) c.in_ok-leaf-in-Some.ensures.leaf)
 
 pub longer-requires-clause-filled : goal.longer-requires-clause-filled
-longer-requires-clause-filled c = lazy-filled c.args.rest.now.codes (whole_tree c.args.rest.now.bytes c.args.reader.now) c.requires.lazy
+longer-requires-clause-filled c = lazy-filled c.args.rest.now.extensions c.args.rest.now.codes (whole_tree c.args.rest.now.bytes c.args.reader.now) c.requires.lazy
 
 pub longer-requires-clause-is_text : goal.longer-requires-clause-is_text
-longer-requires-clause-is_text c = lazy-text c.args.rest.now.bytes c.args.reader.now c.in-Some.leaf c.args.rest.now.codes c.requires.between (sym c.in-Some.ensures.value) c.requires.lazy
+longer-requires-clause-is_text c = lazy-text c.args.rest.now.extensions c.args.rest.now.bytes c.args.reader.now c.in-Some.leaf c.args.rest.now.codes c.requires.between (sym c.in-Some.ensures.value) c.requires.lazy

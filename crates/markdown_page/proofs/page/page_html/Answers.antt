@@ -12,16 +12,16 @@ if-ok-more (Ok x) P Q f h = f x h
 if-ok-more (Err e) P Q f h = tt
 
 pub returns-clause-html : goal.returns-clause-html
-returns-clause-html c = if-ok-more c.write.result _ _
-    (λ html h. same-html c.args.document.now c.args.targets.now c.args.options (rows_from c.args.document.now.bytes.now model.nothing c.args.rows.now) html.items c.requires.names c.requires.footnotes c.requires.targets c.requires.tree h)
+returns-clause-html c = λ x is. if-ok-more c.write.result _ _
+    (λ html h. same-html x c.args.document.now c.args.targets.now c.args.options (rows_from c.args.document.now.bytes.now model.nothing c.args.rows.now) html.items is.names c.requires.footnotes is.defined is.tree h)
     c.write.ensures.html
 
 pub returns-clause-within : goal.returns-clause-within
-returns-clause-within c =
-    let same = same-brought c.args.document.now c.args.targets.now c.args.options (rows_from c.args.document.now.bytes.now model.nothing c.args.rows.now) c.requires.names c.requires.footnotes c.requires.targets c.requires.tree in
+returns-clause-within c = λ x is.
+    let same = same-brought x c.args.document.now c.args.targets.now c.args.options (rows_from c.args.document.now.bytes.now model.nothing c.args.rows.now) is.names c.requires.footnotes is.defined is.tree in
     subst (λ (n : ℕ). IfOk c.write.result (λ _. IsBeyond c.args.limit n → ⊥)) same c.write.ensures.within
 
 pub returns-clause-stop : goal.returns-clause-stop
-returns-clause-stop c =
-    let same = same-brought c.args.document.now c.args.targets.now c.args.options (rows_from c.args.document.now.bytes.now model.nothing c.args.rows.now) c.requires.names c.requires.footnotes c.requires.targets c.requires.tree in
+returns-clause-stop c = λ x is.
+    let same = same-brought x c.args.document.now c.args.targets.now c.args.options (rows_from c.args.document.now.bytes.now model.nothing c.args.rows.now) is.names c.requires.footnotes is.defined is.tree in
     subst (λ (n : ℕ). IfErr c.write.result (IsStop c.args.limit n)) same c.write.ensures.stop

@@ -6,7 +6,6 @@ use Rattle.markdown_page.specs.BroughtSoFar.{IsStop}
 use Rattle.markdown_page.specs.GivenPage.{page_of, bytes_of, setting_of}
 use Rattle.markdown_page.specs.ListPlaces.{no_place}
 use Rattle.markdown_page.specs.PlacedTree.{nothing}
-use Rattle.markdown_page.specs.declared.limit.Stop.{Stop}
 use Rattle.markdown_page.proofs.BroughtRows.{spent_nothing}
 use Rattle.markdown_page.proofs.PlacedRows.{count-places, rows-html}
 use Rattle.markdown_page.proofs.WriterSteps.{here, item-here, row-within, reached-more, reached-stop, all-within, all-written, stopped-by}

@@ -28,4 +28,4 @@ invariant_of-result c =
 pub returns : goal.returns
 returns c =
     let line = line_from c.self.inside.document.now c.self.inside.start in
-    rw (← c.self.view_is) (ap (λ (cs : List Code). let r : LineRest = record { bytes = c.self.inside.document.now; start = c.self.inside.start; codes = cs } in r) (sym (drop-drop c.args.count c.self.inside.at line)))
+    rw (← c.self.view_is) (ap (λ (cs : List Code). let r : LineRest = record { extensions = c.self.inside.extensions; bytes = c.self.inside.document.now; start = c.self.inside.start; codes = cs } in r) (sym (drop-drop c.args.count c.self.inside.at line)))
