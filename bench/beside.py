@@ -11,9 +11,7 @@ import runs
 SIZES = [(200_000, '200k', '200 KB'), (2_000_000, '2m', '2 MB')]
 # With --check.
 SMALL_SIZES = [(2_000, '200k', '2 KB'), (4_000, '2m', '4 KB')]
-RICH, PLAIN = 'rich drawn prose', 'plain drawn prose'
-# What is said of less and of more, and of what.
-LESS_TIME, FEWER_INSTRUCTIONS = ('less', 'more', 'time'), ('fewer', 'more', 'instructions')
+RICH, PLAIN = 'rich random prose', 'plain random prose'
 # A run that takes more seconds than these by itself has no figure, and over one that takes more than the second no instructions are counted.
 SLOWEST, SLOW = 10, 2
 
@@ -72,7 +70,7 @@ def cut(paragraphs, size):
 
 
 def texts(corpus, seed, sizes):
-    """All texts: real text where there is any, and the drawn prose, each at each size."""
+    """All texts: real text where there is any, and the random prose, each at each size."""
     found = []
     for size, word, name in sizes:
         found += corpus.texts(size, word, name)
@@ -125,7 +123,7 @@ class Side:
         return rows
 
     def time_table(self):
-        head = ['Text', 'Size', self.names[0] + ', ns a byte'] + ['%s, ratio' % name for name in self.names[1:]]
+        head = ['Text', 'Size', self.names[0] + ', ns per byte'] + ['%s, ratio' % name for name in self.names[1:]]
         rows = []
         for text, row, (_, ratios) in zip(self.texts, self.rows, self.ratios()):
             first = row[0].time
@@ -133,7 +131,7 @@ class Side:
         return head, rows
 
     def table(self, of, form):
-        """A table of one figure a byte of the text."""
+        """A table of one figure per byte of the text."""
         return ['Text', 'Size'] + self.names, [[text.name, text.size] + [shown(of(it) and of(it) / text.bytes, form) for it in row]
                                                 for text, row in zip(self.texts, self.rows)]
 
@@ -164,24 +162,20 @@ def listed(words):
     return ' and '.join([', '.join(words[:-1])] * bool(words[:-1]) + words[-1:])
 
 
-def verdict(side, of, words, size):
-    """A sentence for each other program: over which texts of a size it needs less of what is measured than ours, and over which more."""
-    ours, sentences = 'the library' if side.names[0] == 'library' else '`%s`' % side.names[0], []
+def fewer_instructions(side, size):
+    """A sentence for each other program: over which texts of a size it takes fewer instructions than the library, and over which more."""
+    sentences = []
     for number, name in list(enumerate(side.names))[side.ours():]:
-        less, more = [], []
+        fewer, more = [], []
         for text, row in zip(side.texts, side.rows):
-            mine, other = of(row[0]), of(row[number])
-            if text.size == size and mine and other:
-                (less if other < mine else more).append('%s (%.2f)' % (text.name, other / mine))
-        said = [(word, listed(some)) for word, some in zip(words, (less, more)) if some]
+            ours, other = row[0].instructions, row[number].instructions
+            if text.size == size and ours and other:
+                (fewer if other < ours else more).append('%s (%.2f)' % (text.name, other / ours))
+        said = [(word, listed(some)) for word, some in (('fewer', fewer), ('more', more)) if some]
         if said:
-            first = '- %s takes %s %s than %s over %s' % (name, said[0][0], words[2], ours, said[0][1])
+            first = '- %s takes %s instructions than the library over %s' % (name, *said[0])
             sentences.append(first + ''.join(', but %s over %s' % pair for pair in said[1:]) + '.')
     return '\n'.join(sentences)
-
-
-def best_of(figures):
-    return figures.time and figures.time.best
 
 
 def instructions_of(figures):

@@ -4,7 +4,7 @@
 usage: calls.py REPEATS [html] < CONTENTS"""
 import sys
 
-from markdown_inline import Content, htmls, text
+from markdown_inline.inline import Content, htmls, text
 
 document = sys.stdin.read().rstrip('\n')
 contents = document.split('\n\n')

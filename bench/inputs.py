@@ -257,7 +257,7 @@ def code(part):
     return '`` %s ``' % part if '`' in part else '`%s`' % part
 
 
-# An opening that stands again and again, and the one end behind all of them.
+# An opening that is repeated, and the one end after all of them.
 ONE_END = [
     ('[', ']'), ('[a', '](b)'), ('![', ']'), ('![a', '](b)'), ('[^', ']'), ('[a](', ')'), ('[a](<', '>)'), ('[a](b "', '")'), ('[a][', ']'),
     ('*a ', '*'), ('a **b ', '**'), ('_a ', '_'), ('~a ', '~'), ('` ``a ', '`'), ('$ $$a ', '$'),
@@ -292,17 +292,17 @@ PATTERNS = [
         ('`<a@b.c`', again('<a@b.c')),
         ('`<ab:`', again('<ab:')),
         ('`<!--`', again('<!--')),
-        ('`<!--`, and one `-->` behind', around('', '<!--', '-->')),
+        ('`<!--`, then one `-->`', around('', '<!--', '-->')),
         ('`<!---`', again('<!---')),
-        ('`<!---`, and one `-->` behind', around('', '<!---', '-->')),
+        ('`<!---`, then one `-->`', around('', '<!---', '-->')),
         ('`<!--` and a line ending', around('a', '\n<!--', '')),
-        ('`<!--` and a line ending, and one `-->` behind', around('a', '\n<!--', '-->')),
+        ('`<!--` and a line ending, then one `-->`', around('a', '\n<!--', '-->')),
         ('`<?`', again('<?')),
-        ('`<?`, and one `?>` behind', around('', '<?', '?>')),
+        ('`<?`, then one `?>`', around('', '<?', '?>')),
         ('`<!a`', again('<!a')),
-        ('`<!a`, and one `>` behind', around('', '<!a', '>')),
+        ('`<!a`, then one `>`', around('', '<!a', '>')),
         ('`<![CDATA[`', again('<![CDATA[')),
-        ('`<![CDATA[`, and one `]]>` behind', around('', '<![CDATA[', ']]>')),
+        ('`<![CDATA[`, then one `]]>`', around('', '<![CDATA[', ']]>')),
         ('`<a b="`', again('<a b="')),
         ("`<a b='x' `", again("<a b='x' ")),
         ('`</a `', again('</a ')),
@@ -349,8 +349,8 @@ PATTERNS = [
         ('`[a](b "c`', again('[a](b "c')),
         ('`[a](b (c `', again('[a](b (c ')),
         ('`[a](b (c`', again('[a](b (c')),
-        ('`[a](b (c `, and one `)` behind', around('', '[a](b (c ', ')')),
-        ('`[a](b (c `, and `) x ))` behind', around('', '[a](b (c ', ') x ))')),
+        ('`[a](b (c `, then one `)`', around('', '[a](b (c ', ')')),
+        ('`[a](b (c `, then `) x ))`', around('', '[a](b (c ', ') x ))')),
         ('`[a][b`', again('[a][b')),
         ('`[a](b\\)`', again('[a](b\\)')),
         ('`[ (](`', again('[ (](')),
@@ -392,8 +392,8 @@ PATTERNS = [
         ('`a@b`, then `.b-` again and again', around('a@b', '.b-', '')),
         ('`_www.`', again('_www.')),
     ]),
-    ('one long line of openings, and at most one end behind', [
-        *[('%s, and one %s behind' % tuple(map(code, pair)), around('', *pair)) for pair in ONE_END],
+    ('one long line of openings, then at most one end', [
+        *[('%s, then one %s' % tuple(map(code, pair)), around('', *pair)) for pair in ONE_END],
         ('`:`', again(':')),
         ('`.`', again('.')),
         ('`a:`', again('a:')),
@@ -413,7 +413,7 @@ PATTERNS = [
         ('`[a](<b\\>`', again('[a](<b\\>')),
         ('`[a](b(`', again('[a](b(')),
         ('openings of all kinds', again('*[`<&_![<a b="$:~~[^www.&#\\http://a@[a](<!--')),
-        ('openings of all kinds, and `]` behind', around('', '*[<&_![<a b:~~[^www.&#http://a@', ']')),
+        ('openings of all kinds, then `]`', around('', '*[<&_![<a b:~~[^www.&#http://a@', ']')),
     ]),
 ]
 

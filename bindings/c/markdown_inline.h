@@ -285,7 +285,8 @@ enum {
     X(FENCED_CODE, "fenced_code") \
     X(HTML, "html") \
     X(QUOTE, "quote") \
-    X(ITEM, "item")
+    X(ITEM, "item") \
+    X(FRONT_MATTER, "front_matter")
 
 enum {
 #define MARKDOWN_INLINE_BLOCK(name, words) MARKDOWN_INLINE_BLOCK_##name,
@@ -293,6 +294,10 @@ enum {
 #undef MARKDOWN_INLINE_BLOCK
     MARKDOWN_INLINE_BLOCK_COUNT
 };
+
+/* Blocks that are read beside CommonMark's, each by a bit: code fenced with dollars, which is math; and front matter, the lines between two lines of `---` or
+ * of `+++` at the start of a document. */
+enum { MARKDOWN_INLINE_BLOCKS_MATH = 0x1, MARKDOWN_INLINE_BLOCKS_FRONT_MATTER = 0x2 };
 
 /* Of an item, each by a bit: it begins its list; it ends it; the list is loose, so that its paragraphs have tags in HTML (CommonMark 5.3). */
 enum { MARKDOWN_INLINE_BEGINS_LIST = 0x1, MARKDOWN_INLINE_ENDS_LIST = 0x2, MARKDOWN_INLINE_LOOSE_LIST = 0x4 };
@@ -422,6 +427,8 @@ typedef struct markdown_inline_outcome {
  * - `options` are those of an input, and 0 is MARKDOWN_INLINE_COMMONMARK. To add a construct of GitHub's, join its bit to that set. A document itself knows
  *   which text is the first of a list item, and footnotes of documents are not there yet: MARKDOWN_INLINE_OPTION_FIRST_OF_ITEM and
  *   MARKDOWN_INLINE_OPTION_GFM_LABEL_START_FOOTNOTE return UNKNOWN_OPTION, and so does MARKDOWN_INLINE_GFM, which has the latter.
+ * - `blocks` are the bits of the blocks that are read beside CommonMark's, such as MARKDOWN_INLINE_BLOCKS_MATH. Math is rendered as code whose classes are
+ *   `language-math` and `math-display`; front matter is left out.
  * - `html` is what HTML may contain and how it is written, by the bits above.
  * - `limit` is how many bytes references to definitions may expand to. Each link and each image that refers to a definition counts the bytes of its destination
  *   and of its title: n references to a definition of n bytes expand to n * n bytes. These are bytes of the text, before they are escaped: of each of them HTML
@@ -429,8 +436,7 @@ typedef struct markdown_inline_outcome {
  *
  * The other fields are reserved and have to be 0, else the call returns UNKNOWN_OPTION. */
 typedef struct markdown_inline_document_options {
-    uint32_t options, html;
-    uint32_t reserved[2];
+    uint32_t options, html, blocks, reserved;
     size_t limit;
     size_t reserved_words[13];
 } markdown_inline_document_options;
@@ -438,13 +444,13 @@ typedef struct markdown_inline_document_options {
 /* A block of a document. Its kind is one of MARKDOWN_INLINE_EACH_BLOCK. A quote or an item stands before what it holds.
  *
  * - `pieces` are the numbers of its pieces, which stand behind those of the block before. The pieces of a heading or a paragraph are a text of the document,
- *   as markdown_inline_texts takes it: none of a paragraph that had definitions alone. Those of code and of HTML are its lines, each with its line ending; of
- *   fenced code the first piece is the info string, which may be empty. Blank lines behind indented code are among its lines, and are left out of a page.
+ *   as markdown_inline_texts takes it: none of a paragraph that had definitions alone. Those of code, of HTML and of front matter are its lines, each with its line
+ *   ending; of fenced code the first piece is the info string, which may be empty. Blank lines behind indented code are among its lines, and are left out of a page.
  * - `depth` is how many quotes and items stand round it.
  * - `number` is the level of a heading, 1 to 6; the number of an item of an ordered list; the kind of HTML, 1 to 7 (CommonMark 4.6); else 0.
  * - `line` is the number of the line on which it begins, from 1: of a text that has definitions at its front, the line of the first of these; of fenced code
  *   that of its fence. It is never lower than that of the block before.
- * - `marker` is the byte of an item's marker, which is '-', '+' or '*', or '.' or ')' behind a number; of fenced code that of its fence, '`' or '~'; else 0.
+ * - `marker` is the byte of an item's marker, which is '-', '+' or '*', or '.' or ')' behind a number; of fenced code that of its fence, '`' or '~', or '$' of math; else 0.
  * - `list` has the bits MARKDOWN_INLINE_BEGINS_LIST, MARKDOWN_INLINE_ENDS_LIST and MARKDOWN_INLINE_LOOSE_LIST, of an item; else it is 0.
  *
  * A line of code or HTML may begin inside a tab: then `start_vs` of its piece is how many columns of that tab come before it, and it has the other columns as
@@ -474,7 +480,7 @@ typedef char markdown_inline_checks_sizes[sizeof(size_t) == 8 && sizeof(void *) 
     && sizeof(markdown_inline_range) == 16 && sizeof(markdown_inline_input) == 88 && sizeof(markdown_inline_event) == 56 && sizeof(markdown_inline_leaf) == 96
     && sizeof(markdown_inline_target) == 40 && sizeof(markdown_inline_content) == 24 && sizeof(markdown_inline_short_event) == 16 && sizeof(markdown_inline_outcome) == 24
     && sizeof(markdown_inline_block) == 48 && sizeof(markdown_inline_blocks_count) == 16 && sizeof(markdown_inline_definitions_count) == 16
-    && sizeof(markdown_inline_document_options) == 128 && offsetof(markdown_inline_document_options, html) == 4
+    && sizeof(markdown_inline_document_options) == 128 && offsetof(markdown_inline_document_options, blocks) == 8
     && offsetof(markdown_inline_document_options, limit) == 16 && offsetof(markdown_inline_document_options, reserved_words) == 24
     && offsetof(markdown_inline_input, options) == 80 && offsetof(markdown_inline_event, line) == 8 ? 1 : -1];
 
@@ -499,18 +505,19 @@ MARKDOWN_INLINE_API uint32_t markdown_inline_document_html(const uint8_t *bytes,
  * events of its inline tree, and from markdown_inline_htmls its HTML, if the input has the definitions that markdown_inline_definitions finds.
  * Most documents have fewer than one block and one piece in 40 bytes, and no document that is tested has more of either than twice its bytes; no bound is
  * proved. A call without room tells how many they are, and does all the work.
+ * `block_options` are those of markdown_inline_document_options, of the field `blocks`; 0 is CommonMark alone.
  * DONE: the blocks and the pieces stand at the fronts of their arrays, and `count` is how many they are. TOO_SMALL: `count` is how many they are, one of the
- * arrays has too little room, and both are as before; call again with room for them. TOO_LONG, NOT_UTF8, NO_MEMORY: nothing is written. */
-MARKDOWN_INLINE_API uint32_t markdown_inline_blocks(const uint8_t *bytes, size_t bytes_len, markdown_inline_block *blocks, size_t blocks_len,
-    markdown_inline_piece *pieces, size_t pieces_len, markdown_inline_blocks_count *count);
+ * arrays has too little room, and both are as before; call again with room for them. UNKNOWN_OPTION, TOO_LONG, NOT_UTF8, NO_MEMORY: nothing is written. */
+MARKDOWN_INLINE_API uint32_t markdown_inline_blocks(const uint8_t *bytes, size_t bytes_len, uint32_t block_options, markdown_inline_block *blocks,
+    size_t blocks_len, markdown_inline_piece *pieces, size_t pieces_len, markdown_inline_blocks_count *count);
 
 /* Finds the link reference definitions of a document, in its order, as an input with the option MARKDOWN_INLINE_COMMONMARK takes them, and the targets that
  * markdown_inline_htmls takes (CommonMark 4.7). All definitions come, also those whose label an earlier one has. The labels stand as they are written, and in
  * destinations and titles escapes and character references are resolved. Of "[a]: b\n[c]: <d&amp;> 'e'" the labels are "abcd&e".
  * DONE: labels, definitions and targets stand at the fronts of their arrays. `count` is how many definitions there are, with one target each, and how many
  * bytes stand among the labels. TOO_SMALL: `count` is that too, one of the arrays has too little room, and all are as before; call again with room for them.
- * TOO_LONG, NOT_UTF8, NO_MEMORY: nothing is written. */
-MARKDOWN_INLINE_API uint32_t markdown_inline_definitions(const uint8_t *bytes, size_t bytes_len, uint8_t *labels, size_t labels_len,
+ * UNKNOWN_OPTION, TOO_LONG, NOT_UTF8, NO_MEMORY: nothing is written. `block_options` are those of markdown_inline_blocks. */
+MARKDOWN_INLINE_API uint32_t markdown_inline_definitions(const uint8_t *bytes, size_t bytes_len, uint32_t block_options, uint8_t *labels, size_t labels_len,
     markdown_inline_range *definitions, size_t definitions_len, markdown_inline_target *targets, size_t targets_len, markdown_inline_definitions_count *count);
 
 /* Whether the pieces are a content of the document: DONE, or TOO_LONG, NOT_UTF8, NO_CONTENT or NO_MEMORY. */

@@ -17,7 +17,7 @@ function why(error, text) {
 }
 
 async function answerTo({text, options, definitions, footnotes, raw, any, most}) {
-  const calls = await library, camel = name => name.replace(/_([a-z])/g, (_, sign) => sign.toUpperCase());
+  const {inline: calls, MarkdownInlineError} = await library, camel = name => name.replace(/_([a-z])/g, (_, sign) => sign.toUpperCase());
   const bits = options.reduce((sum, it) => (sum | calls.OPTIONS[camel(it)]) >>> 0, 0), found = half(text), defined = new Map();
   if (found) {
     const code = found[0].charCodeAt(0).toString(16).toUpperCase(), line = text.slice(0, found.index).split(/\r\n|\n|\r/).length;
@@ -30,10 +30,10 @@ async function answerTo({text, options, definitions, footnotes, raw, any, most})
     const asked = {bits, definitions: defined, footnotes}, events = calls.text(text, asked);
     return {
       events: Array.from({length: Math.min(events.length, most)}, (_, at) => shown(events.at(at))), count: events.length,
-      html: calls.html(text, {...asked, rawHtml: raw, anyLink: any}),
+      html: calls.html(text, {...asked, html: raw ? 'raw' : 'escape', anyLink: any}),
     };
   } catch (error) {
-    if (!(error instanceof calls.MarkdownInlineError)) throw error;
+    if (!(error instanceof MarkdownInlineError)) throw error;
     return {why: why(error, text)};
   }
 }

@@ -142,8 +142,8 @@ static void empty(u32 from) {
 
 EXPORTED("version") u32 version(void) { return markdown_inline_version(); }
 CALL(document_html, AT(0), a[1], AT(2), AT(3), a[4], AT(5))
-CALL(blocks, AT(0), a[1], AT(2), a[3], AT(4), a[5], AT(6))
-CALL(definitions, AT(0), a[1], AT(2), a[3], AT(4), a[5], AT(6), a[7], AT(8))
+CALL(blocks, AT(0), a[1], (u32)a[2], AT(3), a[4], AT(5), a[6], AT(7))
+CALL(definitions, AT(0), a[1], (u32)a[2], AT(3), a[4], AT(5), a[6], AT(7), a[8], AT(9))
 CALL(is_content, AT(0), a[1], AT(2), a[3])
 CALL(is_text, AT(0), a[1], AT(2), a[3])
 CALL(pieces_of_lines, AT(0), a[1], AT(2), a[3], AT(4), a[5], AT(6))

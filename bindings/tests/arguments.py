@@ -5,7 +5,8 @@ import unittest
 from unittest import mock
 
 import markdown_inline
-from markdown_inline import Content, NoContent, OPTIONS, Piece, UnknownOption, _library, blocks, document_html, html, identifier, is_content, is_text, leaves, reference, string, text, texts
+from markdown_inline import NoContent, UnknownOption, _library, links as document_links, parse, render
+from markdown_inline.inline import Content, OPTIONS, Piece, html, identifier, is_content, is_text, leaves, reference, string, text, texts
 
 BITS = sum(OPTIONS[it] for it in ('attention', 'code_text'))
 
@@ -38,7 +39,7 @@ class Arguments(unittest.TestCase):
     def test_what_is_no_text(self):
         for given in (5, True, 0, None, 1.5, [97, 42], ('a',), {'a': 1}, pathlib.PurePath('*README*.md'), object(), 10 ** 10, range(2), array.array('I', [97])):
             kind = type(given).__name__
-            for call in (text, string, leaves, html, document_html, blocks, is_text, is_content, lambda it: texts(it, [])):
+            for call in (text, string, leaves, html, render, parse, is_text, is_content, lambda it: texts(it, [])):
                 self.refused(TypeError, 'document is a str or bytes, and not a ' + kind, lambda: call(given))
             self.refused(TypeError, 'label is a str or bytes, and not a ' + kind, lambda: identifier(given))
             self.refused(TypeError, 'reference is a str or bytes, and not a ' + kind, lambda: reference(given))
@@ -131,18 +132,22 @@ class Arguments(unittest.TestCase):
         self.assertEqual(text('*a*', options=0), text('*a*', options=BITS & ~1))
 
     def test_switches(self):
-        for name in ('strikethrough', 'bare_urls', 'tasks', 'math'):
+        for name in ('strikethrough', 'bare_urls', 'tasks', 'math', 'front_matter'):
             for given, error in (('yes', TypeError), (None, TypeError), (1.0, TypeError), (2, ValueError)):
-                self.refused(error, name + ' is True or False', lambda: document_html('a', **{name: given}))
-        for name in ('gfm', 'math', 'task', 'raw_html', 'any_link'):
-            calls = [html] + [blocks] * (name != 'task') + ([document_html] if name in ('raw_html', 'any_link') else [text, leaves])
+                for call in (render, parse, document_links):
+                    self.refused(error, name + ' is True or False', lambda: call('a', **{name: given}))
+        for name in ('gfm', 'math', 'task', 'any_link'):
+            calls = [html] + ([render, parse] if name == 'any_link' else [text, leaves])
             calls += [lambda it, **asked: texts(it, [], **asked)] * (name in ('gfm', 'math'))
             for call in calls:
                 for given in ('yes', None, 1.0, []):
                     self.refused(TypeError, name + ' is True or False, and not a ' + type(given).__name__, lambda: call('a', **{name: given}))
                 for given in (2, -1):
                     self.refused(ValueError, name + ' is True or False, and not another number', lambda: call('a', **{name: given}))
-        self.assertEqual(html('<b> [a](javascript:b)', raw_html=1), '<b> <a href="">a</a>')
+        self.assertEqual(html('<b> [a](javascript:b)', any_link=1), '&lt;b&gt; <a href="javascript:b">a</a>')
+        for call in (html, render, parse):
+            self.refused(TypeError, 'html is a str, and not a bool', lambda: call('a', html=True))
+            self.refused(ValueError, "html is 'escape' or 'raw', and not 'omit'", lambda: call('a', html='omit'))
         for call in (text, string, leaves, html, reference, lambda it, **asked: texts(it, [], **asked)):
             self.refused(TypeError, 'rules is a str, and not a bool', lambda: call('a', rules=True))
             self.refused(ValueError, "rules is 'commonmark' or 'crate', and not 'gfm'", lambda: call('a', rules='gfm'))

@@ -1,6 +1,6 @@
 /* Writes the HTML of documents over their blocks, as a caller does who renders a file himself: by markdown_inline_blocks, markdown_inline_definitions and
- * markdown_inline_htmls. It has to be what markdown_inline_document_html writes, with each set of options. The words are names of files; without words the
- * input is read. The status is 1 where something differs. */
+ * markdown_inline_htmls. It has to be what markdown_inline_document_html writes, with each set of options, of HTML and of blocks. The words are names of files;
+ * without words the input is read. The status is 1 where something differs. */
 #include "markdown_inline.h"
 
 #include <stdio.h>
@@ -56,7 +56,7 @@ typedef struct page {
     uint8_t *html;
     size_t *ends;
     text out;
-    uint32_t options;
+    uint32_t options, block_options;
     int in_line;
 } page;
 
@@ -69,11 +69,11 @@ static int is_done(uint32_t status) {
 
 static int read_blocks(page *page) {
     markdown_inline_input *input = &page->input;
-    uint32_t status = markdown_inline_blocks(input->bytes, input->bytes_len, NULL, 0, NULL, 0, &page->count);
+    uint32_t status = markdown_inline_blocks(input->bytes, input->bytes_len, page->block_options, NULL, 0, NULL, 0, &page->count);
     if (status != MARKDOWN_INLINE_TOO_SMALL && !is_done(status)) return 0;
     markdown_inline_piece *pieces = (markdown_inline_piece *)room(page->count.pieces, sizeof *pieces);
     page->blocks = (markdown_inline_block *)room(page->count.blocks, sizeof *page->blocks);
-    status = markdown_inline_blocks(input->bytes, input->bytes_len, page->blocks, page->count.blocks, pieces, page->count.pieces, &page->count);
+    status = markdown_inline_blocks(input->bytes, input->bytes_len, page->block_options, page->blocks, page->count.blocks, pieces, page->count.pieces, &page->count);
     input->pieces = pieces;
     input->pieces_len = page->count.pieces;
     return is_done(status);
@@ -82,12 +82,12 @@ static int read_blocks(page *page) {
 static int read_definitions(page *page) {
     markdown_inline_input *input = &page->input;
     markdown_inline_definitions_count count;
-    uint32_t status = markdown_inline_definitions(input->bytes, input->bytes_len, NULL, 0, NULL, 0, NULL, 0, &count);
+    uint32_t status = markdown_inline_definitions(input->bytes, input->bytes_len, page->block_options, NULL, 0, NULL, 0, NULL, 0, &count);
     if (status != MARKDOWN_INLINE_TOO_SMALL && !is_done(status)) return 0;
     uint8_t *labels = (uint8_t *)room(count.labels, 1);
     markdown_inline_range *definitions = (markdown_inline_range *)room(count.definitions, sizeof *definitions);
     page->targets = (markdown_inline_target *)room(count.definitions, sizeof *page->targets);
-    status = markdown_inline_definitions(input->bytes, input->bytes_len, labels, count.labels, definitions, count.definitions, page->targets, count.definitions, &count);
+    status = markdown_inline_definitions(input->bytes, input->bytes_len, page->block_options, labels, count.labels, definitions, count.definitions, page->targets, count.definitions, &count);
     input->labels = labels;
     input->labels_len = count.labels;
     input->definitions = definitions;
@@ -204,12 +204,15 @@ static void write_tag(page *page, const char *before, char level, const char *be
     say(&page->out, behind);
 }
 
-static void write_code(page *page, const markdown_inline_block *block, int is_fenced) {
+static void write_code(page *page, const markdown_inline_block *block) {
     const markdown_inline_piece *pieces = page->input.pieces;
     size_t at = block->pieces.start, end = block->pieces.end;
+    int is_fenced = block->kind == MARKDOWN_INLINE_BLOCK_FENCED_CODE;
     say(&page->out, "<pre><code");
-    if (is_fenced) write_language(page, pieces[at++]);
-    else while (end > at && is_blank(page, pieces[end - 1])) end--;
+    if (block->marker == '$') say(&page->out, " class=\"language-math math-display\"");
+    else if (is_fenced) write_language(page, pieces[at]);
+    at += is_fenced;
+    while (!is_fenced && end > at && is_blank(page, pieces[end - 1])) end--;
     say(&page->out, ">");
     for (; at < end; at++) write_line(page, pieces[at], 0);
     say(&page->out, "</code></pre>\n");
@@ -217,7 +220,7 @@ static void write_code(page *page, const markdown_inline_block *block, int is_fe
 
 static void write_leaf(page *page, const markdown_inline_block *block, const uint8_t *html, size_t len, int is_tight) {
     text *out = &page->out;
-    if (block->kind == MARKDOWN_INLINE_BLOCK_BLANK_LINE) return;
+    if (block->kind == MARKDOWN_INLINE_BLOCK_BLANK_LINE || block->kind == MARKDOWN_INLINE_BLOCK_FRONT_MATTER) return;
     if (block->kind == MARKDOWN_INLINE_BLOCK_PARAGRAPH && block->pieces.start == block->pieces.end) return;
     if (block->kind == MARKDOWN_INLINE_BLOCK_PARAGRAPH && is_tight) {
         put(out, html, len);
@@ -238,9 +241,11 @@ static void write_leaf(page *page, const markdown_inline_block *block, const uin
         say(out, "</p>\n");
         break;
     case MARKDOWN_INLINE_BLOCK_HTML: write_html(page, block); break;
-    default: write_code(page, block, block->kind == MARKDOWN_INLINE_BLOCK_FENCED_CODE);
+    default: write_code(page, block);
     }
 }
+
+static int is_container(const markdown_inline_block *block) { return block->kind == MARKDOWN_INLINE_BLOCK_QUOTE || block->kind == MARKDOWN_INLINE_BLOCK_ITEM; }
 
 static int is_ordered(const markdown_inline_block *item) { return item->marker == '.' || item->marker == ')'; }
 
@@ -277,7 +282,7 @@ static void write_blocks(page *page) {
     size_t depth = 0, texts = 0;
     for (; block < page->blocks + page->count.blocks; block++) {
         while (depth > block->depth) close_container(page, opened[--depth]);
-        if (block->kind >= MARKDOWN_INLINE_BLOCK_QUOTE) {
+        if (is_container(block)) {
             open_container(page, block);
             opened[depth++] = block;
         } else {
@@ -291,7 +296,7 @@ static void write_blocks(page *page) {
 }
 
 /* Whether the HTML over the blocks is that of the document. */
-static int is_same(const uint8_t *bytes, size_t len, uint32_t options) {
+static int is_same(const uint8_t *bytes, size_t len, uint32_t options, uint32_t block_options) {
     page page;
     text wanted = {NULL, 0, 0};
     memset(&page, 0, sizeof page);
@@ -299,19 +304,21 @@ static int is_same(const uint8_t *bytes, size_t len, uint32_t options) {
     page.input.bytes_len = len;
     page.input.options = MARKDOWN_INLINE_COMMONMARK;
     page.options = options;
+    page.block_options = block_options;
     int same = read_blocks(&page) && read_definitions(&page) && read_texts(&page);
     if (same) write_blocks(&page);
     markdown_inline_document_options asked;
     markdown_inline_outcome outcome = {0, 0, 0};
     memset(&asked, 0, sizeof asked);
     asked.html = options;
+    asked.blocks = block_options;
     asked.limit = MARKDOWN_INLINE_NONE;
     markdown_inline_document_html(bytes, len, &asked, NULL, 0, &outcome);
     wanted.len = outcome.count;
     wanted.bytes = (uint8_t *)room(wanted.len, 1);
     same = same && is_done(markdown_inline_document_html(bytes, len, &asked, wanted.bytes, wanted.len, &outcome)) && page.out.len == wanted.len
         && (wanted.len == 0 || !memcmp(page.out.bytes, wanted.bytes, wanted.len));
-    if (!same) printf("blocks: with options %u:\n%.*s---\n%.*s---\n", options, (int)page.out.len, (const char *)page.out.bytes, (int)wanted.len, (const char *)wanted.bytes);
+    if (!same) printf("blocks: with options %u, blocks %u:\n%.*s---\n%.*s---\n", options, block_options, (int)page.out.len, (const char *)page.out.bytes, (int)wanted.len, (const char *)wanted.bytes);
     free((void *)page.input.pieces);
     free((void *)page.input.labels);
     free((void *)page.input.definitions);
@@ -331,8 +338,8 @@ static size_t differ(FILE *file, const char *name) {
     text found = {NULL, 0, 0};
     size_t len, others = 0;
     while ((len = fread(bytes, 1, sizeof bytes, file)) > 0) put(&found, bytes, len);
-    for (uint32_t options = 0; options < 4; options++) {
-        if (is_same(found.bytes, found.len, options)) continue;
+    for (uint32_t turn = 0; turn < 16; turn++) {
+        if (is_same(found.bytes, found.len, turn % 4, turn / 4)) continue;
         printf("blocks: in %s\n", name);
         others++;
     }

@@ -558,6 +558,16 @@ static markdown_inline_document_options asked_for(uint32_t options, uint32_t htm
     return asked;
 }
 
+/* Options of a document that ask for these blocks alone. */
+static markdown_inline_document_options asked_blocks(uint32_t blocks) {
+    markdown_inline_document_options asked = asked_for(0, 0, 0);
+    asked.blocks = blocks;
+    return asked;
+}
+
+/* All bits of blocks beside CommonMark's. */
+enum { BLOCK_BITS = MARKDOWN_INLINE_BLOCKS_MATH | MARKDOWN_INLINE_BLOCKS_FRONT_MATTER };
+
 /* Calls for the HTML of a document, with an outcome that is filled beforehand. */
 static markdown_inline_outcome told;
 
@@ -619,28 +629,33 @@ static void test_document_rejected(void) {
     uint8_t found[8];
     for (unsigned bit = 0; bit < 32; bit++) {
         uint32_t mask = UINT32_C(1) << bit;
-        int is_option = mask < 0x800000 && !(mask & no_options), is_html = (mask & html_bits) != 0;
+        int is_option = mask < 0x800000 && !(mask & no_options), is_html = (mask & html_bits) != 0, is_block = (mask & BLOCK_BITS) != 0;
         if (is_option) want("an option of a document", document_html("a", 1, asked_for(mask, 0, 0), found, 8) != MARKDOWN_INLINE_UNKNOWN_OPTION);
         if (is_html) want("an option of HTML", document_html("a", 1, asked_for(0, mask, 0), found, 8) != MARKDOWN_INLINE_UNKNOWN_OPTION);
         if (!is_option) want_rejected("no option of a document", "a", 1, asked_for(mask, 0, 0), MARKDOWN_INLINE_UNKNOWN_OPTION, MARKDOWN_INLINE_NONE);
         if (!is_option) want_rejected("no option beside CommonMark", "a", 1, asked_for(MARKDOWN_INLINE_COMMONMARK | mask, 0, 0), MARKDOWN_INLINE_UNKNOWN_OPTION, MARKDOWN_INLINE_NONE);
         if (!is_html) want_rejected("no option of HTML", "a", 1, asked_for(0, mask, 0), MARKDOWN_INLINE_UNKNOWN_OPTION, MARKDOWN_INLINE_NONE);
         if (!is_html) want_rejected("no option beside raw HTML", "a", 1, asked_for(0, MARKDOWN_INLINE_HTML_RAW | mask, 0), MARKDOWN_INLINE_UNKNOWN_OPTION, MARKDOWN_INLINE_NONE);
+        if (is_block) want("blocks of a document", document_html("a", 1, asked_blocks(mask), found, 8) != MARKDOWN_INLINE_UNKNOWN_OPTION);
+        if (!is_block) want_rejected("no blocks of a document", "a", 1, asked_blocks(mask), MARKDOWN_INLINE_UNKNOWN_OPTION, MARKDOWN_INLINE_NONE);
+        if (!is_block) want_rejected("no blocks beside others", "a", 1, asked_blocks(BLOCK_BITS | mask), MARKDOWN_INLINE_UNKNOWN_OPTION, MARKDOWN_INLINE_NONE);
     }
     want_rejected("two line endings", "a", 1, asked_for(0, MARKDOWN_INLINE_HTML_LF | MARKDOWN_INLINE_HTML_CRLF, 0), MARKDOWN_INLINE_UNKNOWN_OPTION, MARKDOWN_INLINE_NONE);
     want_rejected("footnotes of a document", "a", 1, asked_for(MARKDOWN_INLINE_COMMONMARK | MARKDOWN_INLINE_GFM, 0, 0), MARKDOWN_INLINE_UNKNOWN_OPTION, MARKDOWN_INLINE_NONE);
     for (size_t word = 0; word < 15; word++) {
         markdown_inline_document_options asked = asked_for(0, 0, 0);
-        if (word < 2) asked.reserved[word] = word == 0 ? 1 : UINT32_C(1) << 31;
+        if (word < 2) asked.reserved = word == 0 ? 1 : UINT32_C(1) << 31;
         else asked.reserved_words[word - 2] = word % 2 ? 1 : (size_t)1 << 63;
         want_rejected("a reserved word of a document", "a", 1, asked, MARKDOWN_INLINE_UNKNOWN_OPTION, MARKDOWN_INLINE_NONE);
     }
     for (size_t at = 0; at < sizeof wrong / sizeof *wrong; at++) {
         want_rejected("a document that is not UTF-8", wrong[at].bytes, wrong[at].len, asked_for(0, 0, 0), MARKDOWN_INLINE_NOT_UTF8, wrong[at].blamed);
         want_rejected("an unknown option comes first", wrong[at].bytes, wrong[at].len, asked_for(0, 4, 0), MARKDOWN_INLINE_UNKNOWN_OPTION, MARKDOWN_INLINE_NONE);
+        want_rejected("unknown blocks come first", wrong[at].bytes, wrong[at].len, asked_blocks(4), MARKDOWN_INLINE_UNKNOWN_OPTION, MARKDOWN_INLINE_NONE);
     }
     want_rejected("a document too long", "\xff", too_long, asked_for(0, 0, 1), MARKDOWN_INLINE_TOO_LONG, MARKDOWN_INLINE_NONE);
     want_rejected("an unknown option of a document too long", "\xff", too_long, asked_for(0, 4, 1), MARKDOWN_INLINE_UNKNOWN_OPTION, MARKDOWN_INLINE_NONE);
+    want_rejected("unknown blocks of a document too long", "\xff", too_long, asked_blocks(4), MARKDOWN_INLINE_UNKNOWN_OPTION, MARKDOWN_INLINE_NONE);
     want_rejected("a limit after UTF-8", "[a]: bc\n\n[a]\xff", 13, asked_for(0, 0, 1), MARKDOWN_INLINE_NOT_UTF8, 12);
 }
 
@@ -669,6 +684,29 @@ static void test_document_options(void) {
         }
     want("a document by CommonMark's names", document_html("&check;", 7, asked_for(0, 0, 0), found, 256) == MARKDOWN_INLINE_DONE && told.count == 11 && !memcmp(found, "<p>\xe2\x9c\x93</p>\n", 11));
     want("a document by the crate's rules", document_html("&check;", 7, asked_for(MARKDOWN_INLINE_CRATE, 0, 0), found, 256) == MARKDOWN_INLINE_DONE && told.count == 19 && !memcmp(found, "<p>&amp;check;</p>\n", 19));
+}
+
+/* Blocks beside CommonMark's, each with and without its bit, alone and beside the other. */
+static void test_document_blocks(void) {
+    static const struct {
+        const char *document, *without, *html;
+        uint32_t bit;
+    } cases[] = {{"$$ a\n<b>\n$$\n", "<p>$$ a\n&lt;b&gt;\n$$</p>\n", "<pre><code class=\"language-math math-display\">&lt;b&gt;\n</code></pre>\n", MARKDOWN_INLINE_BLOCKS_MATH},
+        {"$$a$$\n", "<p>$$a$$</p>\n", "<p>$$a$$</p>\n", MARKDOWN_INLINE_BLOCKS_MATH},
+        {"> $$$\n> $$\na\n", "<blockquote>\n<p>$$$\n$$\na</p>\n</blockquote>\n",
+            "<blockquote>\n<pre><code class=\"language-math math-display\">$$\n</code></pre>\n</blockquote>\n<p>a</p>\n", MARKDOWN_INLINE_BLOCKS_MATH},
+        {"---\na\n---\nb\n", "<hr />\n<h2>a</h2>\n<p>b</p>\n", "<p>b</p>\n", MARKDOWN_INLINE_BLOCKS_FRONT_MATTER},
+        {"+++\n[a]: b\n+++\n[a]\n", "<p>+++\n[a]: b\n+++\n[a]</p>\n", "<p>[a]</p>\n", MARKDOWN_INLINE_BLOCKS_FRONT_MATTER},
+        {"\xef\xbb\xbf---\na\n---", "<hr />\n<h2>a</h2>\n", "", MARKDOWN_INLINE_BLOCKS_FRONT_MATTER},
+        {"---\na\n", "<hr />\n<p>a</p>\n", "<hr />\n<p>a</p>\n", MARKDOWN_INLINE_BLOCKS_FRONT_MATTER}};
+    uint8_t found[256];
+    for (size_t at = 0; at < sizeof cases / sizeof *cases; at++)
+        for (uint32_t blocks = 0; blocks <= BLOCK_BITS; blocks++) {
+            const char *html = blocks & cases[at].bit ? cases[at].html : cases[at].without;
+            uint32_t status = document_html(cases[at].document, strlen(cases[at].document), asked_blocks(blocks), found, sizeof found);
+            if (status != MARKDOWN_INLINE_DONE || told.count != strlen(html) || memcmp(found, html, told.count)) printf("calls: of %s: %.*s", cases[at].document, (int)told.count, (const char *)found);
+            want("a document with blocks beside CommonMark's", status == MARKDOWN_INLINE_DONE && told.count == strlen(html) && !memcmp(found, html, told.count));
+        }
 }
 
 /* A limit on what definitions bring to a document: three links and images in three blocks, to each of which one brings three bytes. The room is found out behind
@@ -752,17 +790,45 @@ static void test_blocks(void) {
             size_t is_done = room >= MANY && room_of_pieces >= MANY_PIECES, written = is_done * MANY, written_pieces = is_done * MANY_PIECES;
             memset(found, 1, sizeof found);
             memset(found_pieces, 1, sizeof found_pieces);
-            want("a status of blocks", markdown_inline_blocks((const uint8_t *)text, sizeof text - 1, found, room, found_pieces, room_of_pieces, &count)
+            want("a status of blocks", markdown_inline_blocks((const uint8_t *)text, sizeof text - 1, 0, found, room, found_pieces, room_of_pieces, &count)
                     == (is_done ? (uint32_t)MARKDOWN_INLINE_DONE : (uint32_t)MARKDOWN_INLINE_TOO_SMALL));
             want("how many blocks and pieces", count.blocks == MANY && count.pieces == MANY_PIECES);
             want("blocks", !memcmp(found, blocks, written * sizeof *found) && !memcmp(found + written, before, sizeof found - written * sizeof *found));
             want("pieces", !memcmp(found_pieces, pieces, written_pieces * sizeof *pieces) && !memcmp(found_pieces + written_pieces, pieces_before, sizeof found_pieces - written_pieces * sizeof *pieces));
         }
     count.blocks = count.pieces = 77;
-    want("no UTF-8 has no blocks", markdown_inline_blocks((const uint8_t *)"a\xff", 2, found, MANY, found_pieces, MANY_PIECES, &count) == MARKDOWN_INLINE_NOT_UTF8);
-    want("too long for blocks", markdown_inline_blocks((const uint8_t *)"a", (SIZE_MAX >> 3) + 1, found, MANY, found_pieces, MANY_PIECES, &count) == MARKDOWN_INLINE_TOO_LONG);
+    want("no UTF-8 has no blocks", markdown_inline_blocks((const uint8_t *)"a\xff", 2, 0, found, MANY, found_pieces, MANY_PIECES, &count) == MARKDOWN_INLINE_NOT_UTF8);
+    want("too long for blocks", markdown_inline_blocks((const uint8_t *)"a", (SIZE_MAX >> 3) + 1, 0, found, MANY, found_pieces, MANY_PIECES, &count) == MARKDOWN_INLINE_TOO_LONG);
+    for (unsigned bit = 2; bit < 32; bit++)
+        for (unsigned turn = 0; turn < 3; turn++)
+            want("unknown blocks come first", markdown_inline_blocks((const uint8_t *)"a\xff", turn == 0 ? 1 : turn == 1 ? 2 : (SIZE_MAX >> 3) + 1, (UINT32_C(1) << bit) | (bit & BLOCK_BITS), found, MANY,
+                    found_pieces, MANY_PIECES, &count) == MARKDOWN_INLINE_UNKNOWN_OPTION);
     want("no count of what is refused", count.blocks == 77 && count.pieces == 77);
-    want("no blocks", markdown_inline_blocks(NULL, 0, NULL, 0, NULL, 0, &count) == MARKDOWN_INLINE_DONE && count.blocks == 0 && count.pieces == 0);
+    want("no blocks", markdown_inline_blocks(NULL, 0, BLOCK_BITS, NULL, 0, NULL, 0, &count) == MARKDOWN_INLINE_DONE && count.blocks == 0 && count.pieces == 0);
+}
+
+/* Front matter and math are blocks where their bits are set; else their lines are what CommonMark makes of them. */
+static void test_block_options(void) {
+    static const char text[] = "---\na: b\n---\n$$ c\nd\n$$\n";
+    static const markdown_inline_block thematic_break = {{0, 0}, 0, 0, 1, MARKDOWN_INLINE_BLOCK_THEMATIC_BREAK, 0, 0, 0, 0}, heading = {{0, 1}, 0, 2, 2, MARKDOWN_INLINE_BLOCK_HEADING, 0, 0, 0, 0},
+        front_matter = {{0, 1}, 0, 0, 1, MARKDOWN_INLINE_BLOCK_FRONT_MATTER, 0, 0, 0, 0}, paragraph = {{1, 4}, 0, 0, 4, MARKDOWN_INLINE_BLOCK_PARAGRAPH, 0, 0, 0, 0},
+        math = {{1, 3}, 0, 0, 4, MARKDOWN_INLINE_BLOCK_FENCED_CODE, '$', 0, 0, 0};
+    static const markdown_inline_piece of_heading = {4, 0, 8, 0}, of_matter = {4, 0, 9, 0}, of_math[] = {{16, 0, 17, 0}, {18, 0, 20, 0}},
+        of_paragraph[] = {{13, 0, 18, 0}, {18, 0, 20, 0}, {20, 0, 22, 0}};
+    for (uint32_t options = 0; options <= BLOCK_BITS; options++) {
+        markdown_inline_block blocks[4], wanted[4];
+        markdown_inline_piece pieces[4];
+        markdown_inline_blocks_count count;
+        size_t many = 0;
+        int has_matter = (options & MARKDOWN_INLINE_BLOCKS_FRONT_MATTER) != 0, has_math = (options & MARKDOWN_INLINE_BLOCKS_MATH) != 0;
+        wanted[many++] = has_matter ? front_matter : thematic_break;
+        if (!has_matter) wanted[many++] = heading;
+        wanted[many++] = has_math ? math : paragraph;
+        want("blocks by their options", markdown_inline_blocks((const uint8_t *)text, sizeof text - 1, options, blocks, 4, pieces, 4, &count) == MARKDOWN_INLINE_DONE);
+        want("which blocks are read", count.blocks == many && count.pieces == wanted[many - 1].pieces.end && !memcmp(blocks, wanted, many * sizeof *wanted));
+        want("the pieces of front matter", !memcmp(pieces, has_matter ? &of_matter : &of_heading, sizeof *pieces));
+        want("the pieces of math", !memcmp(pieces + 1, has_math ? of_math : of_paragraph, has_math ? sizeof of_math : sizeof of_paragraph));
+    }
 }
 
 /* A document has definitions, which are handed out where all of them have room. */
@@ -785,7 +851,7 @@ static void test_definitions(void) {
         memset(found, 1, sizeof found);
         memset(ranges, 1, sizeof ranges);
         memset(given, 1, sizeof given);
-        want("a status of definitions", markdown_inline_definitions((const uint8_t *)text, sizeof text - 1, found, room, ranges, room_of_ranges, given, room_of_targets, &count)
+        want("a status of definitions", markdown_inline_definitions((const uint8_t *)text, sizeof text - 1, 0, found, room, ranges, room_of_ranges, given, room_of_targets, &count)
                 == (is_done ? (uint32_t)MARKDOWN_INLINE_DONE : (uint32_t)MARKDOWN_INLINE_TOO_SMALL));
         want("how many definitions", count.definitions == MANY && count.labels == LEN);
         want("labels", !memcmp(found, labels, written) && !memcmp(found + written, before, sizeof found - written));
@@ -793,10 +859,28 @@ static void test_definitions(void) {
         want("targets", !memcmp(given, targets, many * sizeof *given) && !memcmp(given + many, given_before, sizeof given - many * sizeof *given));
     }
     count.definitions = count.labels = 77;
-    want("no UTF-8 has no definitions", markdown_inline_definitions((const uint8_t *)"a\xff", 2, found, LEN, ranges, MANY, given, MANY, &count) == MARKDOWN_INLINE_NOT_UTF8);
-    want("too long for definitions", markdown_inline_definitions((const uint8_t *)"a", (SIZE_MAX >> 3) + 1, found, LEN, ranges, MANY, given, MANY, &count) == MARKDOWN_INLINE_TOO_LONG);
+    want("no UTF-8 has no definitions", markdown_inline_definitions((const uint8_t *)"a\xff", 2, 0, found, LEN, ranges, MANY, given, MANY, &count) == MARKDOWN_INLINE_NOT_UTF8);
+    want("too long for definitions", markdown_inline_definitions((const uint8_t *)"a", (SIZE_MAX >> 3) + 1, 0, found, LEN, ranges, MANY, given, MANY, &count) == MARKDOWN_INLINE_TOO_LONG);
+    for (unsigned bit = 2; bit < 32; bit++)
+        for (unsigned turn = 0; turn < 3; turn++)
+            want("unknown blocks come before definitions", markdown_inline_definitions((const uint8_t *)"a\xff", turn == 0 ? 1 : turn == 1 ? 2 : (SIZE_MAX >> 3) + 1,
+                    (UINT32_C(1) << bit) | (bit & BLOCK_BITS), found, LEN, ranges, MANY, given, MANY, &count) == MARKDOWN_INLINE_UNKNOWN_OPTION);
     want("no count of definitions of what is refused", count.definitions == 77 && count.labels == 77);
-    want("no definitions", markdown_inline_definitions(NULL, 0, NULL, 0, NULL, 0, NULL, 0, &count) == MARKDOWN_INLINE_DONE && count.definitions == 0 && count.labels == 0);
+    want("no definitions", markdown_inline_definitions(NULL, 0, BLOCK_BITS, NULL, 0, NULL, 0, NULL, 0, &count) == MARKDOWN_INLINE_DONE && count.definitions == 0 && count.labels == 0);
+}
+
+/* Lines of front matter and of math define nothing, where these are read. */
+static void test_definition_options(void) {
+    static const char text[] = "---\n[a]: b\n---\n\n$$\n\n[c]: d\n\n$$\n", *const wanted[] = {"abcd", "ab", "cd", ""};
+    for (uint32_t options = 0; options <= BLOCK_BITS; options++) {
+        uint8_t labels[4];
+        markdown_inline_range ranges[2];
+        markdown_inline_target given[2];
+        markdown_inline_definitions_count count;
+        size_t len = strlen(wanted[options]);
+        want("definitions by the options of blocks", markdown_inline_definitions((const uint8_t *)text, sizeof text - 1, options, labels, 4, ranges, 2, given, 2, &count) == MARKDOWN_INLINE_DONE);
+        want("which definitions are read", count.labels == len && count.definitions == len / 2 && !memcmp(labels, wanted[options], len));
+    }
 }
 
 /* Strings have the texts of their parts, and as many as have room are written. */
@@ -1186,15 +1270,17 @@ static int call_once(const char *call) {
     if (!strcmp(call, "short_texts")) return (int)markdown_inline_short_texts(&input, contents, 2, short_events, 256, ends, 2, &outcome);
     if (!strcmp(call, "html")) return (int)markdown_inline_html(&input, &target, 1, 0, 0, bytes, 512, &count);
     if (!strcmp(call, "html_of")) return (int)markdown_inline_html_of((const uint8_t *)"a *b* [c](/d)", 13, input.options, 0, bytes, 512, &count);
-    if (!strcmp(call, "document_html")) return (int)document_html("# a\n\n> - *b* [c]\n\n[c]: /d\n", 27, asked_for(0, 0, 2), bytes, 512);
+    static const char document[] = "---\na\n---\n# a\n\n> - *b* [c]\n\n$$\nd\n$$\n[c]: /d\n";
+    if (!strcmp(call, "document_html")) return (int)document_html(document, sizeof document - 1, asked_blocks(BLOCK_BITS), bytes, 512);
     if (!strcmp(call, "blocks")) {
-        markdown_inline_block blocks[8];
+        markdown_inline_block blocks[16];
+        markdown_inline_piece all[8];
         markdown_inline_blocks_count blocks_count;
-        return (int)markdown_inline_blocks((const uint8_t *)"# a\n\n> - *b* [c]\n\n[c]: /d\n", 27, blocks, 8, pieces, 2, &blocks_count);
+        return (int)markdown_inline_blocks((const uint8_t *)document, sizeof document - 1, BLOCK_BITS, blocks, 16, all, 8, &blocks_count);
     }
     if (!strcmp(call, "definitions")) {
         markdown_inline_definitions_count definitions_count;
-        return (int)markdown_inline_definitions((const uint8_t *)"[c]: /d 'e'\n", 12, bytes, 512, &label, 1, &target, 1, &definitions_count);
+        return (int)markdown_inline_definitions((const uint8_t *)document, sizeof document - 1, BLOCK_BITS, bytes, 512, &label, 1, &target, 1, &definitions_count);
     }
     if (!strcmp(call, "strings")) {
         static const markdown_inline_range parts[] = {{0, 3}, {4, 9}}, strings[] = {{0, 2}, {1, 2}};
@@ -1232,10 +1318,13 @@ int main(int argc, char **argv) {
     test_document_html();
     test_document_rejected();
     test_document_options();
+    test_document_blocks();
     test_document_limit();
     test_default_limit();
     test_blocks();
+    test_block_options();
     test_definitions();
+    test_definition_options();
     test_htmls();
     test_limit();
     test_blame();

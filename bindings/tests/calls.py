@@ -7,9 +7,10 @@ import unittest
 from array import array
 
 import markdown_inline
-from markdown_inline import (
-    COMMONMARK, CRATE, GFM, MATH, OPTIONS, BlankLine, Content, DefinitionError, Error, Kind, Name, NoContent, NoReference, NoString, NotUtf8, Piece, References, ShortTexts, TooLong,
-    UnknownOption, _errors, _library, html, htmls, identifier, is_content, is_text, leaves, pieces_of_lines, reference, short_texts, string, strings, text, texts)
+from markdown_inline import BlankLine, DefinitionError, Error, NoContent, NoReference, NoString, NotUtf8, References, TooLong, UnknownOption, _errors, _library, inline
+from markdown_inline.inline import (
+    COMMONMARK, CRATE, GFM, MATH, OPTIONS, Content, Kind, Name, Piece, ShortTexts, html, htmls, identifier, is_content, is_text, leaves, pieces_of_lines,
+    reference, short_texts, string, strings, text, texts)
 
 CONSTRUCTS = sum(OPTIONS[it] for it in (
     'attention', 'autolink', 'character_escape', 'character_reference', 'code_text', 'hard_break_escape', 'hard_break_trailing', 'html_text', 'label_start_image',
@@ -29,7 +30,7 @@ class Calls(unittest.TestCase):
             (NoContent, 7, lambda: texts('a', [Content([(0, 1)]), Content([(0, 2)])])), (BlankLine, 4, lambda: texts('a\n', [Content([(0, 2)])])),
             (NoString, 12, lambda: strings('a', [[(0, 2)]])),
             (NoReference, 10, lambda: reference('&nothing;')), (NoReference, 10, lambda: reference(b'')),
-            (References, 11, lambda: htmls('[a]', [Content([(0, 3)])], definitions={'a': 'bc'}, reference_limit=1)),
+            (References, 11, lambda: htmls('[a]', [Content([(0, 3)])], definitions={'a': 'bc'}, limit=1)),
         ):
             with self.assertRaises(error) as caught:
                 call()
@@ -223,7 +224,7 @@ class Calls(unittest.TestCase):
     def test_many_contents_have_the_html_of_each_by_itself(self):
         document, defined = '<b> [a](javascript:b) [C]\n\n[x] d', {'c': ('/d', 'é')}
         contents = [Content([(0, 25)]), Content([(27, 32)], True)]
-        for asked in ({}, {'raw_html': True}, {'any_link': True}, {'gfm': True}, {'math': True, 'rules': 'crate'}):
+        for asked in ({}, {'html': 'raw'}, {'any_link': True}, {'gfm': True}, {'math': True, 'rules': 'crate'}):
             found = htmls(document, contents, definitions=defined, **asked)
             self.assertEqual(found, [html(document, it.pieces, task=it.first_of_item, definitions=defined, **asked) for it in contents])
 
@@ -231,32 +232,32 @@ class Calls(unittest.TestCase):
         one, defined = [Content([(0, 404)])], {'a': 'x' * 1000}
         document = '[a] ' * 101
         self.assertRaises(References, htmls, document, one, definitions=defined)
-        self.assertRaises(References, htmls, document, one, definitions=defined, reference_limit=100_999)
-        for asked in ({'reference_limit': 101_000}, {'reference_limit': math.inf}):
+        self.assertRaises(References, htmls, document, one, definitions=defined, limit=100_999)
+        for asked in ({'limit': 101_000}, {'limit': math.inf}):
             self.assertEqual(htmls(document, one, definitions=defined, **asked), [html(document, definitions=defined, **asked)])
         self.assertEqual(len(htmls(document + '\n\n' + 'x' * 100_594, one, definitions=defined)), 1)
         for wrong, error in ((-1, OverflowError), (2 ** 64, OverflowError), (True, TypeError), ('1', TypeError)):
-            self.assertRaises(error, htmls, document, one, reference_limit=wrong)
-            self.assertRaises(error, html, document, reference_limit=wrong)
+            self.assertRaises(error, htmls, document, one, limit=wrong)
+            self.assertRaises(error, html, document, limit=wrong)
 
     def test_references_bring_no_more_than_a_limit_to_one_text(self):
         document, asked = '[x] ![a][b] [^c] ' + '[a] ' * 99 + '[a]', {'gfm': True, 'footnotes': ['c'], 'definitions': {'a': ('x' * 999, 'y'), 'b': 'z'}}
         self.assertRaises(References, html, document, **asked)
-        self.assertRaises(References, html, document, reference_limit=100_000, **asked)
+        self.assertRaises(References, html, document, limit=100_000, **asked)
         for task in (False, True):
-            found = html(document, task=task, reference_limit=math.inf, **asked)
-            self.assertEqual(found, html(document, task=task, reference_limit=100_001, **asked))
+            found = html(document, task=task, limit=math.inf, **asked)
+            self.assertEqual(found, html(document, task=task, limit=100_001, **asked))
             self.assertEqual('checkbox' in found, task)
         # Where no references can bring more than the limit, and where they could, the same is wrong.
         for limit in (1, 10 ** 9):
-            self.assertRaises(NoContent, html, document, [(0, 9999)], reference_limit=limit, **asked)
-            self.assertRaises(BlankLine, html, document + '\n', reference_limit=limit, **asked)
+            self.assertRaises(NoContent, html, document, [(0, 9999)], limit=limit, **asked)
+            self.assertRaises(BlankLine, html, document + '\n', limit=limit, **asked)
 
     def test_what_is_to_blame_is_told(self):
         good = Content([(0, 3)])
         for at, call in (
             (1, lambda: htmls('[a]\n', [good, Content([(0, 9)])])), (2, lambda: htmls('[a]\n', [good, good, Content([(0, 4)])])),
-            (1, lambda: htmls('[a]\n', [good, good], definitions={'a': 'bc'}, reference_limit=3)),
+            (1, lambda: htmls('[a]\n', [good, good], definitions={'a': 'bc'}, limit=3)),
             (2, lambda: htmls('[a]', [good], definitions={'a': 'b', 'c': 'd', b'\xff': 'e'})), (0, lambda: htmls('[a]', [good], definitions={'a': b'\xff'})),
             (2, lambda: htmls('[a]', [good], definitions={'a': 'b'}, footnotes=['c', b'\xff'])), (1, lambda: htmls(b'a\xff', [good])),
             (1, lambda: texts('[a]\n', [good, Content([(0, 9)])])), (2, lambda: short_texts('[a]\n', [good, good, Content([(0, 4)])])),
@@ -270,21 +271,21 @@ class Calls(unittest.TestCase):
     def test_html_is_safe_where_nothing_else_is_asked(self):
         document, defined = '<b> [a](javascript:b) [C]', {'c': ('/d', 'é'), 'e': b'/f'}
         self.assertEqual(html(document, definitions=defined), '&lt;b&gt; <a href="">a</a> <a href="/d" title="é">C</a>')
-        self.assertEqual(html(document, definitions=defined, raw_html=True, any_link=True), '<b> <a href="javascript:b">a</a> <a href="/d" title="é">C</a>')
+        self.assertEqual(html(document, definitions=defined, html='raw', any_link=True), '<b> <a href="javascript:b">a</a> <a href="/d" title="é">C</a>')
 
     def test_documented_examples(self):
-        public = {it: getattr(markdown_inline, it) for it in markdown_inline.__all__}
+        public = {it: getattr(inline, it) for it in inline.__all__}
         page = os.path.join(os.path.dirname(os.path.abspath(__file__)), '..', 'python', 'README.md')
         for found, least in (
-            (doctest.testmod(markdown_inline, extraglobs=public), 4), (doctest.testmod(markdown_inline._events, extraglobs=public), 4),
-            (doctest.testfile(page, module_relative=False, globs=public), 4),
+            (doctest.testmod(markdown_inline), 4), (doctest.testmod(inline), 4), (doctest.testmod(markdown_inline._document), 2), (doctest.testmod(markdown_inline._slugs), 2), (doctest.testmod(markdown_inline._events, extraglobs=public), 4),
+            (doctest.testfile(page, module_relative=False), 4),
         ):
             self.assertEqual(found.failed, 0)
             self.assertGreaterEqual(found.attempted, least)
 
 
 # Each module of tests, with how many tests it has at least: where fewer are found, something is not run.
-MODULES = {'calls': 23, 'documents': 4, 'document_blocks': 14, 'links': 8, 'arguments': 14, 'events': 13, 'install': 1, 'lent': 14, 'page': 12, 'play': 13, 'plugin': 17, 'program': 17, 'typed': 3}
+MODULES = {'calls': 23, 'documents': 4, 'document_blocks': 17, 'links': 9, 'nodes': 12, 'arguments': 14, 'events': 13, 'hooks': 6, 'install': 1, 'lent': 14, 'page': 12, 'paragraph': 16, 'play': 13, 'plugin': 17, 'program': 4, 'typed': 3}
 
 
 def main():

@@ -138,6 +138,7 @@ static uint32_t answer_document(const markdown_inline_input *input, char **words
     options.options = input->options;
     options.html = (uint32_t)strtoul(words[0], NULL, 10);
     options.limit = strtoul(words[1], NULL, 10);
+    options.blocks = (uint32_t)strtoul(words[2], NULL, 10);
     uint32_t status = markdown_inline_document_html(input->bytes, input->bytes_len, &options, NULL, 0, &outcome);
     if (status == MARKDOWN_INLINE_TOO_SMALL) {
         html = (uint8_t *)room(outcome.count, 1);
@@ -240,8 +241,9 @@ static uint32_t answer_blocks(const markdown_inline_input *given, char **words) 
     markdown_inline_outcome outcome = {0, 0, MARKDOWN_INLINE_NONE};
     markdown_inline_input input = *given;
     size_t number = 0;
-    uint32_t status = markdown_inline_blocks(input.bytes, input.bytes_len, blocks, MOST, their_pieces, MOST, &count);
-    if (status == MARKDOWN_INLINE_DONE) status = markdown_inline_definitions(input.bytes, input.bytes_len, texts, MOST, ranges, MOST, targets, MOST, &defined);
+    uint32_t block_options = (uint32_t)strtoul(words[2], NULL, 10);
+    uint32_t status = markdown_inline_blocks(input.bytes, input.bytes_len, block_options, blocks, MOST, their_pieces, MOST, &count);
+    if (status == MARKDOWN_INLINE_DONE) status = markdown_inline_definitions(input.bytes, input.bytes_len, block_options, texts, MOST, ranges, MOST, targets, MOST, &defined);
     if (status != MARKDOWN_INLINE_DONE) return status;
     memcpy(texts + defined.labels, input.labels, input.labels_len);
     for (size_t at = 0; at < input.footnotes_len; at++) noted[at] = (markdown_inline_range){input.footnotes[at].start + defined.labels, input.footnotes[at].end + defined.labels};

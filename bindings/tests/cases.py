@@ -2,13 +2,15 @@
 """Reads cases of draw.py from standard input, and prints what the Python package finds in each: events as the program of crates/markdown_test_runs
 does, leaves, HTML in hexadecimal, the blocks of a document, or the events, the short events or the HTML of each text; where there are none, why.
 
-Where words can say the options of a case, they do, and not its bits. Each other document is handed over as a `str`, and its characters are counted
-here too. The status is 1 where few cases come, or few of a kind, so that what tests nothing does not pass."""
+Where words can say the options of a case, they do, and not its bits. Each other document is handed over as a `str`, and its characters are counted here
+too. The status is 1 where few cases come, or few of a kind, so that what tests nothing does not pass."""
 import collections
 import sys
 from itertools import accumulate
 
-from markdown_inline import COMMONMARK, CRATE, GFM, MATH, OPTIONS, Content, Error, Kind, Piece, blocks, document_html, html, htmls, leaves, short_texts, string, text, texts
+from markdown_inline import Error, parse, render
+from markdown_inline._tables import BLOCKS_FRONT_MATTER
+from markdown_inline.inline import COMMONMARK, CRATE, GFM, MATH, OPTIONS, Content, Kind, Piece, html, htmls, leaves, short_texts, string, text, texts
 
 OF_DOCUMENTS = {'strikethrough': 'gfm_strikethrough', 'bare_urls': 'gfm_autolink_literal', 'tasks': 'gfm_task_list_item', 'math': 'math_text'}
 SWITCHES, SETS = {'gfm': GFM, 'math': MATH, 'task': OPTIONS['first_of_item']}, {'commonmark': COMMONMARK, 'crate': CRATE}
@@ -87,7 +89,7 @@ def asked(bits, how):
 def held(bits):
     """What HTML may contain, and how its line endings are written."""
     bits = int(bits)
-    return {'raw_html': bool(bits & 1), 'any_link': bool(bits & 2), 'line_ends': '\n' if bits & 0x20 else '\r\n' if bits & 0x40 else None}
+    return {'html': ('escape', 'raw')[bits & 1], 'any_link': bool(bits & 2), 'line_ends': '\n' if bits & 0x20 else '\r\n' if bits & 0x40 else None}
 
 
 def shown_block(block):
@@ -102,6 +104,13 @@ def all_blocks(found):
     return ''.join(map(shown_block, found)) + ''.join(defined)
 
 
+def of_document(how, bits, document, rest):
+    """The HTML of a document, or its blocks."""
+    words = {word: bool(bits & OPTIONS[name]) for word, name in OF_DOCUMENTS.items()}
+    words.update(held(rest[0]), limit=int(rest[1]) or None, front_matter=bool(int(rest[2]) & BLOCKS_FRONT_MATTER))
+    return all_blocks(parse(document, **words)) if how == 'blocks' else ' ' + render(document, **words).encode().hex()
+
+
 def found(how, bits, document, spans, given, places, labels, rest):
     if how == 'string':
         return all_shown(string(document, spans, options=given['options']), places)
@@ -112,14 +121,11 @@ def found(how, bits, document, spans, given, places, labels, rest):
     if how == 'html':
         defined = dict(zip(labels, map(target, listed(rest[1]))))
         return ' ' + html(document, spans, definitions=defined, **held(rest[0]), **given).encode().hex()
-    if how == 'document':
-        added = {word: bool(bits & OPTIONS[name]) for word, name in OF_DOCUMENTS.items()}
-        return ' ' + document_html(document, **added, **held(rest[0]), reference_limit=int(rest[1]) or None).encode().hex()
-    if how == 'blocks':
-        return all_blocks(blocks(document, **held(rest[0]), reference_limit=int(rest[1]) or None, **given))
+    if how in ('document', 'blocks'):
+        return of_document(how, bits, document, rest)
     if how == 'htmls':
         defined, contents = dict(zip(labels, map(target, listed(rest[1])))), [content(it, spans) for it in listed(rest[2])]
-        written = htmls(document, contents, definitions=defined, **held(rest[0]), reference_limit=int(rest[3]) or None, **given)
+        written = htmls(document, contents, definitions=defined, **held(rest[0]), limit=int(rest[3]) or None, **given)
         return ''.join(' |' + it.encode().hex() for it in written)
     contents = [content(it, spans) for it in listed(rest[0])]
     if how == 'shorts':

@@ -7,8 +7,8 @@ ROWS gets them as the program of crates/markdown_test_runs reads them, and CASES
 the pieces, the labels of definitions and of footnotes, the document; texts in hexadecimal, `-` for none, commas between pieces and labels. MORE gets
 calls that the program does not make, which the callers compare among each other: a text's leaves; its HTML, with two words more, the bits of what it
 may hold, and the destination of each definition behind a `=`, with a title behind a colon where it has one; the texts of several contents, also in short
-events, with one word more, each content's first and last piece, and whether it begins a list item; and the HTML of a document, and its blocks, with two words
-more, the bits of what the HTML may hold, and how many bytes definitions may bring, where 0 is the default."""
+events, with one word more, each content's first and last piece, and whether it begins a list item; and the HTML of a document, and its blocks, with three words
+more, the bits of what the HTML may hold, how many bytes definitions may bring, where 0 is the default, and the bits of the blocks beside CommonMark's."""
 import os
 import random
 import re
@@ -23,8 +23,9 @@ FIRST_OF_ITEM = OPTIONS['first_of_item']
 # Drawn as often as not; and what says a part of the last of them, drawn in a quarter of the cases.
 RARE = FIRST_OF_ITEM | OPTIONS['standard_rules']
 PARTS_OF_RULES = sum(OPTIONS[name] for name in ('attention_first_lengths', 'label_shortcut_before_bracket', 'html_references'))
-# What a document may be read with, beside CommonMark.
-OF_DOCUMENTS = [OPTIONS[name] for name in ('gfm_strikethrough', 'gfm_autolink_literal', 'gfm_task_list_item', 'math_text')]
+# What a document may be read with, beside CommonMark. Blocks of math, which have the bit 1, are read with math in texts.
+MATH_TEXT = OPTIONS['math_text']
+OF_DOCUMENTS = [*(OPTIONS[name] for name in ('gfm_strikethrough', 'gfm_autolink_literal', 'gfm_task_list_item')), MATH_TEXT]
 # The bits of HTML by which line endings are written.
 LINE_ENDS = [0, 0, 0x20, 0x40]
 PARTS = ['a', 'bc', 'é', '漢', '😀', ' ', '  ', '\t', '*', '**', '_', '~', '~~', '`', '``', '$', '$$', '[', ']', '![', '](', ')', '(', '<', '>', '"', "'",
@@ -35,7 +36,10 @@ PREFIXES = ['', '> ', '>', '   ', '- ', '\t', ' \t', '>\t', '1. ']
 LABELS = ['a', 'b c', 'd', 'é', 'word', 'x']
 NOTES = ['n', 'a', '*b*']
 TARGETS = ['', '/u', 'http://v.w', 'javascript:x', ' y:z', '"&<>', 'é?a=b&c', 'mailto:d@e']
-BLOCKS = ['', '', '# ', '    ', '- ', '- [ ] ', '3) ', '> ', '~~~ é\n', '<div>\n', '[a]: /u "f"\n', '[A]: v\n\n[a] ![b][a]\n', '***\n', '-\t\t', '>\t\t']
+BLOCKS = ['', '', '# ', '    ', '- ', '- [ ] ', '3) ', '> ', '~~~ é\n', '<div>\n', '[a]: /u "f"\n', '[A]: v\n\n[a] ![b][a]\n', '***\n', '-\t\t', '>\t\t',
+          '$$ é\n', '$$\n*a*\n$$\n', '> $$$\n> $$\n']
+# What begins a document: front matter, or lines that are none.
+MATTERS = ['---\na: b\n---\n', '+++\r\n[a]: /m\r\n\r\n+++ \r\n', '\ufeff---\n---\n', '---\n# a\n']
 TITLES = [None, '', 'f', 'g "h" <i>', "&amp;'"]
 ESCAPES = {'\\': '\\\\', '\n': '\\n', '\r': '\\r', '\t': '\\t', '\0': '\\0'}
 
@@ -122,12 +126,12 @@ def several_in_html(draw, cases):
 
 
 def in_blocks(draw, cases, how='document'):
-    """A call for the HTML, or for the blocks, of a document of these cases, each behind something that may begin a block. Blocks have the options and the
-    footnotes of the first, and HTML has options of its own."""
-    document = b''.join(draw.choice(BLOCKS).encode() + given + draw.choice([b'\n', b'\r\n\r\n']) for *_, given in cases)
+    """A call for the HTML, or for the blocks, of a document of these cases, each behind something that may begin a block, and sometimes behind front matter."""
+    document = draw.choice(MATTERS).encode() if draw.random() < 0.2 else b''
+    document += b''.join(draw.choice(BLOCKS).encode() + given + draw.choice([b'\n', b'\r\n\r\n']) for *_, given in cases)
     of_document = COMMONMARK | sum(it for it in OF_DOCUMENTS if draw.random() < 0.5)
-    bits, notes = (cases[0][1] & ~FIRST_OF_ITEM, cases[0][4]) if how == 'blocks' else (of_document, [])
-    return line(how, bits, [], [], notes, document) + ' %d %d' % (html_bits(draw), draw.choice([0, 0, 1, 4, 16, 64]))
+    block_bits = bool(of_document & MATH_TEXT) | draw.choice([0, 2])
+    return line(how, of_document, [], [], [], document) + ' %d %d %d' % (html_bits(draw), draw.choice([0, 0, 1, 4, 16, 64]), block_bits)
 
 
 def more(draw, drawn):

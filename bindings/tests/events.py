@@ -7,8 +7,9 @@ import time
 import unittest
 from unittest import mock
 
-from markdown_inline import (
-    Content, Event, Events, Kind, Leaf, Leaves, Name, Piece, ShortEvents, ShortTexts, Texts, _events, _tables, leaves, short_texts, string, text, texts)
+from markdown_inline import _events, _tables
+from markdown_inline.inline import (
+    Content, Event, Events, Kind, Leaf, Leaves, Name, Piece, ShortEvents, ShortTexts, Texts, leaves, short_texts, string, text, texts)
 
 DOCUMENT = 'é *漢* `c` [😀](d "e\nf") &amp; \\* **g _h_**'
 PARTS = ['a ', 'é', '漢', '😀', '*b*', '`c`', '\t', '\n\td', ' \t', '&amp;', '[e](f "g")', '**h**', '\\*', '<i@j.k>', 'word ' * 30]

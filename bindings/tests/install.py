@@ -21,12 +21,12 @@ class Install(unittest.TestCase):
             self.assertEqual(made.returncode, 0, made.stdout.decode())
             environment = {name: it for name, it in os.environ.items() if name != 'MARKDOWN_INLINE_LIBRARY'}
             environment['PYTHONPATH'] = room
-            code = 'import os, pkgutil; import markdown_inline as m, markdown_inline.play as p; print(m.__file__); print(*m.text("a"), sep="\\n"); print(os.path.getsize(p.PAGE) > 0); ' \
+            code = 'import os, pkgutil; import markdown_inline as m, markdown_inline.play as p; print(m.__file__); print(m.render("a"), end=""); print(os.path.getsize(p.PAGE) > 0); ' \
                 'from importlib import metadata; print(metadata.version("markdown_inline") == m.__version__); print(*(it.name for it in pkgutil.iter_modules(m.__path__) if "lib" in it.name))'
             found = subprocess.run([sys.executable, '-c', code], stdout=subprocess.PIPE, cwd=room, env=environment, check=True, timeout=60).stdout.decode()
-            self.assertEqual(found.splitlines(), [os.path.join(room, 'markdown_inline', '__init__.py'), 'Enter Data 1 1 0 0', 'Exit Data 1 2 1 0', 'True', 'True', '_library'])
+            self.assertEqual(found.splitlines(), [os.path.join(room, 'markdown_inline', '__init__.py'), '<p>a</p>', 'True', 'True', '_library'])
             with open(glob.glob(room + '/markdown_inline-*.dist-info/WHEEL')[0], encoding='utf-8') as file:
                 self.assertRegex(file.read(), '(?m)^Tag: py3-none-linux_')
-            said = subprocess.run([room + '/bin/markdown_inline', '--html'], input=b'*a*', stdout=subprocess.PIPE, env=environment, check=True, timeout=60).stdout
-            self.assertEqual(said, b'<em>a</em>\n')
+            said = subprocess.run([room + '/bin/markdown_inline'], input=b'*a*', stdout=subprocess.PIPE, env=environment, check=True, timeout=60).stdout
+            self.assertEqual(said, b'<p><em>a</em></p>\n')
         self.assertEqual(sorted(os.listdir(PROJECT)), before)

@@ -11,13 +11,14 @@ import unittest
 from concurrent.futures import ThreadPoolExecutor
 from unittest import mock
 
-from markdown_inline import Content, _library, blocks, document_html, html, htmls, identifier, leaves, reference, short_texts, string, strings, text, texts
+from markdown_inline import _library, parse, render
+from markdown_inline.inline import Content, html, htmls, identifier, leaves, reference, short_texts, string, strings, text, texts
 
 LONG = 'a' * 20 + '*b* ' * 60 + 'c'
 CALLS = (
-    lambda: text(LONG), lambda: text('~d~ `e`' * 9, gfm=True), lambda: string('&amp; \\* ' * 30), lambda: leaves(LONG), lambda: html(LONG), lambda: document_html(LONG),
+    lambda: text(LONG), lambda: text('~d~ `e`' * 9, gfm=True), lambda: string('&amp; \\* ' * 30), lambda: leaves(LONG), lambda: html(LONG), lambda: render(LONG),
     lambda: texts('*a*\n\n`b`', [Content([(0, 3)]), Content([(5, 8)])]), lambda: identifier('A ' * 50), lambda: reference('&copy;'),
-    lambda: [(it, list(it.events), it.html) for it in blocks('# a *b*\n\n> [c]\n\n[c]: d')],
+    lambda: [(it, list(it.events), it.html) for it in parse('# a *b*\n\n> [c]\n\n[c]: d')],
 )
 
 
@@ -154,7 +155,7 @@ class Lent(unittest.TestCase):
         whole, guard = text(LONG), b'\xa5' * 4096
         for call, wanted, size in (
             (lambda: text(LONG), whole, 56), (lambda: leaves(LONG), leaves(LONG), 96), (lambda: identifier('A' * 90), 'a' * 90, 1),
-            (lambda: html('a' * 90), 'a' * 90, 1), (lambda: document_html('# ' + 'a' * 90), '<h1>' + 'a' * 90 + '</h1>\n', 1), (lambda: texts(LONG, [Content([(0, len(LONG))])]), [whole], 56),
+            (lambda: html('a' * 90), 'a' * 90, 1), (lambda: render('# ' + 'a' * 90), '<h1>' + 'a' * 90 + '</h1>\n', 1), (lambda: texts(LONG, [Content([(0, len(LONG))])]), [whole], 56),
             (lambda: string('\\*' * 16), string('\\*' * 16), 56),
         ):
             count = len(wanted[0]) if wanted == [whole] else len(wanted)

@@ -2,10 +2,11 @@
 import time
 import unittest
 
-from markdown_inline import (
-    GFM, COMMONMARK, OPTIONS, Address, BlankLine, Content, DefinitionError, Name, Node, NotUtf8, Piece, links, text, tree)
+from markdown_inline import BlankLine, DefinitionError, NotUtf8
+from markdown_inline.inline import COMMONMARK, GFM, OPTIONS, Address, Content, Name, Node, Piece, links, text, tree
 
-# A document, what is asked for, and of each: what it is, from which byte to which, its line and its column, its destination, its title, its definition.
+# A document, what is asked for, and of each link in its bytes: what it is, where it begins and ends, its line and its column, its destination, its title, its
+# definition.
 ROWS = [
     ('a', {}, []),
     ('[a](b "c") ![d](<e f> \'g\')', {}, [('link', 0, 10, 1, 1, 'b', 'c', None), ('image', 11, 26, 1, 12, 'e f', 'g', None)]),
@@ -22,8 +23,6 @@ ROWS = [
     ('[a [b]](c) [^d]', {'gfm': True, 'definitions': {'b': '/e'}, 'footnotes': ['d']}, [('link', 3, 6, 1, 4, '/e', None, 0)]),
     ('é😀\t[a](b)\r\n\r[c](d)\n', {'contents': [([(0, 13)], False), ([(16, 22)], False)]}, [
         ('link', 7, 13, 1, 8, 'b', None, None), ('link', 16, 22, 3, 1, 'd', None, None)]),
-    ('é😀\t[a](b)', {'columns': 'characters'}, [('link', 7, 13, 1, 4, 'b', None, None)]),
-    ('é😀\t[a](b)', {'columns': 'utf-16'}, [('link', 7, 13, 1, 5, 'b', None, None)]),
     # A label and a title over the lines of a quote.
     ('> [a\n> b]\n> [c](d "e\n>  f")', {'contents': [([(2, 5), (7, 10), (12, 21), (23, 27)], False)], 'definitions': {'a b': '/g'}}, [
         ('link', 2, 9, 1, 3, '/g', None, 0), ('link', 12, 27, 3, 3, 'd', 'e\nf', None)]),
@@ -34,10 +33,16 @@ ROWS = [
 class Links(unittest.TestCase):
     def test_rows(self):
         for document, asked, wanted in ROWS:
-            found = links(document, **asked)
+            found, given = links(document.encode(), **asked), document.encode()
             self.assertEqual([(it.kind, it.start, it.end, it.line, it.column, it.destination, it.title, it.definition) for it in found], wanted, document)
-            self.assertEqual(links(document.encode(), **asked), found)
             self.assertTrue(all(type(it) is Address for it in found))
+            # In a `str` all places are those of characters.
+            places = [[len(given[first:at].decode()) for first, at in ((0, it.start), (0, it.end), (it.start - it.column + 1, it.start))] for it in found]
+            self.assertEqual(links(document, **asked), [it._replace(start=start, end=end, column=before + 1) for it, (start, end, before) in zip(found, places)])
+
+    def test_places_of_a_str(self):
+        (found,), document = links('é😀\t[a](b)'), 'é😀\t[a](b)'
+        self.assertEqual((found.line, found.column, document[found.start:found.end]), (1, 4, '[a](b)'))
 
     def test_contents(self):
         document = '[a](b)\n\n[c](d) [e](f)\n'
@@ -49,7 +54,7 @@ class Links(unittest.TestCase):
     def test_what_is_refused(self):
         for error, call in (
             (BlankLine, lambda: links('a\n\nb')), (NotUtf8, lambda: links(b'\xff')), (DefinitionError, lambda: links('a', definitions={b'\xff': 'a'})),
-            (TypeError, lambda: links('a', definitions=[('a', '/b')])), (ValueError, lambda: links('a', columns='words')), (TypeError, lambda: links('a', columns=1)),
+            (TypeError, lambda: links('a', definitions=[('a', '/b')])), (TypeError, lambda: links('a', columns='bytes')),
             (TypeError, lambda: links('a', options=COMMONMARK, gfm=True)), (TypeError, lambda: links(5)), (DefinitionError, lambda: links('a', definitions={'b': b'\xff'})),
         ):
             self.assertRaises(error, call)
@@ -58,7 +63,7 @@ class Links(unittest.TestCase):
         """Columns are counted on: what a link costs does not grow with the line in which it stands."""
         def seconds(count):
             begun = time.process_time()
-            self.assertEqual(links('é[a](b "c")' * count, columns='utf-16')[-1].column, 11 * count - 9)
+            self.assertEqual(links('é[a](b "c")' * count)[-1].column, 11 * count - 9)
             return time.process_time() - begun
 
         self.assertLess(min(seconds(8000) for _ in range(3)), 24 * min(seconds(1000) for _ in range(5)))

@@ -8,7 +8,8 @@ from unittest import mock
 from urllib.parse import quote
 
 import browser
-from markdown_inline import Kind, html, play, text
+from markdown_inline import play
+from markdown_inline.inline import Kind, html, text
 
 HOSTILE = [
     '<script>document.title = "run"</script>', '</iframe><script>top.document.title = "run"</script>', '<img src=x onerror="top.document.title = \'run\'">', '[a](javascript:top.document.title=1)',
@@ -87,7 +88,7 @@ class OnThePage(unittest.TestCase):
                         "const [label, to, title] = document.querySelectorAll('#definitions input'); label.value = 'C'; to.value = '/to'; title.value = 't'; document.getElementById('footnotes').value = 'e';"
                         "delete document.body.dataset.shown; title.dispatchEvent(new Event('input', {bubbles: true}))")
         self.page.wait('document.body.dataset.shown')
-        wanted = html('~a~ $b$ [c] <d> [^e] [f](g:h)', gfm=True, math=True, definitions={'C': ('/to', 't')}, footnotes=['e'], raw_html=True, any_link=True)
+        wanted = html('~a~ $b$ [c] <d> [^e] [f](g:h)', gfm=True, math=True, definitions={'C': ('/to', 't')}, footnotes=['e'], html='raw', any_link=True)
         self.assertEqual(self.page.value(SHOWN)['html'], wanted)
         self.assertEqual(self.page.value("document.querySelectorAll('#definitions input').length"), 6)
         # The link holds all of it.
@@ -113,7 +114,7 @@ class OnThePage(unittest.TestCase):
             self.page.value("document.getElementById('raw').checked = document.getElementById('any').checked = %s" % json.dumps(raw))
             for words in HOSTILE + [' '.join(HOSTILE)]:
                 shown = self.typed(words)
-                self.assertEqual((shown['marked'], shown['html']), (words, html(words, raw_html=raw, any_link=raw)))
+                self.assertEqual((shown['marked'], shown['html']), (words, html(words, html='raw' if raw else 'escape', any_link=raw)))
                 self.assertEqual(self.page.value("[document.title, document.querySelectorAll('script, iframe, img, b').length - document.querySelectorAll('#tree b, #path b').length, document.baseURI]"), [
                     'markdown_inline: try a paragraph', 3, self.url])
         time.sleep(0.3)

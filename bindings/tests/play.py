@@ -11,7 +11,8 @@ import sys
 import threading
 import unittest
 
-from markdown_inline import OPTIONS, html as html_of, play, text
+from markdown_inline import play
+from markdown_inline.inline import OPTIONS, html as html_of, text
 
 PROGRAM = [sys.executable, '-m', 'markdown_inline.play']
 USUAL = ['attention', 'autolink', 'character_escape', 'character_reference', 'code_text', 'hard_break_escape', 'hard_break_trailing', 'html_text', 'label_start_image',

@@ -8,7 +8,7 @@ import tempfile
 import unittest
 import unittest.mock
 
-from markdown_inline import Content, links
+from markdown_inline.inline import Content, links
 
 sys.path.insert(0, os.path.join(os.path.dirname(os.path.abspath(__file__)), '../../tools/checks'))
 import rows

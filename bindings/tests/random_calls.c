@@ -124,7 +124,8 @@ static const char *const PARTS[] = {"a", "bc", "\xc3\xa9", "\xe6\xbc\xa2", "\xf0
     "\\*", "\\\n", "  \n", "\n", "\n", "\r\n", "\r", "*a*", "**b**", "_c_ ", "~d~", "`e f`", "$g$", "word ", "[d](\\*e&amp;f 'g\\*h&lt;')",
     "[a][b\\*c]", "[d](e \"f\ng\")", "[d](e (f\r\n&amp;g))", "[a]", "[D]", "![a]", "[x][d]", "[a [d] c][B  c]", "[^a]", "[^d]", "b[^a]", "[^d][^A]", "[^a]*"};
 static const char *const BROKEN[] = {"\x80", "\xc3", "\xc0\x80", "\xed\xa0\x80", "\xf4\x90\x80\x80", "\xf8", "\xe6\xbc", "\xf0\x9f\x98", "\xff"};
-static const char *const PREFIXES[] = {"", "> ", ">", "   ", "- ", "\t", " \t", ">\t"};
+static const char *const PREFIXES[] = {"", "> ", ">", "   ", "- ", "\t", " \t", ">\t", "# ", "$$"};
+static const char *const MATTERS[] = {"---\na: b\n---\n", "+++\r\n[a]: /b\r\n\r\n+++ \r\n", "\xef\xbb\xbf---\n---\n", "---\n", "---\na\n+++\n"};
 static const char *const LABELS[] = {"a", "b c", "d", " A ", "\xc3\xa9", "/u", "javascript:x", "&<\">", ""};
 
 static size_t append(uint8_t *bytes, size_t len, const char *text) {
@@ -137,11 +138,12 @@ static size_t append(uint8_t *bytes, size_t len, const char *text) {
 /* A number near others, or one that is far off. */
 static size_t number_to(size_t most) { return one_in(5) ? SIZE_MAX - below(2) : below(most + 2); }
 
-/* A document of lines, with pieces behind prefixes, of which one may begin within a tab; or one piece. */
+/* A document of lines, with pieces behind prefixes, of which one may begin within a tab; or one piece. Some begin with front matter, or with what is none. */
 static void draw_document(drawn *it) {
     int has_prefixes = one_in(2);
     it->bytes_len = it->pieces_len = 0;
     if (one_in(30)) return;
+    if (one_in(16)) it->bytes_len = append(it->bytes, 0, MATTERS[below(sizeof MATTERS / sizeof *MATTERS)]);
     for (size_t lines = 1 + below(4); lines > 0 && it->pieces_len < PIECES; lines--) {
         const char *prefix = has_prefixes ? PREFIXES[below(sizeof PREFIXES / sizeof *PREFIXES)] : "";
         markdown_inline_piece *piece = &it->pieces[it->pieces_len++];
@@ -234,7 +236,8 @@ static void draw_asked(drawn *it) {
     memset(&it->asked, 0, sizeof it->asked);
     it->asked.options = one_in(3) ? 0 : it->options & ~(uint32_t)(one_in(60) ? 0 : MARKDOWN_INLINE_OPTION_FIRST_OF_ITEM | MARKDOWN_INLINE_OPTION_GFM_LABEL_START_FOOTNOTE);
     it->asked.html = draw_html_options();
-    if (one_in(60)) it->asked.reserved[below(2)] = (uint32_t)draw();
+    it->asked.blocks = (uint32_t)below(4) | (one_in(40) ? 4u << below(30) : 0);
+    if (one_in(60)) it->asked.reserved = (uint32_t)draw();
     if (one_in(60)) it->asked.reserved_words[below(13)] = one_in(2) ? 1 : (size_t)draw();
 }
 
@@ -399,10 +402,15 @@ static int are_html_options(const drawn *it) {
     return is_html_option(it->html_options);
 }
 
+static int are_known_blocks(uint32_t blocks) { return !(blocks & ~(uint32_t)(MARKDOWN_INLINE_BLOCKS_MATH | MARKDOWN_INLINE_BLOCKS_FRONT_MATTER)); }
+
+/* The status of a call for the blocks or the definitions of a document. */
+static uint32_t blocks_status(const drawn *it) { return are_known_blocks(it->asked.blocks) ? document_status(it) : (uint32_t)MARKDOWN_INLINE_UNKNOWN_OPTION; }
+
 static int are_asked(const markdown_inline_document_options *asked) {
     for (size_t at = 0; at < 13; at++)
         if (asked->reserved_words[at]) return 0;
-    return !asked->reserved[0] && !asked->reserved[1] && is_html_option(asked->html) && asked->options < 0x800000
+    return !asked->reserved && are_known_blocks(asked->blocks) && is_html_option(asked->html) && asked->options < 0x800000
         && !(asked->options & (MARKDOWN_INLINE_OPTION_FIRST_OF_ITEM | MARKDOWN_INLINE_OPTION_GFM_LABEL_START_FOOTNOTE));
 }
 
@@ -750,11 +758,22 @@ static int is_named(const drawn *it, markdown_inline_range range, const uint8_t 
     return status == MARKDOWN_INLINE_DONE && other_len == len && !memcmp(other, name, len);
 }
 
+/* Copies a label of the document: by CommonMark what its pieces have, and by the crate's rules also what stands between these. */
+static size_t label_of(const drawn *it, size_t start, size_t end, uint8_t *label) {
+    const int is_by_pieces = (it->options & MARKDOWN_INLINE_OPTION_STANDARD_RULES) != 0;
+    size_t len = 0, piece = 0;
+    for (size_t at = start; at < end; at++) {
+        while (piece < it->pieces_len && it->pieces[piece].end <= at) piece++;
+        if (!is_by_pieces || (piece < it->pieces_len && it->pieces[piece].start <= at)) label[len++] = it->bytes[at];
+    }
+    return len;
+}
+
 /* The number of the first of these labels that a label in the document names, or how many there are. */
 static size_t named_by(const drawn *it, size_t start, size_t end, const markdown_inline_range *ranges, size_t ranges_len) {
-    uint8_t name[4 * BYTES];
-    size_t len = 0, at = 0;
-    if (markdown_inline_identifier(it->bytes + start, end - start, name, sizeof name, &len) != MARKDOWN_INLINE_DONE) return ranges_len;
+    uint8_t label[BYTES], name[4 * BYTES];
+    size_t label_len = label_of(it, start, end, label), len = 0, at = 0;
+    if (markdown_inline_identifier(label, label_len, name, sizeof name, &len) != MARKDOWN_INLINE_DONE) return ranges_len;
     while (at < ranges_len && !is_named(it, ranges[at], name, len)) at++;
     return at;
 }
@@ -1100,7 +1119,7 @@ static void try_document_limit(const drawn *it) {
     drawn limited = *it;
     size_t brought = draw_references(&limited);
     call_name = NAMES[DOCUMENT_HTML];
-    limited.asked = (markdown_inline_document_options){0, limited.html_options & 3, {0}, 0, {0}};
+    limited.asked = (markdown_inline_document_options){0, limited.html_options & 3, it->asked.blocks & 3, 0, 0, {0}};
     lend_case(&limited);
     want("the limit of a document by default", called(DOCUMENT_HTML, &limited, sizeof found, 0) == MARKDOWN_INLINE_DONE);
     size_t len = found_len;
@@ -1224,7 +1243,7 @@ static uint32_t called_blocks(size_t room, size_t room_of_pieces, markdown_inlin
     markdown_inline_piece *pieces = (markdown_inline_piece *)lend_room(&of_more, room_of_pieces, sizeof *pieces);
     markdown_inline_blocks_count *own = (markdown_inline_blocks_count *)lend_room(&of_count, 1, sizeof *own);
     own->blocks = own->pieces = before;
-    uint32_t status = markdown_inline_blocks(input->bytes, input->bytes_len, blocks, room, pieces, room_of_pieces, own);
+    uint32_t status = markdown_inline_blocks(input->bytes, input->bytes_len, asked->blocks, blocks, room, pieces, room_of_pieces, own);
     size_t is_done = status == MARKDOWN_INLINE_DONE;
     look_at_status(BLOCKS, status, &own->blocks, before);
     *all = *own;
@@ -1244,31 +1263,45 @@ static size_t ends_from(size_t byte, size_t end) {
     return ends;
 }
 
+/* How often blocks of each kind have been found, and math. */
+static size_t kinds[MARKDOWN_INLINE_BLOCK_COUNT], many_math;
+
+/* A block has the kinds, the numbers and the markers that the header says. */
+static void look_at_block(const markdown_inline_block *it, int is_first) {
+    int is_item = it->kind == MARKDOWN_INLINE_BLOCK_ITEM, is_code = it->kind == MARKDOWN_INLINE_BLOCK_FENCED_CODE, is_math = is_code && it->marker == '$';
+    int is_ordered = is_item && (it->marker == '.' || it->marker == ')'), is_matter = it->kind == MARKDOWN_INLINE_BLOCK_FRONT_MATTER;
+    size_t last = it->kind == MARKDOWN_INLINE_BLOCK_HEADING ? 6 : it->kind == MARKDOWN_INLINE_BLOCK_HTML ? 7 : is_ordered ? 999999999 : 0;
+    want("a kind of block", it->kind < MARKDOWN_INLINE_BLOCK_COUNT && it->reserved == 0 && it->reserved_too == 0);
+    want("front matter is first, and asked for", !is_matter || (is_first && it->depth == 0 && asked->blocks & MARKDOWN_INLINE_BLOCKS_FRONT_MATTER));
+    want("math is asked for", !is_math || asked->blocks & MARKDOWN_INLINE_BLOCKS_MATH);
+    want("the number of a block", it->number <= last && (it->number > 0 || last != 6) && (it->number > 0 || last != 7));
+    want("the marker of a block", is_item || is_code ? it->marker && strchr(is_item ? "-+*.)" : "`~$", it->marker) : it->marker == 0);
+    want("an item stands in a list", is_item ? it->list < 8 : it->list == 0);
+    want("code has an info string", !is_code || it->pieces.end > it->pieces.start);
+    if (faults > 0) return;
+    kinds[it->kind]++;
+    many_math += is_math;
+}
+
 /* Blocks stand one deeper behind what holds them, begin on a line and not before the block before them, their pieces follow one another, and texts are texts. */
 static void look_at_blocks(markdown_inline_blocks_count all) {
     size_t deepest = 0, pieces = 0, line = 1, byte = 0, line_of_byte = 1;
     for (size_t at = 0; at < all.blocks; at++) {
         const markdown_inline_block *it = &found_blocks[at];
-        int is_heading = it->kind == MARKDOWN_INLINE_BLOCK_HEADING, is_item = it->kind == MARKDOWN_INLINE_BLOCK_ITEM, is_code = it->kind == MARKDOWN_INLINE_BLOCK_FENCED_CODE;
-        int is_text = is_heading || it->kind == MARKDOWN_INLINE_BLOCK_PARAGRAPH, is_ordered = is_item && (it->marker == '.' || it->marker == ')');
-        size_t last = is_heading ? 6 : it->kind == MARKDOWN_INLINE_BLOCK_HTML ? 7 : is_ordered ? 999999999 : 0;
-        want("a kind of block", it->kind < MARKDOWN_INLINE_BLOCK_COUNT && it->reserved == 0 && it->reserved_too == 0);
+        int is_text = it->kind == MARKDOWN_INLINE_BLOCK_HEADING || it->kind == MARKDOWN_INLINE_BLOCK_PARAGRAPH, is_matter = it->kind == MARKDOWN_INLINE_BLOCK_FRONT_MATTER;
+        look_at_block(it, at == 0);
         want("a block is at most one deeper", it->depth <= deepest);
         want("pieces of blocks follow one another", it->pieces.start == pieces && it->pieces.end >= pieces && it->pieces.end <= all.pieces);
-        want("the number of a block", it->number <= last && (it->number > 0 || last != 6) && (it->number > 0 || last != 7));
-        want("the marker of a block", is_item ? strchr("-+*.)", it->marker) != NULL : is_code ? it->marker == '`' || it->marker == '~' : it->marker == 0);
-        want("an item stands in a list", is_item ? it->list < 8 : it->list == 0);
-        want("code has an info string", !is_code || it->pieces.end > it->pieces.start);
         want("the line of a block", at == 0 ? it->line == 1 : it->line >= line);
         if (faults > 0) return;
         want("a text of a document", !is_text || markdown_inline_is_text(input->bytes, input->bytes_len, found_pieces + pieces, it->pieces.end - pieces) == MARKDOWN_INLINE_DONE);
         if (it->pieces.end > pieces) {
             line_of_byte += ends_from(byte, found_pieces[pieces].start);
             byte = found_pieces[pieces].start;
-            want("a text begins on its line, or behind it where definitions begin it", is_text ? line_of_byte >= it->line : line_of_byte == it->line);
+            want("a text begins on its line, or behind it where definitions begin it", is_text ? line_of_byte >= it->line : line_of_byte == it->line + is_matter);
         }
         line = it->line;
-        deepest = it->depth + (it->kind >= MARKDOWN_INLINE_BLOCK_QUOTE);
+        deepest = it->depth + (it->kind == MARKDOWN_INLINE_BLOCK_QUOTE || it->kind == MARKDOWN_INLINE_BLOCK_ITEM);
         pieces = it->pieces.end;
     }
     want("each piece is of a block", pieces == all.pieces);
@@ -1280,7 +1313,7 @@ static void try_blocks(const drawn *it) {
     markdown_inline_blocks_count all, again;
     call_name = NAMES[BLOCKS];
     lend_case(it);
-    uint32_t wanted = document_status(it), status = called_blocks(0, 0, &all);
+    uint32_t wanted = blocks_status(it), status = called_blocks(0, 0, &all);
     if (wanted != MARKDOWN_INLINE_DONE) {
         want("the status of the model", status == wanted && called_blocks(below(64), below(64), &again) == wanted);
         return;
@@ -1309,7 +1342,7 @@ static uint32_t called_definitions(size_t room, size_t room_of_definitions, size
     markdown_inline_target *given = (markdown_inline_target *)lend_room(&of_more, room_of_targets, sizeof *given);
     markdown_inline_definitions_count *own = (markdown_inline_definitions_count *)lend_room(&of_count, 1, sizeof *own);
     own->definitions = own->labels = before;
-    uint32_t status = markdown_inline_definitions(input->bytes, input->bytes_len, labels, room, definitions, room_of_definitions, given, room_of_targets, own);
+    uint32_t status = markdown_inline_definitions(input->bytes, input->bytes_len, asked->blocks, labels, room, definitions, room_of_definitions, given, room_of_targets, own);
     size_t is_done = status == MARKDOWN_INLINE_DONE, many = is_done * own->definitions;
     look_at_status(DEFINITIONS, status, &own->definitions, before);
     *all = *own;
@@ -1344,7 +1377,7 @@ static void try_definitions(const drawn *all_drawn) {
         if (one_in(8)) it.bytes_len = append(it.bytes, it.bytes_len, BROKEN[below(sizeof BROKEN / sizeof *BROKEN)]);
     }
     lend_case(&it);
-    uint32_t wanted = document_status(&it), status = called_definitions(0, 0, 0, &all);
+    uint32_t wanted = blocks_status(&it), status = called_definitions(0, 0, 0, &all);
     if (wanted != MARKDOWN_INLINE_DONE) {
         want("the status of the model", status == wanted && called_definitions(below(64), below(8), below(8), &again) == wanted);
         return;
@@ -1432,6 +1465,8 @@ int main(int argc, char **argv) {
         want("each status comes often, and no other", is_drawn ? counts[status] >= FLOOR : counts[status] == 0);
     }
     for (size_t call = 0; most >= ENOUGH && faults == 0 && call <= DEFINITIONS; call++) want("each function is called often", functions[call] >= ENOUGH / 100);
+    for (size_t kind = 0; most >= ENOUGH && faults == 0 && kind < MARKDOWN_INLINE_BLOCK_COUNT; kind++) want("blocks of each kind are found often", kinds[kind] >= FLOOR);
+    want("math is found often", most < ENOUGH || faults > 0 || many_math >= FLOOR);
     want("documents have definitions", most < ENOUGH || faults > 0 || many_definitions >= FLOOR);
     want("references meet definitions and footnotes", most < 2 * ENOUGH || faults > 0 || (met_definitions >= FLOOR && met_footnotes >= FLOOR / 2));
     want("references stand for characters, and some for two", most < 2 * ENOUGH || faults > 0 || (met_characters >= FLOOR && met_pairs >= FLOOR / 2));

@@ -3,9 +3,12 @@ import { COMMONMARK, CRATE, GFM, MATH, OPTIONS } from './names.js';
 
 // Nothing is inherited here either: a name that is looked up is one of these or none.
 const SETS = { __proto__: null, commonmark: COMMONMARK, crate: CRATE };
-const OF_DOCUMENTS = { __proto__: null, strikethrough: OPTIONS.gfmStrikethrough, bareUrls: OPTIONS.gfmAutolinkLiteral, tasks: OPTIONS.gfmTaskListItem, math: OPTIONS.mathText };
+// What a document may be read with beside CommonMark: the options of its texts, and its blocks, as bits of markdown_inline.h.
+export const CONSTRUCTS = {
+  __proto__: null, strikethrough: [OPTIONS.gfmStrikethrough, 0], bareUrls: [OPTIONS.gfmAutolinkLiteral, 0], tasks: [OPTIONS.gfmTaskListItem, 0], math: [OPTIONS.mathText, 0x1], frontMatter: [0, 0x2],
+};
 const SWITCHES = { __proto__: null, gfm: GFM, math: MATH, task: OPTIONS.firstOfItem, ...OPTIONS };
-const RULES = ['rules', 'bits', ...Object.keys(SWITCHES)], PIECES = ['pieces', 'offsets'], LABELS = ['definitions', 'footnotes'], HTML = ['rawHtml', 'anyLink', 'lineEnds', 'referenceLimit'];
+const RULES = ['rules', 'bits', ...Object.keys(SWITCHES)], PIECES = ['pieces', 'offsets'], LABELS = ['definitions', 'footnotes'], WRITING = ['html', 'anyLink', 'lineEnds', 'limit'];
 export const encoder = new TextEncoder();
 
 /** Reads options that have one of these names: the caller's own properties. What a prototype has is no option, so whoever writes to `Object.prototype` changes
@@ -27,8 +30,8 @@ export function optionsBy(...names) {
 /** Reads the options of each call. */
 export const optionsOf = {
   text: optionsBy(...RULES, ...PIECES, ...LABELS), texts: optionsBy(...RULES, ...LABELS, 'offsets'), string: optionsBy(...RULES, ...PIECES), pieces: optionsBy(...PIECES),
-  html: optionsBy(...RULES, ...PIECES, ...LABELS, ...HTML), htmls: optionsBy(...RULES, ...LABELS, ...HTML, 'offsets'), links: optionsBy(...RULES, ...PIECES, ...LABELS, 'contents'),
-  document: optionsBy(...Object.keys(OF_DOCUMENTS), ...HTML), blocks: optionsBy(...RULES, ...HTML, 'footnotes'), strings: optionsBy(...RULES, 'offsets', 'lineFeeds', 'replacedNul'), lines: optionsBy('offsets'),
+  html: optionsBy(...RULES, ...PIECES, ...LABELS, ...WRITING), htmls: optionsBy(...RULES, ...LABELS, ...WRITING, 'offsets'), links: optionsBy(...RULES, ...PIECES, ...LABELS, 'contents'),
+  document: optionsBy(...Object.keys(CONSTRUCTS), ...WRITING), documentLinks: optionsBy(...Object.keys(CONSTRUCTS)), strings: optionsBy(...RULES, 'offsets', 'lineFeeds', 'replacedNul'), lines: optionsBy('offsets'),
   reference: optionsBy(...RULES), instance: optionsBy('maximum'),
 };
 
@@ -145,16 +148,20 @@ export function targetsOf(given) {
   return { labels: entries.map(([label]) => textOf(label, 'a label')), targets: entries.map(([, target]) => targetOf(target)) };
 }
 
-/** The bits of the constructs that a document is read with. */
-export const documentBitsOf = (options) => Object.keys(OF_DOCUMENTS).reduce((bits, name) => name in options && flag(options[name], name) ? bits | OF_DOCUMENTS[name] : bits, COMMONMARK);
+/** The bits of the constructs that a document is read with: those of its texts, and those of its blocks. */
+export function constructsOf(options) {
+  const added = Object.keys(CONSTRUCTS).filter((name) => name in options && flag(options[name], name)).map((name) => CONSTRUCTS[name]);
+  return { bits: added.reduce((all, [bits]) => all | bits, COMMONMARK), blocks: added.reduce((all, [, blocks]) => all | blocks, 0) };
+}
 
 const bitsOfFlags = (options, ...names) => names.reduce((bits, name, at) => bits | Number(name in options && flag(options[name], name)) << at, 0);
 
 /** What HTML may contain and how it is written, as bits. */
 export function shownOf(options) {
-  const { lineEnds } = options;
+  const { html = 'escape', lineEnds } = options;
+  if (html !== 'escape' && html !== 'raw') throw new RangeError("html is 'escape' or 'raw'");
   if (lineEnds !== undefined && lineEnds !== '\n' && lineEnds !== '\r\n') throw new RangeError("lineEnds is '\\n' or '\\r\\n'");
-  return bitsOfFlags(options, 'rawHtml', 'anyLink') | (lineEnds === '\n' ? 0x20 : lineEnds === '\r\n' ? 0x40 : 0);
+  return Number(html === 'raw') | bitsOfFlags(options, 'anyLink') << 1 | (lineEnds === '\n' ? 0x20 : lineEnds === '\r\n' ? 0x40 : 0);
 }
 
 /** How the texts of strings are written, as bits. */
@@ -162,8 +169,8 @@ export const writtenOf = (options) => bitsOfFlags(options, 'lineFeeds', 'replace
 
 /** How many bytes definitions may bring, as the library takes it: 0 is its default, and Infinity is no limit. */
 export function limitOf(options) {
-  const limit = options.referenceLimit;
+  const { limit } = options;
   if (limit === undefined) return 0;
-  if (limit !== Infinity && natural(limit, 'referenceLimit') === 0) throw new RangeError('referenceLimit is from 1 on, or Infinity');
+  if (limit !== Infinity && natural(limit, 'limit') === 0) throw new RangeError('limit is from 1 on, or Infinity');
   return limit;
 }

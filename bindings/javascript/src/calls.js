@@ -1,6 +1,6 @@
 // The calls of the library over one instance.
-import { bitsOf, contentsOf, documentBitsOf, isInBytes, labelsOf, limitOf, linesOf, natural, optionsOf, piecesOf, shownOf, stringsOf, targetsOf, textOf, writtenOf } from './arguments.js';
-import { BLOCK, Blocks, PIECE } from './blocks.js';
+import { bitsOf, constructsOf, contentsOf, isInBytes, labelsOf, limitOf, linesOf, natural, optionsOf, piecesOf, shownOf, stringsOf, targetsOf, textOf, writtenOf } from './arguments.js';
+import { BLOCK, Document, PIECE } from './document.js';
 import { MarkdownInlineError, NO_MEMORY } from './errors.js';
 import { Instance } from './instance.js';
 import { linksOf } from './links.js';
@@ -79,11 +79,11 @@ export function callsOf(module, settings) {
   const text = rowsOf('text', Events, EVENT, optionsOf.text, true);
   const shortTexts = rowsOfMany('short_texts', ShortEvents, SHORT_EVENT);
 
-  const documentHtml = (document, given) => {
-    const options = optionsOf.document(given), read = textOf(document), bits = documentBitsOf(options), shown = shownOf(options), limit = limitOf(options);
+  const render = (document, given) => {
+    const options = optionsOf.document(given), read = textOf(document), { bits, blocks } = constructsOf(options), shown = shownOf(options), limit = limitOf(options);
     return on.within(() => {
-      // The struct of options: two numbers of 32 bits, and then a limit among reserved words.
-      const text = on.put(read), asked = on.putNumbers([bits + shown * 2 ** 32, 0, limit, ...Array(13).fill(0)]);
+      // The struct of options: numbers of 32 bits, of which the fourth is reserved, then a limit and reserved words.
+      const text = on.put(read), asked = on.putNumbers([bits + shown * 2 ** 32, blocks, limit, ...Array(13).fill(0)]);
       const { at, many } = on.filled('document_html', [text.at, text.length, asked], 1, 2 * text.length + 64, true);
       return on.decoded(at, at + many);
     });
@@ -119,30 +119,40 @@ export function callsOf(module, settings) {
     });
   };
 
-  const definitionsOf = (read) => on.within(() => {
+  const definitionsOf = (read, blocks) => on.within(() => {
     const text = on.put(read), many = Math.floor(text.length / 64) + 16;
-    const [labels, ranges, targets] = on.filledEach('definitions', [text.at, text.length], [[1, 1, Math.floor(text.length / 4) + 1024], [16, 0, many], [40, 0, many]]);
+    const [labels, ranges, targets] = on.filledEach('definitions', [text.at, text.length, blocks], [[1, 1, Math.floor(text.length / 4) + 1024], [16, 0, many], [40, 0, many]]);
     const textAt = (words, place) => on.decoded(labels.at + words[place], labels.at + words[place + 2]), leads = on.copied(text, targets.at, targets.many, 40, []);
     return Array.from({ length: ranges.many }, (_, at) => ({
       label: textAt(on.copied(text, ranges.at + 16 * at, 1, 16, []), 0), destination: textAt(leads, 10 * at), title: leads[10 * at + 8] === 0 ? null : textAt(leads, 10 * at + 4),
     }));
   });
 
-  // What a document's blocks ask for, of all contents together.
-  const onBlocks = {
-    definitionsOf, strings, linksOf,
+  const decodedBy = (name, bits, given, what) => {
+    const read = textOf(given, what);
+    return on.within(() => {
+      const text = on.put(read), { at, many } = on.filled(name, [...bits, text.at, text.length], 1, 2 * text.length + 16);
+      return on.decoded(at, at + many);
+    });
+  };
+  const identifier = (label) => decodedBy('identifier', [], label, 'a label');
+  const reference = (given, options) => decodedBy('reference', [bitsOf(optionsOf.reference(options))], given, 'a reference');
+
+  // What a document asks for, of all contents together.
+  const onDocument = {
+    definitionsOf, strings, linksOf, reference, htmls,
     textsOf: (asked, contents) => manyRows('texts', Events, EVENT, asked, contents), shortTextsOf: (asked, contents) => manyRows('short_texts', ShortEvents, SHORT_EVENT, asked, contents),
     htmlsOf: manyHtmls,
   };
 
-  const blocks = (document, given) => {
+  const parse = (document, given) => {
     // What the caller does with bytes later changes nothing.
-    const options = optionsOf.blocks(given), read = typeof textOf(document) === 'string' ? document : new Uint8Array(document);
-    const asked = { bits: bitsOf(options), footnotes: labelsOf(options.footnotes, 'footnotes'), shown: shownOf(options), limit: limitOf(options) };
+    const options = optionsOf.document(given), read = typeof textOf(document) === 'string' ? document : new Uint8Array(document);
+    const asked = { ...constructsOf(options), shown: shownOf(options), limit: limitOf(options) };
     return on.within(() => {
       const text = on.put(read), many = Math.floor(text.length / 16) + 64;
-      const [rows, pieces] = on.filledEach('blocks', [text.at, text.length], [[BLOCK, 0, many], [PIECE, 1, many]]);
-      return new Blocks(onBlocks, read, asked, on.copied(text, rows.at, rows.many, BLOCK, []), on.copied(text, pieces.at, pieces.many, PIECE, [[0], [16]]), Number(text.isWide));
+      const [rows, pieces] = on.filledEach('blocks', [text.at, text.length, asked.blocks], [[BLOCK, 0, many], [PIECE, 1, many]]);
+      return new Document(onDocument, read, asked, on.copied(text, rows.at, rows.many, BLOCK, []), on.copied(text, pieces.at, pieces.many, PIECE, [[0], [16]]), Number(text.isWide));
     });
   };
 
@@ -165,14 +175,6 @@ export function callsOf(module, settings) {
     return linksOf(read, shortTexts(read, contents, asked), targets, (parts) => strings(read, parts, { bits, offsets: 'bytes' }));
   };
 
-  const decodedBy = (name, bits, given, what) => {
-    const read = textOf(given, what);
-    return on.within(() => {
-      const text = on.put(read), { at, many } = on.filled(name, [...bits, text.at, text.length], 1, 2 * text.length + 16);
-      return on.decoded(at, at + many);
-    });
-  };
-
   const holds = (name) => (document, given) => {
     const options = optionsOf.pieces(given), asked = askedOf(document, options, piecesOf(options), { labels: [], targets: null });
     return on.within(() => {
@@ -182,11 +184,10 @@ export function callsOf(module, settings) {
     });
   };
 
-  return {
+  const inline = {
     text, string: rowsOf('string', Events, EVENT, optionsOf.string, false), leaves: rowsOf('leaves', Leaves, LEAF, optionsOf.text, true), tree: (document, options) => treeOf(text(document, options)),
-    texts: rowsOfMany('texts', Events, EVENT), shortTexts, documentHtml, blocks, html, htmls, strings, piecesOfLines, isText: holds('is_text'), isContent: holds('is_content'),
-    identifier: (label) => decodedBy('identifier', [], label, 'a label'),
-    reference: (reference, options) => decodedBy('reference', [bitsOf(optionsOf.reference(options))], reference, 'a reference'),
-    links,
+    texts: rowsOfMany('texts', Events, EVENT), shortTexts, html, htmls, strings, piecesOfLines, isText: holds('is_text'), isContent: holds('is_content'),
+    identifier, reference, links,
   };
+  return { render, parse, links: (document, given) => parse(document, optionsOf.documentLinks(given)).links, inline };
 }

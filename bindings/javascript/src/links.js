@@ -1,5 +1,6 @@
 // The links, images, autolinks and literals of a document, and where each leads.
 import { encoder } from './arguments.js';
+import { countUpTo, lineStarts } from './lines.js';
 
 const KINDS = {
   __proto__: null, Link: 'link', Image: 'image', Autolink: 'autolink', GfmAutolinkLiteralEmail: 'literal', GfmAutolinkLiteralMailto: 'literal', GfmAutolinkLiteralProtocol: 'literal',
@@ -38,27 +39,6 @@ function foundIn(events, content, found, strings) {
     }
     if (!enter && name in KINDS) Object.assign(opened.pop(), { endOffset: offset, endByte: byte });
   }
-}
-
-/** The numbers of the first unit of each line of a document. */
-export function lineStarts(document) {
-  const starts = [0], isAt = typeof document === 'string' ? (at) => document.charCodeAt(at) : (at) => document[at];
-  for (let at = 0; at < document.length; at++) {
-    const unit = isAt(at);
-    if (unit === 10 || (unit === 13 && isAt(at + 1) !== 10)) starts.push(at + 1);
-  }
-  return starts;
-}
-
-/** How many of the numbers are at most this one. */
-export function countUpTo(numbers, most) {
-  let low = 0, high = numbers.length;
-  while (low < high) {
-    const middle = (low + high) >> 1;
-    if (numbers[middle] <= most) low = middle + 1;
-    else high = middle;
-  }
-  return low;
 }
 
 /** All that leads somewhere, in the order in which it begins in its content: by the short events of contents, the targets of definitions, and what resolves

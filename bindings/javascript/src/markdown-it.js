@@ -9,7 +9,8 @@
 // as ever. The links of the document are those of its references, and `validateLink`, `normalizeLink` and `normalizeLinkText` are asked as ever. A content
 // that the library cannot read as markdown-it would is read by markdown-it's own parser.
 import { optionsBy } from './arguments.js';
-import { MarkdownInlineError, NAMES, OPTIONS, shortTexts } from './index.js';
+import { MarkdownInlineError } from './errors.js';
+import { NAMES, OPTIONS, shortTexts } from './inline.js';
 
 // What each rule of markdown-it's inline parser reads. The others have no bit: they read what is always read, or join what the rules have read.
 const BITS = {

@@ -7,8 +7,9 @@ import { fileURLToPath } from 'node:url';
 import { callsOf } from '../../out/javascript/calls.js';
 import * as inside from '../../out/javascript/one.js';
 import * as markdownInline from '../../out/javascript/index.js';
+import { COMMONMARK, GFM, html, htmls, identifier, isContent, isText, leaves, links, piecesOfLines, reference, shortTexts, string, strings, text, texts, tree } from '../../out/javascript/inline.js';
 
-const { COMMONMARK, GFM, MarkdownInlineError, blocks, create, documentHtml, html, htmls, identifier, isContent, isText, leaves, links, piecesOfLines, reference, shortTexts, string, strings, text, texts, tree } = markdownInline;
+const { MarkdownInlineError, create, parse, render, toHtml } = markdownInline;
 const beside = (name) => fileURLToPath(new URL(name, import.meta.url));
 const has = (command) => spawnSync(command, ['--version']).status === 0;
 const bytesOf = (given) => new TextEncoder().encode(given);
@@ -49,23 +50,23 @@ test('examples of CommonMark', { skip: !has('python3') }, () => {
       if (name === 'define' && !definitions.has(value)) definitions.set(value, target);
       if (name !== 'define') target[name === 'to' ? 'destination' : 'title'] = value;
     }
-    assert.equal(html(given, { definitions, rawHtml: true, anyLink: true }), wanted, given);
-    assert.equal(html(bytesOf(given), { definitions, rawHtml: true, anyLink: true }), wanted, given);
+    assert.equal(html(given, { definitions, html: 'raw', anyLink: true }), wanted, given);
+    assert.equal(html(bytesOf(given), { definitions, html: 'raw', anyLink: true }), wanted, given);
   }
 });
 
 test('documents of CommonMark', { skip: !has('python3') }, () => {
   const rows = rowsBy('pages');
   assert.ok(rows.length >= 652);
-  const read = { strikethrough: 'strikethrough', bare_urls: 'bareUrls', tasks: 'tasks', math: 'math' };
-  assert.ok(rows.filter(([words]) => words.some((it) => it in read)).length >= 20);
+  const read = { strikethrough: 'strikethrough', bare_urls: 'bareUrls', tasks: 'tasks', math: 'math', front_matter: 'frontMatter' };
+  for (const [word, least] of [['strikethrough', 4], ['bare_urls', 8], ['tasks', 20], ['math', 20], ['front_matter', 20]]) assert.ok(rows.filter(([words]) => words.includes(word)).length >= least, word);
   for (const [words, document, wanted] of rows) {
-    const held = words.includes('safe') ? {} : { rawHtml: true, anyLink: true };
+    const held = words.includes('safe') ? {} : { html: 'raw', anyLink: true };
     for (const word of words) {
       if (word in read) held[read[word]] = true;
       else if (word !== 'safe') held.lineEnds = { lf: '\n', crlf: '\r\n' }[word];
     }
-    for (const given of [document, bytesOf(document)]) assert.equal(documentHtml(given, held), wanted, document);
+    for (const given of [document, bytesOf(document)]) assert.equal(render(given, held), wanted, document);
   }
 });
 
@@ -76,8 +77,8 @@ test('types', { skip: !has('tsc') }, () => {
 
 test('each error comes', () => {
   for (const call of [(options) => text('a', options), (options) => string('a', options), (options) => reference('&amp;', options)]) refuses('UNKNOWN_OPTION', () => call({ bits: 2 ** 31 }));
-  for (const call of [text, string, leaves, html, documentHtml, blocks, identifier, links]) refuses('NOT_UTF8', () => call(WRONG), call === links || call === documentHtml ? 0 : null);
-  refuses('NOT_UTF8', () => documentHtml(Uint8Array.of(0x61, 0x0a, 0xe2, 0x82)), 2);
+  for (const call of [text, string, leaves, html, render, parse, identifier, links]) refuses('NOT_UTF8', () => call(WRONG), call === links || call === render ? 0 : null);
+  refuses('NOT_UTF8', () => render(Uint8Array.of(0x61, 0x0a, 0xe2, 0x82)), 2);
   refuses('NOT_UTF8', () => htmls(Uint8Array.of(0x61, 0xe2, 0x82), []), 1);
   for (const call of [text, leaves, html, links]) for (const given of ['a\n\nb', 'a\n']) refuses('BLANK_LINE', () => call(given), call === links ? 0 : null);
   for (const pieces of [[[0, 9]], [[1, 0]], [[0, 2 ** 40]]]) for (const call of [text, string, leaves, html]) refuses('NO_CONTENT', () => call('a', { pieces }));
@@ -88,7 +89,7 @@ test('each error comes', () => {
   refuses('BLANK_LINE', () => shortTexts('a\n', [[0, 0], [0, 1], [0, 2]]), 2);
   refuses('NO_STRING', () => strings('a', [[[0, 1]], [[0, 2]]]), 1);
   for (const given of ['&nothing;', '', ' &amp;', '&amp', WRONG]) refuses('NO_REFERENCE', () => reference(given));
-  refuses('REFERENCES', () => htmls('[a]', [[0, 3]], { definitions: { a: 'bc' }, referenceLimit: 1 }), 0);
+  refuses('REFERENCES', () => htmls('[a]', [[0, 3]], { definitions: { a: 'bc' }, limit: 1 }), 0);
 });
 
 test('what is no argument is named', () => {
@@ -99,10 +100,10 @@ test('what is no argument is named', () => {
     [/the end of a piece/, () => text('a', { pieces: [[0]] })], [/whole number/, () => text('a', { pieces: [[0, 0.5]] })], [/pieces is a list/, () => text('a', { pieces: 'a' })],
     [/a piece/, () => text('a', { pieces: [null] })], [/contents is a list/, () => texts('a')], [/of a content/, () => texts('a', [{}])], [/firstOfItem/, () => texts('a', [{ pieces: [], firstOfItem: 1 }])],
     [/definitions/, () => text('a', { definitions: 'b' })], [/a label/, () => text('a', { definitions: [1] })], [/definitions/, () => html('a', { definitions: ['b'] })],
-    [/a destination/, () => html('a', { definitions: { b: null } })], [/a title/, () => html('a', { definitions: { b: ['c', 1] } })], [/rawHtml/, () => html('a', { rawHtml: 'no' })],
-    [/Uint8Array/, () => documentHtml(1)], ...['\r', 10, null, ''].map((lineEnds) => [/lineEnds is/, () => documentHtml('a', { lineEnds })]), [/tasks is/, () => documentHtml('a', { tasks: 1 })], [/name gfm/, () => documentHtml('a', { gfm: true })], [/anyLink/, () => documentHtml('a', { anyLink: 1 })],
-    [/referenceLimit/, () => documentHtml('a', { referenceLimit: 0 })], [/Uint8Array/, () => blocks(1)], [/name gfn/, () => blocks('a', { gfn: true })], [/rawHtml/, () => blocks('a', { rawHtml: 1 })],
-    [/referenceLimit/, () => html('a', { referenceLimit: 0 })], [/strings is a list/, () => strings('a', 'b')], [/paragraphs is a list/, () => piecesOfLines('a', 1)], [/a paragraph is a list/, () => piecesOfLines('a', [0])], [/the start of a line/, () => piecesOfLines('a', [['0']])], [/a part/, () => strings('a', [[['0', 1]]])],
+    [/a destination/, () => html('a', { definitions: { b: null } })], [/a title/, () => html('a', { definitions: { b: ['c', 1] } })], ...['no', true, null].map((wrong) => [/html is/, () => html('a', { html: wrong })]),
+    [/Uint8Array/, () => render(1)], ...['\r', 10, null, ''].map((lineEnds) => [/lineEnds is/, () => render('a', { lineEnds })]), [/tasks is/, () => render('a', { tasks: 1 })], [/math is/, () => render('a', { math: 3 })], [/frontMatter is/, () => parse('a', { frontMatter: 'yaml' })], [/name front_matter/, () => render('a', { front_matter: true })], [/name gfm/, () => render('a', { gfm: true })], [/anyLink/, () => render('a', { anyLink: 1 })],
+    [/limit/, () => render('a', { limit: 0 })], [/Uint8Array/, () => parse(1)], [/name gfm/, () => parse('a', { gfm: true })], [/html is/, () => parse('a', { html: 1 })], [/html is/, () => render('a', { html: 'Raw' })], [/name html/, () => markdownInline.links('a', { html: 'raw' })],
+    [/limit/, () => html('a', { limit: 0 })], [/strings is a list/, () => strings('a', 'b')], [/paragraphs is a list/, () => piecesOfLines('a', 1)], [/a paragraph is a list/, () => piecesOfLines('a', [0])], [/the start of a line/, () => piecesOfLines('a', [['0']])], [/a part/, () => strings('a', [[['0', 1]]])],
   ]) assert.throws(call, (it) => (it instanceof TypeError || it instanceof RangeError) && error.test(it.message), String(error));
 });
 
@@ -118,19 +119,20 @@ const outcomeOf = (call) => {
 test('what a prototype has is no option', () => {
   const rowsOf = (rows) => Array.from(rows, ({ name, offset, vs }) => [name, offset, vs]), limited = '[a] [a]\n\n[a]: /b', definitions = { a: '/b' }, dangerous = '<b> [a](b:c)';
   for (const [name, value, ...calls] of [
-    ['rawHtml', true, (it) => documentHtml(dangerous, it), (it) => html(dangerous, it), (it) => htmls(dangerous, [[0, 12]], it), (it) => blocks(dangerous, it).htmls],
-    ['anyLink', true, (it) => documentHtml(dangerous, it), (it) => html(dangerous, it), (it) => htmls(dangerous, [[0, 12]], it), (it) => blocks(dangerous, it).htmls],
-    ['lineEnds', '\n', (it) => documentHtml('a\rb', it), (it) => html('a\rb', it), (it) => htmls('a\rb', [[0, 3]], it), (it) => blocks('a\rb', it).htmls],
-    ['strikethrough', true, (it) => documentHtml('~a~', it)], ['bareUrls', true, (it) => documentHtml('a@b.c', it)], ['tasks', true, (it) => documentHtml('- [x] a', it)],
-    ['referenceLimit', 1, (it) => documentHtml(limited, it), (it) => html('[a]', { definitions, ...it }), (it) => htmls('[a]', [[0, 3]], { definitions, ...it }), (it) => blocks(limited, it).htmls],
-    ['rules', 'crate', (it) => html('a*_b_*', it), (it) => rowsOf(string('&check;', it)), (it) => strings('&check;', [[[0, 7]]], it), (it) => reference('&check;', it), (it) => blocks('&check;', it).htmls],
+    ['html', 'raw', (it) => render(dangerous, it), (it) => html(dangerous, it), (it) => htmls(dangerous, [[0, 12]], it), (it) => parse(dangerous, it).htmls],
+    ['anyLink', true, (it) => render(dangerous, it), (it) => html(dangerous, it), (it) => htmls(dangerous, [[0, 12]], it), (it) => parse(dangerous, it).htmls],
+    ['lineEnds', '\n', (it) => render('a\rb', it), (it) => html('a\rb', it), (it) => htmls('a\rb', [[0, 3]], it), (it) => parse('a\rb', it).htmls],
+    ['strikethrough', true, (it) => render('~a~', it), (it) => parse('~a~', it).htmls], ['bareUrls', true, (it) => render('a@b.c', it), (it) => markdownInline.links('a@b.c', it)],
+    ['frontMatter', true, (it) => render('---\n---', it), (it) => parse('---\n---', it).frontMatter, (it) => markdownInline.links('+++\n[a](b)\n+++', it)], ['tasks', true, (it) => render('- [x] a', it)],
+    ['limit', 1, (it) => render(limited, it), (it) => html('[a]', { definitions, ...it }), (it) => htmls('[a]', [[0, 3]], { definitions, ...it }), (it) => parse(limited, it).htmls],
+    ['rules', 'crate', (it) => html('a*_b_*', it), (it) => rowsOf(string('&check;', it)), (it) => strings('&check;', [[[0, 7]]], it), (it) => reference('&check;', it)],
     ['bits', 0, (it) => html('*a*', it), (it) => rowsOf(text('*a*', it)), (it) => rowsOf(leaves('*a*', it)), (it) => links('[a](b)', it), (it) => tree('*a* b', it).children.length],
-    ['gfm', true, (it) => html('~a~', it), (it) => rowsOf(text('~a~', it)), (it) => blocks('~a~', it).htmls],
-    ['math', true, (it) => html('$a$', it), (it) => documentHtml('$a$', it)], ['task', true, (it) => html('[x] a', { gfm: true, ...it })], ['codeText', false, (it) => html('`a`', it)],
+    ['gfm', true, (it) => html('~a~', it), (it) => rowsOf(text('~a~', it))],
+    ['math', true, (it) => html('$a$', it), (it) => render('$a$', it), (it) => render('$$\na', it), (it) => markdownInline.links('$$\n[a](b)', it)], ['task', true, (it) => html('[x] a', { gfm: true, ...it })], ['codeText', false, (it) => html('`a`', it)],
     ['pieces', [[3, 4]], (it) => html('a\nbc', it), (it) => rowsOf(string('a\nbc', it)), (it) => isText('a\n\nb', it), (it) => isContent('a', it), (it) => links('[a](b) c', it)],
     ['offsets', 'bytes', (it) => html('éa', { pieces: [[0, 2]], ...it }), (it) => rowsOf(texts('éa', [[0, 2]], it).at(0)), (it) => strings('éa', [[[0, 2]]], it), (it) => piecesOfLines('é\na', [[0, 2]], it)],
     ['contents', [[0, 1]], (it) => links('a[b](c)', it)], ['definitions', { a: '/c' }, (it) => html('[a]', it), (it) => links('[a]', it), (it) => shortTexts('[a]', [[0, 3]], it).at(0).length],
-    ['footnotes', ['a'], (it) => html('[^a]', { gfm: true, ...it }), (it) => blocks('[^a]', { gfm: true, ...it }).htmls], ['maximum', 1, (it) => create(it).html('*a*'.repeat(99999))],
+    ['footnotes', ['a'], (it) => html('[^a]', { gfm: true, ...it })], ['maximum', 1, (it) => create(it).inline.html('*a*'.repeat(99999))],
     ['lineFeeds', true, (it) => strings('a\r', [[[0, 2]]], it)], ['replacedNul', true, (it) => strings('\0', [[[0, 1]]], it)],
     // The fields of what is no options object.
     ['firstOfItem', true, (it) => texts('[x] a', [{ pieces: [[0, 5]], ...it }], { gfm: true }).at(0).length], ['title', 'c', (it) => html('[a]', { definitions: { a: { destination: '/b', ...it } } })],
@@ -164,16 +166,16 @@ test('what a prototype has is no option', () => {
 
 test('options are an object', () => {
   const calls = [
-    documentHtml, blocks, html, links, text, tree, string, leaves, isText, isContent, ...[texts, shortTexts, htmls, strings, piecesOfLines].map((it) => (document, options) => it(document, [], options)),
+    render, parse, markdownInline.links, html, links, text, tree, string, leaves, isText, isContent, ...[texts, shortTexts, htmls, strings, piecesOfLines].map((it) => (document, options) => it(document, [], options)),
     (_, options) => reference('&amp;', options), (_, options) => create(options),
   ];
   for (const call of calls) {
-    for (const wrong of [1, 0, 'a', '', true, null, [], ['rawHtml'], Symbol('a'), () => {}, new Map([['rawHtml', true]]), new Uint8Array()]) assert.throws(() => call('a', wrong), { name: 'TypeError', message: /options/ }, String(call));
+    for (const wrong of [1, 0, 'a', '', true, null, [], ['html'], Symbol('a'), () => {}, new Map([['html', 'raw']]), new Uint8Array()]) assert.throws(() => call('a', wrong), { name: 'TypeError', message: /options/ }, String(call));
     for (const name of ['nonsense', 'constructor', 'toString', '__proto__']) assert.throws(() => call('a', Object.defineProperty({}, name, { value: true, enumerable: true })), { name: 'TypeError', message: new RegExp(name) });
     call('a', { nonsense: undefined });
   }
   // Options of another call.
-  for (const call of [() => text('a', { rawHtml: true }), () => documentHtml('a', { pieces: null }), () => strings('a', [], { pieces: null }), () => isText('a', { gfm: true }), () => html('a', { lineFeeds: true })]) assert.throws(call, TypeError);
+  for (const call of [() => text('a', { html: 'raw' }), () => render('a', { pieces: null }), () => strings('a', [], { pieces: null }), () => isText('a', { gfm: true }), () => html('a', { lineFeeds: true })]) assert.throws(call, TypeError);
   for (const rules of ['constructor', 'toString', '__proto__']) assert.throws(() => text('a', { rules }), RangeError);
 });
 
@@ -272,13 +274,16 @@ test('a tree', () => {
 
 test('the package in one file', () => {
   const given = 'é *a* **b _c_** [d ![e](f)](g "h\ni") `j` <kk:l> &amp; \\* 😀 [m][n]  \no', definitions = { n: ['/p', 'q'] };
-  assert.deepEqual(Object.keys(inside), Object.keys(markdownInline));
+  assert.deepEqual([inside, inside.inline].map((it) => Object.keys(it).sort()), [markdownInline, markdownInline.inline].map((it) => Object.keys(it)));
+  for (const call of [
+    (on) => on.render(given), (on) => Array.from(on.parse(given), (it) => [{ ...it }, [...it.events], it.html]), (on) => on.links(given), (on) => on.create({ maximum: 1 << 20 }).render(given),
+  ]) assert.deepEqual(call(inside), call(markdownInline), String(call));
   for (const call of [
     (on) => [...on.text(given, { definitions })], (on) => [...on.string(given)], (on) => [...on.leaves(given, { definitions })], (on) => [...on.tree(given).walk()].map((it) => [it.name, it.text]),
     (on) => Array.from(on.texts(given, [[0, 5]]), (it) => [...it]), (on) => Array.from(on.shortTexts(given, [[0, 5], [6, 20]], { definitions }), (it) => [...it]),
-    (on) => on.documentHtml(given), (on) => Array.from(on.blocks(given), (it) => [{ ...it }, [...it.events], it.html]), (on) => on.html(given, { definitions }), (on) => on.htmls(given, [[0, 5], [6, 20]]), (on) => on.strings(given, [[[0, 5]]]), (on) => on.piecesOfLines(given, [[0]]), (on) => on.identifier(given), (on) => on.reference('&check;'),
-    (on) => on.isText(given), (on) => on.isContent(given), (on) => on.links(given, { definitions }), (on) => on.create({ maximum: 1 << 20 }).html(given), (on) => [on.NAMES, on.OPTIONS, on.GFM],
-  ]) assert.deepEqual(call(inside), call(markdownInline), String(call));
+    (on) => on.html(given, { definitions }), (on) => on.htmls(given, [[0, 5], [6, 20]]), (on) => on.strings(given, [[[0, 5]]]), (on) => on.piecesOfLines(given, [[0]]), (on) => on.identifier(given), (on) => on.reference('&check;'),
+    (on) => on.isText(given), (on) => on.isContent(given), (on) => on.links(given, { definitions }), (on) => [on.NAMES, on.OPTIONS, on.GFM],
+  ]) assert.deepEqual(call(inside.inline), call(markdownInline.inline), String(call));
 });
 
 test('documents have HTML', () => {
@@ -287,27 +292,29 @@ test('documents have HTML', () => {
   for (const [document, options, wanted] of [
     ['- foo\n\n\t\tbar\n', undefined, '<ul>\n<li>\n<p>foo</p>\n<pre><code>  bar\n</code></pre>\n</li>\n</ul>\n'], ['', {}, ''],
     ['[foo]: /url "title"\n\n[foo]\n', undefined, '<p><a href="/url" title="title">foo</a></p>\n'], ['> # Foo\n> bar\n> baz\n', {}, '<blockquote>\n<h1>Foo</h1>\n<p>bar\nbaz</p>\n</blockquote>\n'],
-    [div, { rawHtml: true, anyLink: undefined }, div], [given, {}, '&lt;b&gt;\n<p><a href="">a</a></p>\n'], [given, { rawHtml: true }, '<b>\n<p><a href="">a</a></p>\n'],
-    [given, { anyLink: true }, '&lt;b&gt;\n<p><a href="b:c">a</a></p>\n'], [given, { rawHtml: true, anyLink: true }, '<b>\n<p><a href="b:c">a</a></p>\n'],
-  ]) for (const it of [document, bytesOf(document)]) assert.equal(documentHtml(it, options), wanted);
+    [div, { html: 'raw', anyLink: undefined }, div], [given, {}, '&lt;b&gt;\n<p><a href="">a</a></p>\n'], [given, { html: 'raw' }, '<b>\n<p><a href="">a</a></p>\n'],
+    [given, { anyLink: true }, '&lt;b&gt;\n<p><a href="b:c">a</a></p>\n'], [given, { html: 'raw', anyLink: true }, '<b>\n<p><a href="b:c">a</a></p>\n'],
+  ]) for (const it of [document, bytesOf(document)]) assert.equal(render(it, options), wanted);
   // Half of a pair that stands alone is read as U+FFFD.
-  assert.equal(documentHtml('# \ud800é'), '<h1>\ufffdé</h1>\n');
+  assert.equal(render('# \ud800é'), '<h1>\ufffdé</h1>\n');
 });
 
 test('constructs of documents are added one by one', () => {
-  // Examples of GFM 0.29 (6.5, 6.9, 5.3), each read with one construct of GitHub's and without.
+  // Examples of GFM 0.29 (6.5, 6.9, 5.3), math and front matter, each read with one construct and without.
   const rows = [
     ['strikethrough', '~~Hi~~ Hello, ~there~ world!\n', '<p><del>Hi</del> Hello, <del>there</del> world!</p>\n', '<p>~~Hi~~ Hello, ~there~ world!</p>\n'],
     ['strikethrough', 'This will ~~~not~~~ strike.\n', ...Array(2).fill('<p>This will ~~~not~~~ strike.</p>\n')],
     ['bareUrls', 'www.commonmark.org\n\n> foo@bar.baz\n', '<p><a href="http://www.commonmark.org">www.commonmark.org</a></p>\n<blockquote>\n<p><a href="mailto:foo@bar.baz">foo@bar.baz</a></p>\n</blockquote>\n', '<p>www.commonmark.org</p>\n<blockquote>\n<p>foo@bar.baz</p>\n</blockquote>\n'],
     ['tasks', '- [ ] foo\n- [x] bar\n', '<ul>\n<li><input type="checkbox" disabled="" /> foo</li>\n<li><input type="checkbox" disabled="" checked="" /> bar</li>\n</ul>\n', '<ul>\n<li>[ ] foo</li>\n<li>[x] bar</li>\n</ul>\n'],
     ['math', '$a$ $$b$$\n', '<p><code class="language-math math-inline">a</code> <code class="language-math math-inline">b</code></p>\n', '<p>$a$ $$b$$</p>\n'],
+    ['math', '$$\na\n$$\n', '<pre><code class="language-math math-display">a\n</code></pre>\n', '<p>$$\na\n$$</p>\n'],
+    ['frontMatter', '---\na: b\n---\nc\n', '<p>c</p>\n', '<hr />\n<h2>a: b</h2>\n<p>c</p>\n'], ['frontMatter', '+++\na = 1\n+++\n', '', '<p>+++\na = 1\n+++</p>\n'],
   ];
   for (const [name, document, added, plain] of rows) {
     for (const given of [document, bytesOf(document)]) {
-      assert.equal(documentHtml(given, { [name]: true }), added);
-      for (const other of ['strikethrough', 'bareUrls', 'tasks', 'math']) if (other !== name) assert.equal(documentHtml(given, { [other]: true }), plain);
-      for (const options of [undefined, {}, { [name]: false }, { [name]: undefined }]) assert.equal(documentHtml(given, options), plain);
+      assert.equal(render(given, { [name]: true }), added);
+      for (const other of ['strikethrough', 'bareUrls', 'tasks', 'math', 'frontMatter']) if (other !== name) assert.equal(render(given, { [other]: true }), plain);
+      for (const options of [undefined, {}, { [name]: false }, { [name]: undefined }]) assert.equal(render(given, options), plain);
     }
   }
 });
@@ -318,35 +325,35 @@ test('line endings are written as asked', () => {
     [{}, '<p>a\r\nb\rc</p>\n<pre><code>d\r\n</code></pre>\n'], [{ lineEnds: '\n' }, '<p>a\nb\nc</p>\n<pre><code>d\n</code></pre>\n'],
     [{ lineEnds: '\r\n' }, '<p>a\r\nb\r\nc</p>\r\n<pre><code>d\r\n</code></pre>\r\n'],
   ]) {
-    assert.equal(documentHtml(given, options), wanted);
+    assert.equal(render(given, options), wanted);
     const inline = `a${options.lineEnds ?? '\r'}b`;
-    assert.deepEqual([html('a\rb', options), htmls('a\rb', [[0, 3]], options), blocks('a\rb', options).htmls], [inline, [inline], [inline]]);
+    assert.deepEqual([html('a\rb', options), htmls('a\rb', [[0, 3]], options), parse('a\rb', options).htmls], [inline, [inline], [inline]]);
   }
 });
 
 test('a byte order mark is passed over', () => {
   for (const document of ['# a [b](c)\n', '> a\n', '[a]: /b\n\n[a]\n', '']) {
     for (const [marked, plain, width] of [['\ufeff' + document, document, 1], [bytesOf('\ufeff' + document), bytesOf(document), 3]]) {
-      assert.equal(documentHtml(marked), documentHtml(plain));
-      const [found, wanted] = [blocks(marked), blocks(plain)], told = ({ kind, depth, line, lines, html }) => [kind, depth, line, lines, html];
+      assert.equal(render(marked), render(plain));
+      const [found, wanted] = [parse(marked), parse(plain)], told = ({ kind, depth, line, lines, html }) => [kind, depth, line, lines, html];
       assert.deepEqual([Array.from(found, told), found.definitions], [Array.from(wanted, told), wanted.definitions]);
       assert.deepEqual(Array.from(found, ({ pieces }) => pieces.map(([start]) => start)), Array.from(wanted, ({ pieces }) => pieces.map(([start]) => start + width)));
     }
   }
   // Code with tabs on the first line is that of the HTML.
   for (const given of ['\ufeff>\t\ta\n', bytesOf('\ufeff>\t\ta\n')]) {
-    assert.equal(documentHtml(given), `<blockquote>\n<pre><code>${blocks(given).at(1).lines.join('')}</code></pre>\n</blockquote>\n`);
+    assert.equal(render(given), `<blockquote>\n<pre><code>${parse(given).at(1).lines.join('')}</code></pre>\n</blockquote>\n`);
   }
 });
 
 test('definitions bring no more than a limit', () => {
-  const document = '[a]\n\n'.repeat(101) + '[a]: ' + 'x'.repeat(1000), found = blocks(document);
-  for (const options of [undefined, { referenceLimit: 100999 }]) refuses('REFERENCES', () => documentHtml(document, options));
-  for (const referenceLimit of [101000, Infinity]) assert.equal(documentHtml(document, { referenceLimit }).length, 101 * 1024);
-  assert.equal(documentHtml(document + '\n\n' + 'y'.repeat(100000)).length, 101 * 1024 + 100008);
+  const document = '[a]\n\n'.repeat(101) + '[a]: ' + 'x'.repeat(1000), found = parse(document);
+  for (const options of [undefined, { limit: 100999 }]) refuses('REFERENCES', () => render(document, options));
+  for (const limit of [101000, Infinity]) assert.equal(render(document, { limit }).length, 101 * 1024);
+  assert.equal(render(document + '\n\n' + 'y'.repeat(100000)).length, 101 * 1024 + 100008);
   refuses('REFERENCES', () => found.at(0).html, 100);
   assert.equal(found.texts.length, 102);
-  assert.equal(blocks(document, { referenceLimit: Infinity }).htmls.length, 102);
+  assert.equal(parse(document, { limit: Infinity }).htmls.length, 102);
 });
 
 const DOCUMENT = '# é *a*\n\n> 3) [b][B] ![c](/d)\n>    `e`\n>\n> 4) ~~~ f&amp;g\n>    \th\n>    ~~~\n\n***\n- 😀i\n- [x] <jj:k>\n<!-- l\n\nm\n=\n[b]: </n> "o"\n';
@@ -361,7 +368,7 @@ test('blocks are told', () => {
     ['Html', 0, 2, null, false, false, false, 13, ['<!-- l\n', '\n', 'm\n', '=\n', '[b]: </n> "o"\n']],
   ];
   for (const given of [DOCUMENT, bytesOf(DOCUMENT)]) {
-    const found = blocks(given), told = ({ kind, depth, number, marker, beginsList, endsList, isLoose, line, lines }) => [kind, depth, number, marker, beginsList, endsList, isLoose, line, lines];
+    const found = parse(given), told = ({ kind, depth, number, marker, beginsList, endsList, isLoose, line, lines }) => [kind, depth, number, marker, beginsList, endsList, isLoose, line, lines];
     assert.deepEqual(Array.from(found, told), rows);
     assert.deepEqual([found.length, told(found.at(-1)), found.at(15), found.at(-16)], [15, rows[14], undefined, undefined]);
     assert.deepEqual(Array.from(found, (it) => it.info).filter((it) => it !== null), ['f&g']);
@@ -373,40 +380,59 @@ test('blocks are told', () => {
   }
 });
 
+test('front matter and math are blocks', () => {
+  const document = '\ufeff+++\n\n[é]: /u\n+++\n> $$$ x&amp;y\n> [a](b)\n\n[é]: /v\n[é]\n';
+  for (const given of [document, bytesOf(document)]) {
+    const found = parse(given, { math: true, frontMatter: true }), decoded = (start, end) => typeof given === 'string' ? given.slice(start, end) : new TextDecoder().decode(given.slice(start, end));
+    assert.deepEqual(Array.from(found, ({ kind, depth, number, marker, line, info, lines }) => [kind, depth, number, marker, line, info, lines]), [
+      ['FrontMatter', 0, 0, null, 1, null, ['\n', '[é]: /u\n']], ['Quote', 0, 0, null, 5, null, []], ['FencedCode', 1, 0, '$', 5, 'x&y', ['[a](b)\n']], ['BlankLine', 0, 0, null, 7, null, []], ['Paragraph', 0, 0, null, 8, null, ['[é]']],
+    ]);
+    assert.deepEqual(found.at(0).pieces.map(([start, end]) => decoded(start, end)), ['\n', '[é]: /u\n']);
+    assert.deepEqual([found.at(0).content, found.at(0).html, found.at(0).links], [null, '', []]);
+    // A definition in front matter is none.
+    assert.deepEqual([found.definitions, found.links.map(({ destination, line }) => [destination, line]), found.htmls], [[{ label: 'é', destination: '/v', title: null }], [['/v', 9]], ['<a href="/v">é</a>']]);
+    assert.deepEqual(parse(given).definitions.map(({ destination }) => destination), ['/u', '/v']);
+    assert.deepEqual([found.frontMatter, parse(given).frontMatter, parse(given, { math: true }).frontMatter], [{ lang: 'toml', text: '\n[é]: /u\n' }, null, null]);
+  }
+  for (const [given, wanted] of [
+    ['---\na: b\n---', { lang: 'yaml', text: 'a: b\n' }], ['---\n---\n', { lang: 'yaml', text: '' }], ['+++ \t\r\na\rb\r\n+++ ', { lang: 'toml', text: 'a\nb\n' }], ['---\n\0\n---', { lang: 'yaml', text: '\ufffd\n' }], ['---\na\n', null], ['a', null], ['', null], ['\n---\n---', null],
+  ]) for (const it of [given, bytesOf(given)]) assert.deepEqual(parse(it, { frontMatter: true }).frontMatter, wanted);
+});
+
 test('texts of blocks are those of their pieces', () => {
-  const definitions = { b: ['/n', 'o'] }, footnotes = ['p'];
+  const definitions = { b: ['/n', 'o'] }, constructs = { strikethrough: true, bareUrls: true, tasks: true, math: true };
   for (const given of [DOCUMENT.replace('<!--', '!'), bytesOf(DOCUMENT.replace('<!--', '!'))]) {
-    const found = blocks(given, { gfm: true, footnotes, rawHtml: true }), having = [...found].filter(({ content }) => content !== null);
-    const contents = having.map(({ pieces, lines }) => ({ pieces, firstOfItem: lines[0]?.startsWith('[x]') === true })), asked = { gfm: true, footnotes, definitions };
+    const found = parse(given, { ...constructs, html: 'raw' }), having = [...found].filter(({ content }) => content !== null);
+    const contents = having.map(({ pieces, lines }) => ({ pieces, firstOfItem: lines[0]?.startsWith('[x]') === true })), asked = { gfm: true, math: true, gfmLabelStartFootnote: false, definitions };
     assert.deepEqual(having.map(({ kind, content }) => [kind, content]), [['Heading', 0], ['Paragraph', 1], ['Paragraph', 2], ['Paragraph', 3], ['Heading', 4], ['Paragraph', 5]]);
     assert.deepEqual(having.map(({ events }) => [...events]), Array.from(texts(given, contents, asked), (it) => [...it]));
     assert.deepEqual(having.map(({ shortEvents }) => [...shortEvents]), Array.from(shortTexts(given, contents, asked), (it) => [...it]));
-    assert.deepEqual(having.map((it) => it.html), htmls(given, contents, { ...asked, rawHtml: true }));
-    assert.deepEqual([found.htmls, found.links, having.flatMap((it) => it.links)], [having.map((it) => it.html), links(given, { ...asked, contents }), found.links]);
+    assert.deepEqual(having.map((it) => it.html), htmls(given, contents, { ...asked, html: 'raw' }));
+    assert.deepEqual([found.htmls, markdownInline.links(given, constructs), having.flatMap((it) => it.links)], [having.map((it) => it.html), links(given, { ...asked, contents }), found.links]);
     const [other] = [...found].filter(({ content }) => content === null);
     assert.deepEqual([[...other.events], [...other.shortEvents], other.html, other.links], [[], [], '', []]);
   }
 });
 
 test('blocks have definitions and checks of tasks', () => {
-  const found = blocks('[A]: /b "c"\n[a]: <d&amp;\\*>\n\n> [é\n> f]:\n> g\n\n[a] [é f]');
+  const found = parse('[A]: /b "c"\n[a]: <d&amp;\\*>\n\n> [é\n> f]:\n> g\n\n[a] [é f]');
   assert.deepEqual(found.definitions, [{ label: 'A', destination: '/b', title: 'c' }, { label: 'a', destination: 'd&*', title: null }, { label: 'é\nf', destination: 'g', title: null }]);
   assert.deepEqual(found.links.map(({ destination, title, definition }) => [destination, title, definition]), [['/b', 'c', 0], ['g', null, 2]]);
-  assert.deepEqual([[...blocks('')], blocks('').definitions, blocks('').htmls, blocks('').links, blocks('').texts.length], [[], [], [], [], 0]);
+  assert.deepEqual([[...parse('')], parse('').definitions, parse('').htmls, parse('').links, parse('').texts.length], [[], [], [], [], 0]);
   for (const [document, many] of [['- [x] a\n- b\n- [ ] c', 2], ['-\n  [x] a', 1], ['- [r]: /s\n\n  [x] a', 1], ['- > [x] a', 0], ['- # a\n\n  [x] b', 0], ['-\n\n[x] a', 0], ['- - [x] a\n\n  [x] b', 1]]) {
-    assert.equal(blocks(document, { gfm: true }).htmls.join('').split('checkbox').length - 1, many, document);
+    assert.equal(parse(document, { tasks: true }).htmls.join('').split('checkbox').length - 1, many, document);
   }
   // Of a tab that a container cuts the columns that are left are spaces.
   for (const [document, lines] of [['-\t\ta\n', ['  a\n']], ['>\t\ta\n> \tb', ['  a\n']], ['> ~~~\n>\t\té\r\n>', ['  \té\r\n', '']], ['~~~', []]]) {
-    for (const given of [document, bytesOf(document)]) assert.deepEqual([...blocks(given)].find(({ kind }) => kind.endsWith('Code')).lines, lines);
+    for (const given of [document, bytesOf(document)]) assert.deepEqual([...parse(given)].find(({ kind }) => kind.endsWith('Code')).lines, lines);
   }
-  assert.deepEqual(blocks('> <pre>a\n>').at(1).lines, ['<pre>a\n']);
+  assert.deepEqual(parse('> <pre>a\n>').at(1).lines, ['<pre>a\n']);
   // What is written to the bytes later changes nothing.
-  const bytes = bytesOf('*a*'), kept = blocks(bytes);
+  const bytes = bytesOf('*a*'), kept = parse(bytes);
   bytes.fill(0x62);
   assert.deepEqual(kept.htmls, ['<em>a</em>']);
   // Half of a pair that stands alone is one unit.
-  assert.deepEqual([blocks('\ud800\n\n# *a*').at(2).pieces, blocks('\ud800\n\n# *a*').at(2).events.at(0).offset], [[[5, 8, 0, 0]], 5]);
+  assert.deepEqual([parse('\ud800\n\n# *a*').at(2).pieces, parse('\ud800\n\n# *a*').at(2).events.at(0).offset], [[[5, 8, 0, 0]], 5]);
 });
 
 test('pieces are made of lines', () => {
@@ -459,14 +485,15 @@ test('hostile texts take time in proportion to their length', () => {
   const gfm = { gfm: true };
   for (const it of HOSTILE) {
     const long = (length) => ('a' + it.repeat(length / it.length)).trimEnd();
-    for (const call of [html, text, links, (given) => documentHtml(given), (given) => blocks(given).links]) isLinear((length) => call(long(length), gfm), 8000, JSON.stringify(it));
+    for (const call of [html, text, links, (given) => render(given), (given) => parse(given).links, (given) => toHtml(parse(given), { handlers: { text: () => null } }), (given) => parse(given).toMdast()]) isLinear((length) => call(long(length), gfm), 8000, JSON.stringify(it));
   }
 });
 
 test('contents cost what they cost by themselves', () => {
   const contents = (many) => Array.from({ length: many }, (_, at) => [7 * at, 7 * at + 5]);
   isLinear((many) => texts('é*a* b\n'.repeat(many), contents(many)), 1000, 'contents');
-  isLinear((many) => Array.from(blocks('é [a](b)\n\n-\t\tc\n\n'.repeat(many)), (it) => [it.line, it.lines, it.links, it.html]), 1000, 'blocks');
+  isLinear((many) => Array.from(parse('é [a](b)\n\n-\t\tc\n\n'.repeat(many)), (it) => [it.line, it.lines, it.links, it.html]), 1000, 'blocks');
+  for (const it of ['[a]: b\n', '> - [a]\n>   c: <d>\n', '- a\n\n', '>', '- ', '[a]\n\n[a]: b\n\n']) isLinear((many) => [toHtml(parse(it.repeat(many), { limit: Infinity }), { handlers: { text: () => null } }), parse(it.repeat(many)).toJson()], 1000, `nodes of ${it}`);
 });
 
 /** A number of WebAssembly: seven bits a byte, the lowest first. */
@@ -488,8 +515,8 @@ function withMaximum(pages) {
 }
 
 test('refused memory is an error', () => {
-  for (const little of [create({ maximum: 1 << 20 }), callsOf(withMaximum(16))]) {
-    const calls = { text: (given) => little.text(given).length, html: little.html, documentHtml: little.documentHtml, blocks: (given) => little.blocks(given).length, texts: (given) => little.texts(given, [[0, given.length]]).length, links: (given) => little.links(given).length };
+  for (const { render, parse, inline } of [create({ maximum: 1 << 20 }), callsOf(withMaximum(16))]) {
+    const calls = { text: (given) => inline.text(given).length, html: inline.html, render, parse: (given) => parse(given).length, texts: (given) => inline.texts(given, [[0, given.length]]).length, links: (given) => inline.links(given).length };
     for (const [name, call] of Object.entries(calls)) {
       let refused = 0;
       for (let length = 6; length < 3000000; length = Math.ceil(length * 1.2)) {
@@ -499,7 +526,7 @@ test('refused memory is an error', () => {
           assert.equal(error.code, 'NO_MEMORY', `${name}: ${error}`);
           refused++;
         }
-        assert.equal(little.html('*a*'), '<em>a</em>');
+        assert.equal(inline.html('*a*'), '<em>a</em>');
       }
       assert.ok(refused > 5, name);
     }

@@ -1,12 +1,14 @@
 // Reads cases of ../../tests/draw.py from standard input, and prints what the package finds in each, as cases.py there does. Each other document is
 // handed over as a string, half of these with pieces in UTF-16, and its offsets and columns in UTF-16 are counted here too.
 import { readFileSync } from 'node:fs';
-import { COMMONMARK, CRATE, GFM, MATH, OPTIONS, MarkdownInlineError, blocks, documentHtml, html, htmls, leaves, shortTexts, string, text, texts } from '../../out/javascript/index.js';
+import { MarkdownInlineError, parse, render } from '../../out/javascript/index.js';
+import { COMMONMARK, CRATE, GFM, MATH, OPTIONS, html, htmls, leaves, shortTexts, string, text, texts } from '../../out/javascript/inline.js';
 
 const OF_DOCUMENTS = { strikethrough: OPTIONS.gfmStrikethrough, bareUrls: OPTIONS.gfmAutolinkLiteral, tasks: OPTIONS.gfmTaskListItem, math: OPTIONS.mathText };
+const FRONT_MATTER = 0x2;
 const SWITCHES = { gfm: GFM, math: MATH, task: OPTIONS.firstOfItem };
 const decoder = new TextDecoder('utf-8', { fatal: true, ignoreBOM: true });
-const KINDS = ['BlankLine', 'ThematicBreak', 'Heading', 'Paragraph', 'IndentedCode', 'FencedCode', 'Html', 'Quote', 'Item'];
+const KINDS = ['BlankLine', 'ThematicBreak', 'Heading', 'Paragraph', 'IndentedCode', 'FencedCode', 'Html', 'Quote', 'Item', 'FrontMatter'];
 const listed = (word) => word === '-' ? [] : word.split(',');
 const bytesOf = (word) => Uint8Array.from(Buffer.from(word.replaceAll('-', ''), 'hex'));
 const hex = (bytes) => Buffer.from(bytes).toString('hex');
@@ -78,6 +80,11 @@ function shownBlock(block, places) {
 const allBlocks = (found, places) => Array.from(found, (it) => shownBlock(it, places)).join('')
   + found.definitions.map(({ label, destination, title }) => ` ;${hex(label)}=${hex(destination)}${title === null ? '' : ':' + hex(title)}`).join('');
 
+/** The words that say what a document is read with. */
+function constructsOf(bits, blocks) {
+  return { ...Object.fromEntries(Object.entries(OF_DOCUMENTS).map(([name, bit]) => [name, (bits & bit) !== 0])), frontMatter: (blocks & FRONT_MATTER) !== 0 };
+}
+
 function found(how, bits, document, spans, options, places, labels, rest) {
   const content = (word) => {
     const [numbers, first] = word.split(':');
@@ -93,13 +100,14 @@ function found(how, bits, document, spans, options, places, labels, rest) {
   if (how === 'leaves') return all(leaves(document, one), shownLeaf, places);
   if (how === 'texts') return parted([...texts(document, listed(rest[0]).map(content), { ...options, definitions: labels })].map((it) => all(it, shown, places)));
   if (how === 'shorts') return parted([...shortTexts(document, listed(rest[0]).map(content), { ...options, definitions: labels })].map((it) => all(it, shownShort, places)));
-  const held = { rawHtml: (rest[0] & 1) !== 0, anyLink: (rest[0] & 2) !== 0, lineEnds: rest[0] & 0x20 ? '\n' : rest[0] & 0x40 ? '\r\n' : undefined };
-  const added = Object.fromEntries(Object.entries(OF_DOCUMENTS).map(([name, bit]) => [name, (bits & bit) !== 0]));
-  if (how === 'document') return ' ' + hex(documentHtml(document, { ...added, ...held, referenceLimit: Number(rest[1]) || undefined }));
-  if (how === 'blocks') return allBlocks(blocks(document, { ...options, offsets: undefined, ...held, referenceLimit: Number(rest[1]) || undefined }), places);
+  const held = { html: rest[0] & 1 ? 'raw' : 'escape', anyLink: (rest[0] & 2) !== 0, lineEnds: rest[0] & 0x20 ? '\n' : rest[0] & 0x40 ? '\r\n' : undefined };
+  if (how === 'document' || how === 'blocks') {
+    const options = { ...constructsOf(bits, Number(rest[2])), ...held, limit: Number(rest[1]) || undefined };
+    return how === 'document' ? ' ' + hex(render(document, options)) : allBlocks(parse(document, options), places);
+  }
   const written = { ...options, ...held, definitions: targets(rest[1]) };
   if (how === 'html') return ' ' + hex(html(document, { ...written, pieces: spans }));
-  return parted(htmls(document, listed(rest[2]).map(content), { ...written, referenceLimit: Number(rest[3]) || undefined }).map(hex));
+  return parted(htmls(document, listed(rest[2]).map(content), { ...written, limit: Number(rest[3]) || undefined }).map(hex));
 }
 
 function answer(line, number) {

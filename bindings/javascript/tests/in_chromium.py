@@ -21,12 +21,13 @@ TESTS = os.path.join(os.path.dirname(os.path.abspath(__file__)), '../../tests')
 sys.path.insert(0, TESTS)
 import browser  # noqa: E402
 import page  # noqa: E402
-from markdown_inline import BlankLine, html, text  # noqa: E402
+from markdown_inline import BlankLine  # noqa: E402
+from markdown_inline.inline import html, text  # noqa: E402
 
 PACKAGE, PAGE = map(os.path.abspath, sys.argv[1:3])
 # What a call finds in each document: its events as mdinline prints them and its HTML, or why there are none.
 FIND = '''(async (name, documents) => {
-  const { text, html } = await import(name), or = (number) => number ?? '-';
+  const { inline: { text, html } } = await import(name), or = (number) => number ?? '-';
   const shown = ({ enter, name, line, byteColumn, byte, vs, link }) =>
     `${enter ? 'Enter' : 'Exit'} ${name} ${line} ${byteColumn} ${byte} ${vs}` + (link ? ` link ${link.content} ${or(link.previous)} ${or(link.next)}` : '');
   return documents.map((it) => {
@@ -86,12 +87,12 @@ class InABrowser(unittest.TestCase):
             self.assertEqual(self.page.value(FIND % (json.dumps(name), json.dumps(documents))), wanted, name)
 
     def test_little_memory(self):
-        code = '''(async () => { const { create, html } = await import('/index.js'), little = create({ maximum: 1 << 20 });
+        code = '''(async () => { const { create } = await import('/index.js'), little = create({ maximum: 1 << 20 }).inline;
           try { little.html('*a* é '.repeat(300000) + 'b'); } catch (error) { return [error.code, little.html('*a*')]; } })()'''
         self.assertEqual(self.page.value(code), ['NO_MEMORY', '<em>a</em>'])
 
     def test_a_used_up_stack(self):
-        code = '''(async () => { const { html } = await import('/index.js'), given = '*a* [b](c) **d *e* f** `g` <h>'.repeat(20), wanted = html(given); let failed = 0, wrong = 0, many = 0;
+        code = '''(async () => { const { html } = await import('/inline.js'), given = '*a* [b](c) **d *e* f** `g` <h>'.repeat(20), wanted = html(given); let failed = 0, wrong = 0, many = 0;
           const dive = () => { try { dive(); } catch { failed++; } if (many < 5) { if (html(given) !== wanted) wrong++; many++; } };
           for (let round = 0; round < 20; round++) { many = 0; dive(); } return [failed > 20, wrong, html(given) === wanted]; })()'''
         self.assertEqual(self.page.value(code), [True, 0, True])

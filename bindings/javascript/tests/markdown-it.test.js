@@ -9,7 +9,7 @@ import { createRequire } from 'node:module';
 import test from 'node:test';
 import { fileURLToPath } from 'node:url';
 import plugin, { piecesOf } from '../../out/javascript/markdown-it.js';
-import { links } from '../../out/javascript/index.js';
+import { links } from '../../out/javascript/inline.js';
 
 const FOLDER = process.env.MARKDOWN_IT ?? '/usr/share/nodejs/markdown-it', SOURCE = process.env.MARKDOWN_IT_SOURCE;
 const MarkdownIt = existsSync(FOLDER) ? createRequire(import.meta.url)(FOLDER) : null;

@@ -24,7 +24,7 @@ def of_paragraphs():
 
 
 def of_documents():
-    known = {'safe', 'lf', 'crlf', 'strikethrough', 'bare_urls', 'tasks', 'math'}
+    known = {'safe', 'lf', 'crlf', 'strikethrough', 'bare_urls', 'tasks', 'math', 'front_matter'}
     found = (pages.read(row) for groups in pages.rows().values() for group in groups.values() for row in group)
     return (it for it in found if known.issuperset(it[0]))
 

@@ -1,387 +1,117 @@
-"""Markdown: the HTML of a document, its blocks, and the events of the inline trees of their texts.
+"""Markdown documents: their HTML, their blocks, their links.
 
-    >>> from markdown_inline import BlockKind, Kind, Name, blocks, document_html, text
-    >>> document_html('# a *b*')
+    >>> from markdown_inline import Kind, links, parse, render
+    >>> render('# a *b*')
     '<h1>a <em>b</em></h1>\\n'
-    >>> [str(event.name) for event in text('a *b*') if event.kind == Kind.Enter][:4]
-    ['Data', 'Emphasis', 'EmphasisSequence', 'EmphasisText']
-    >>> [event.index for event in text('a *b*') if event.name == Name.Emphasis]
-    [2, 5]
-    >>> [(block.line, block.html) for block in blocks('# a\\n\\n> *b*') if block.kind == BlockKind.Paragraph]
+    >>> [(row.line, row.html) for row in parse('# a\\n\\n> *b*') if row.kind == Kind.Paragraph]
     [(3, '<em>b</em>')]
+    >>> [(it.line, it.column, it.destination) for it in links('a\\n\\n- [b](/c)')]
+    [(3, 3, '/c')]
 
-`document_html` and `blocks` read a whole document. All other calls read the text inside one block, such as a paragraph.
-
-Kinds and names are members of enumerations, and equal to no string; `str` of them is the text that the program mdinline prints. By default a text is read as
-CommonMark 0.31.2 says, as in C and in Rust; `gfm=True` asks for what GitHub adds. What the calls return is proved; this package calls the proved library.
+Documents are read following CommonMark 0.31.2, and each construct of GitHub's has a keyword. The results come from the proved library, which this package calls.
+For one paragraph, or any text inside a block, there is `markdown_inline.inline`.
 """
-from types import MappingProxyType
-from typing import Any, Iterable, List, Literal, Mapping, Optional, Sequence, Tuple, Union
+from typing import List, Optional, Tuple
 
-from . import _arguments, _library, _links, _tables
-from ._blocks import Asked, Block, Blocks, Content, Definition, Piece
+from . import _arguments, _library, _render, _tables
+from ._block import Block
+from ._document import Asked, Definition, Document
 from ._errors import (
     BlankLine, DefinitionError, Error, NoContent, NoMemory, NoReference, NoString, NotUtf8, References, TooLong, UnknownOption, raised)
-from ._events import Characters, Event, Events, Leaf, Leaves, Link, ShortEvent, ShortEvents, ShortTexts, Texts
+from ._events import Characters
+from ._kinds import Kind
 from ._links import Address
-from ._names import BlockKind, Kind, Name
-from ._nodes import Node, Tree, tree_of
+from ._nodes import Node
+from ._render import Hooks
+from ._slugs import slugger
+from ._types import Html, Limit, LineEnds, Text
 
 __all__ = [
-    'Address', 'BlankLine', 'Block', 'BlockKind', 'Blocks', 'COMMONMARK', 'CRATE', 'Content', 'Definition', 'DefinitionError', 'Error', 'Event', 'Events',
-    'GFM', 'Kind', 'Leaf', 'Leaves', 'Link', 'MATH', 'Name', 'NoContent', 'NoMemory', 'NoReference', 'NoString', 'Node', 'NotUtf8', 'OPTIONS', 'Piece',
-    'References', 'ShortEvent', 'ShortEvents', 'ShortTexts', 'Texts', 'TooLong', 'Tree', 'UnknownOption', 'blocks', 'document_html', 'html', 'htmls',
-    'identifier', 'is_content', 'is_text', 'leaves', 'links', 'pieces_of_lines', 'reference', 'short_texts', 'string', 'strings', 'text', 'texts', 'tree',
+    'Address', 'BlankLine', 'Block', 'Definition', 'DefinitionError', 'Document', 'Error', 'Kind', 'NoContent', 'NoMemory', 'NoReference', 'NoString', 'Node', 'NotUtf8',
+    'References', 'TooLong', 'UnknownOption', 'links', 'parse', 'render', 'slugger',
 ]
 
 __version__ = '1.0.0'
 
-#: Each option by its name, as a bit of `options`. It cannot be changed.
-OPTIONS: Mapping[str, int] = MappingProxyType(_tables.OPTIONS)
-#: Bits of `options`: CommonMark 0.31.2.
-COMMONMARK: int = _tables.COMMONMARK
-#: Bits of `options`: CommonMark's constructs, by the rules of the crate `markdown`.
-CRATE: int = _tables.CRATE
-#: Bits of `options`: what GitHub adds.
-GFM: int = _tables.GFM
-#: Bits of `options`: math spans.
-MATH: int = _tables.MATH
 
+def render(document: Text, *, strikethrough: bool = False, bare_urls: bool = False, tasks: bool = False, math: bool = False, front_matter: bool = False,
+           html: Html = 'escape', any_link: bool = False, line_ends: LineEnds = None, limit: Limit = None, hooks: Optional[Hooks] = None) -> str:
+    """Renders a document to HTML, following CommonMark 0.31.2. A byte order mark at its front is no text.
 
-Text = Union[str, bytes, bytearray, memoryview]
-Pieces = Optional[Iterable[Sequence[int]]]
-# A tuple of the same two serves as a Content too.
-Contents = Iterable[Union[Content, Tuple[Sequence[Sequence[int]], bool]]]
-Target = Union[Text, Tuple[Text, Optional[Text]]]
-# The keys are texts. A mapping is invariant in its keys, so that a dict of `str` would not be one whose keys are any text.
-Targets = Optional[Mapping[Any, Target]]
-Rules = Literal['commonmark', 'crate']
-Columns = Literal['bytes', 'characters', 'utf-16']
-LineEnds = Optional[Literal['\n', '\r\n']]
-# A number of bytes, or `math.inf`.
-Limit = Union[None, int, float]
+    Five keywords add constructs: `strikethrough`, by one or two tildes; `bare_urls`, links for URLs and email addresses without angle brackets; `tasks`,
+    checkboxes of task list items; `math`, spans by one or more dollars, and blocks between lines of two or more dollars; `front_matter`, lines between two
+    lines of `---` or of `+++` at the start of the document, which HTML leaves out.
 
+    `html` says what becomes of raw HTML: 'escape' writes it as text, 'raw' as it is. `any_link` lets links lead wherever they say, and not only to listed
+    schemes. `line_ends` is what each line ending is written as, '\\n' or '\\r\\n'; by default those of the document stay as they are, and the page adds line
+    feeds.
 
-def _characters(document: Text, bytes_given: bytes) -> Optional[Characters]:
-    return Characters(bytes_given) if isinstance(document, str) else None
+    `limit` is how many bytes references to definitions may expand to: those of the destination and of the title, for each link and image that refers to one.
+    None is the length of the document, or 100,000 bytes where that is more. `math.inf` is no limit. Beyond the limit References is raised. NotUtf8 has the
+    first byte that is not UTF-8 as `at`.
 
+    `hooks` maps kinds of nodes to functions. A function gets a node and the HTML inside it, and returns the HTML of the node, or None to leave it as it is
+    without the hook. What it returns is written unchanged, so escape what comes from the document. The inside of code and other leaves is their escaped text.
 
-_SETS = {'commonmark': COMMONMARK, 'crate': CRATE}
-
-
-def _bits(options: Optional[int], rules: Rules, gfm: bool = False, math: bool = False, task: bool = False) -> int:
-    if options is not None:
-        if not (gfm is math is task is False and rules == 'commonmark'):
-            raise TypeError('options says all by bits, so no word can stand beside it')
-        return _arguments.bits_of(options)
-    bits = _arguments.one_of(rules, _SETS, 'rules')
-    for given, what, its_bits in ((gfm, 'gfm', GFM), (math, 'math', MATH), (task, 'task', OPTIONS['first_of_item'])):
-        if _arguments.flag_of(given, what):
-            bits |= its_bits
-    return bits
-
-
-def _given(document: bytes, pieces: Pieces, options: int, definitions: Iterable[Text], footnotes: Iterable[Text]) -> _library.Given:
-    return _library.Given(
-        document, _arguments.pieces_of(pieces, len(document)), options, _arguments.labels_of(definitions, 'definitions'),
-        _arguments.labels_of(footnotes, 'footnotes'))
-
-
-def text(document: Text, pieces: Pieces = None, gfm: bool = False, math: bool = False, *, task: bool = False, rules: Rules = 'commonmark',
-         options: Optional[int] = None, definitions: Iterable[Text] = (), footnotes: Iterable[Text] = ()) -> Events:
-    """The events of a text: of a whole document, or of pieces of it. `gfm` switches on what GitHub adds to CommonMark, `math` math spans; `task` says
-    that the text begins a list item. `rules` is 'commonmark', or 'crate' for those of the crate `markdown` where it departs from CommonMark 0.31.2.
-    `options` says all of it by bits instead, as COMMONMARK | GFM.
-    `definitions` and `footnotes` are labels as they are written.
-
-    A call tests the whole document, passes all that stands before the pieces, and puts the labels in order. So a call for each paragraph of one document takes
-    time in proportion to its square: for many contents there is `texts`.
-
-    >>> print(*text('a'), sep='\\n')
-    Enter Data 1 1 0 0
-    Exit Data 1 2 1 0
-    """
-    bytes_given = _arguments.text_of(document, 'document')
-    given = _given(bytes_given, pieces, _bits(options, rules, gfm, math, task), definitions, footnotes)
-    status, raw = _library.events('markdown_inline_text', given)
-    if status:
-        raise raised(status)
-    return Events(raw, _characters(document, bytes_given))
-
-
-def tree(document: Text, pieces: Pieces = None, gfm: bool = False, math: bool = False, *, task: bool = False, rules: Rules = 'commonmark',
-         options: Optional[int] = None, definitions: Iterable[Text] = (), footnotes: Iterable[Text] = ()) -> Tree:
-    """The tree of a text, whose nodes are made when they are looked at. What is asked for is said as of `text`, and so is what a call costs.
-
-    >>> [(node.enter.column, node.text) for node in tree('a *b* [*c*](d)').find(Name.Emphasis, Name.Link)]
-    [(3, '*b*'), (7, '[*c*](d)'), (8, '*c*')]
-    """
-    events = text(document, pieces, gfm, math, task=task, rules=rules, options=options, definitions=definitions, footnotes=footnotes)
-    return tree_of(events, _arguments.text_of(document, 'document'))
-
-
-def string(document: Text, pieces: Pieces = None, *, rules: Rules = 'commonmark', options: Optional[int] = None) -> Events:
-    """The events of a string: of escapes, character references and data. A call tests the whole document, and passes all that stands before the pieces."""
-    bytes_given = _arguments.text_of(document, 'document')
-    given = _given(bytes_given, pieces, _bits(options, rules), (), ())
-    status, raw = _library.events('markdown_inline_string', given)
-    if status:
-        raise raised(status)
-    return Events(raw, _characters(document, bytes_given))
-
-
-def leaves(document: Text, pieces: Pieces = None, gfm: bool = False, math: bool = False, *, task: bool = False, rules: Rules = 'commonmark',
-           options: Optional[int] = None, definitions: Iterable[Text] = (), footnotes: Iterable[Text] = ()) -> Leaves:
-    """The leaves of a text, in order: together they cover the pieces. What is asked for is said as of `text`, and so is what a call costs.
-
-    >>> [leaf.content for leaf in leaves('a *b*')]
-    [b'a ', b'*', b'b', b'*']
-    """
-    bytes_given = _arguments.text_of(document, 'document')
-    given = _given(bytes_given, pieces, _bits(options, rules, gfm, math, task), definitions, footnotes)
-    status, raw = _library.leaves(given)
-    if status:
-        raise raised(status)
-    return Leaves(raw, _characters(document, bytes_given), bytes_given)
-
-
-def texts(document: Text, contents: Contents, gfm: bool = False, math: bool = False, *, rules: Rules = 'commonmark', options: Optional[int] = None,
-          definitions: Iterable[Text] = (), footnotes: Iterable[Text] = ()) -> Texts:
-    """The events of many contents of a document as texts, of each by itself. The document is prepared once, and each content costs what it costs by
-    itself, wherever it stands. What is asked for is said as of `text`, but for what begins a list item: that each content says. Where an error is about a
-    content or a definition, its field `at` has the number of that."""
-    bits = _bits(options, rules, gfm, math)
-    return Texts(*_texts('markdown_inline_texts', _library.EVENT_SIZE, document, contents, bits, definitions, footnotes))
-
-
-def short_texts(document: Text, contents: Contents, gfm: bool = False, math: bool = False, *, rules: Rules = 'commonmark', options: Optional[int] = None,
-                definitions: Iterable[Text] = (), footnotes: Iterable[Text] = ()) -> ShortTexts:
-    """The same events without their lines and columns, with the numbers of the definitions that links, images and footnote calls refer to, and the characters
-    that character references stand for. The rest is as of `texts`.
-
-    >>> events = short_texts('[a](b) [c]&copy;', [Content([(0, 16)])], definitions=['d', 'C'])[0]
-    >>> [event.definition for event in events if event.kind == Kind.Enter and event.name == Name.Link]
-    [None, 1]
-    >>> [event.stands_for for event in events if event.stands_for]
-    ['©']
-    """
-    bits = _bits(options, rules, gfm, math)
-    return ShortTexts(*_texts('markdown_inline_short_texts', _library.SHORT_SIZE, document, contents, bits, definitions, footnotes))
-
-
-def _texts(function: str, size: int, document: Text, contents: Contents, bits: int, definitions: Iterable[Text], footnotes: Iterable[Text]):
-    """The bytes of events of this size, where those of each content end, and what counts characters."""
-    bytes_given = _arguments.text_of(document, 'document')
-    pieces, listed, count = _arguments.contents_of(contents)
-    given = _library.Given(
-        bytes_given, pieces, bits, _arguments.labels_of(definitions, 'definitions'), _arguments.labels_of(footnotes, 'footnotes'))
-    status, raw, ends, blamed = _library.texts(function, size, given, listed, count)
-    if status:
-        raise raised(status, blamed)
-    return raw, ends, _characters(document, bytes_given)
-
-
-def links(document: Text, contents: Optional[Contents] = None, gfm: bool = False, math: bool = False, *, rules: Rules = 'commonmark',
-          options: Optional[int] = None, definitions: Targets = None, footnotes: Iterable[Text] = (), columns: Columns = 'bytes') -> List[Address]:
-    """The links, images, autolinks and literals of many contents of a document, in the order in which they begin, and where each leads; of a document that is
-    one text, where there are no contents. `definitions` is as of `html`. A column counts what `columns` says, and a tab as one. The rest is said as of `texts`.
-
-    >>> [(it.line, it.column, it.destination, it.title) for it in links('*é* [a](b "c")\\n<de:f> [g]', definitions={'G': '/h'}, columns='characters')]
-    [(1, 5, 'b', 'c'), (2, 1, 'de:f', None), (2, 8, '/h', None)]
-    """
-    given, bits = _arguments.text_of(document, 'document'), _bits(options, rules, gfm, math)
-    _arguments.one_of(columns, _links.COLUMNS, 'columns')
-    labels, _, _ = _arguments.targets_of(definitions)
-    listed = [Content([(0, len(given))], bool(bits & OPTIONS['first_of_item']))] if contents is None else contents
-    found, parts = _links.found_in(short_texts(given, listed, options=bits & ~OPTIONS['first_of_item'], definitions=labels, footnotes=footnotes))
-    return _links.addresses(given, found, strings(given, parts, options=bits), _targets(definitions or {}), columns)
-
-
-def _targets(definitions: Mapping[Any, Target]) -> List[Tuple[str, Optional[str]]]:
-    """Where definitions lead, as texts."""
-    found: List[Tuple[str, Optional[str]]] = []
-    for at, target in enumerate(definitions.values()):
-        destination, title = _arguments.target_of(target)
-        try:
-            found.append((destination.decode(), None if title is None else title.decode()))
-        except UnicodeDecodeError:
-            raise raised(DefinitionError.status, at) from None
-    return found
-
-
-def document_html(document: Text, *, strikethrough: bool = False, bare_urls: bool = False, tasks: bool = False, math: bool = False, raw_html: bool = False,
-                  any_link: bool = False, line_ends: LineEnds = None, reference_limit: Limit = None) -> str:
-    """Renders a document to HTML: its blocks and the text inside them, following CommonMark 0.31.2. The document's own definitions count, and a byte order mark at
-    its front is no text. NotUtf8 has the first byte that is not UTF-8 as `at`.
-
-    Four words add constructs of GitHub's, each by itself: `strikethrough`, by one or two tildes; `bare_urls`, links for URLs and email addresses without angle
-    brackets; `tasks`, checkboxes of task list items; `math`, math spans by one or more dollars. `raw_html` writes raw HTML as it is and not as text, and `any_link`
-    lets links lead wherever they say and not only to listed schemes. `line_ends` is what each line ending is written as, '\\n' or '\\r\\n'; by default those of the
-    document stay as they are, and the page adds line feeds. `reference_limit` is that of `htmls`.
-
-    >>> document_html('> [a](b:c)\\n\\n<p>')
+    >>> render('> [a](b:c)\\n\\n<p>')
     '<blockquote>\\n<p><a href="">a</a></p>\\n</blockquote>\\n&lt;p&gt;\\n'
-    >>> document_html('~a~ www.b.c', strikethrough=True, bare_urls=True, line_ends='\\r\\n')
+    >>> render('~a~ www.b.c', strikethrough=True, bare_urls=True, line_ends='\\r\\n')
     '<p><del>a</del> <a href="http://www.b.c">www.b.c</a></p>\\r\\n'
     """
-    bytes_given, bits = _arguments.text_of(document, 'document'), COMMONMARK
-    for given, what, name in (
-            (strikethrough, 'strikethrough', 'gfm_strikethrough'), (bare_urls, 'bare_urls', 'gfm_autolink_literal'), (tasks, 'tasks', 'gfm_task_list_item'),
-            (math, 'math', 'math_text')):
-        if _arguments.flag_of(given, what):
-            bits |= OPTIONS[name]
-    status, found, blamed = _library.document_html(bytes_given, bits, _shown(raw_html, any_link, line_ends), _arguments.limit_of(reference_limit))
+    if hooks is not None:
+        asked = _render.hooks_of(hooks)
+        found = parse(
+            document, strikethrough=strikethrough, bare_urls=bare_urls, tasks=tasks, math=math, front_matter=front_matter, html=html, any_link=any_link,
+            line_ends=line_ends, limit=limit)
+        return _render.Renderer(found, asked).render()
+    given, constructs = _arguments.text_of(document, 'document'), _constructs(strikethrough, bare_urls, tasks, math, front_matter)
+    status, written, blamed = _library.document_html(given, *constructs, _arguments.shown_of(html, any_link, line_ends), _arguments.limit_of(limit))
     if status:
         raise raised(status, blamed)
-    return str(found, 'utf-8')
+    return str(written, 'utf-8')
 
 
-def blocks(document: Text, gfm: bool = False, math: bool = False, *, rules: Rules = 'commonmark', options: Optional[int] = None, footnotes: Iterable[Text] = (),
-           raw_html: bool = False, any_link: bool = False, line_ends: LineEnds = None, reference_limit: Limit = None, columns: Columns = 'bytes') -> Blocks:
-    """The blocks of a document, in order, by CommonMark 0.31.2, and what stands in the texts of its headings and paragraphs. The document's own definitions count.
-    Texts are read as `gfm`, `math`, `rules` or `options` say, as of `texts`; their HTML is written as the words of `htmls` say, and columns of links count what
-    `columns` says. Lines, columns and bytes are those of the document. Checks of tasks may stand in the first paragraph right in an item.
+def parse(document: Text, *, strikethrough: bool = False, bare_urls: bool = False, tasks: bool = False, math: bool = False, front_matter: bool = False,
+          html: Html = 'escape', any_link: bool = False, line_ends: LineEnds = None, limit: Limit = None) -> Document:
+    """Parses a document into nodes and rows. The keywords are those of `render`.
 
-    The call finds the blocks. The events of all texts are found by one call of the library when those of one are first asked for, and so are their short events,
-    their HTML and their links, and the definitions. So what is refused there is raised there: References by the HTML, UnknownOption by all.
+    Inline parsing is lazy: the first access to the events, the HTML, the links or the nodes of a text parses all texts at once. So References is raised there, by
+    the HTML.
 
-    >>> found = blocks('# *a*\\n\\n- [b]\\n\\n[b]: /c')
-    >>> [(str(block.kind), block.depth, block.number, block.html) for block in found][:4]
+    >>> found = parse('# *a*\\n\\n- [b]\\n\\n[b]: /c')
+    >>> [(node.kind, node.line, node.text) for node in found.children]
+    [('heading', 1, 'a'), ('list', 3, 'b'), ('definition', 5, '')]
+    >>> [(str(row.kind), row.depth, row.number, row.html) for row in found][:4]
     [('Heading', 0, 1, '<em>a</em>'), ('BlankLine', 0, 0, ''), ('Item', 0, 0, ''), ('Paragraph', 1, 0, '<a href="/c">b</a>')]
-    >>> [(it.line, it.column, it.destination) for it in found.links], found.definitions
-    ([(3, 3, '/c')], [Definition(label='b', destination='/c', title=None)])
+    >>> found.definitions
+    [Definition(label='b', destination='/c', title=None)]
     """
-    given, bits = _arguments.text_of(document, 'document'), _bits(options, rules, gfm, math)
-    _arguments.one_of(columns, _links.COLUMNS, 'columns')
-    asked = Asked(bits, _arguments.labels_of(footnotes, 'footnotes'), _shown(raw_html, any_link, line_ends), _arguments.limit_of(reference_limit), columns)
-    return Blocks(given, _characters(document, given), asked)
+    given, constructs = _arguments.text_of(document, 'document'), _constructs(strikethrough, bare_urls, tasks, math, front_matter)
+    asked = Asked(*constructs, _arguments.shown_of(html, any_link, line_ends), _arguments.limit_of(limit))
+    return Document(given, Characters(given) if isinstance(document, str) else None, asked)
 
 
-def _shown(raw_html: bool, any_link: bool, line_ends: LineEnds) -> int:
-    """What HTML may contain and how it is written, as bits."""
-    return _arguments.flag_of(raw_html, 'raw_html') | _arguments.flag_of(any_link, 'any_link') << 1 | _arguments.line_ends_of(line_ends)
+def links(document: Text, *, strikethrough: bool = False, bare_urls: bool = False, tasks: bool = False, math: bool = False,
+          front_matter: bool = False) -> List[Address]:
+    """The links, images, autolinks and bare URLs of a document, in the order in which they begin, and where each leads. The keywords are those of `render`.
 
-
-def html(document: Text, pieces: Pieces = None, gfm: bool = False, math: bool = False, *, task: bool = False, rules: Rules = 'commonmark',
-         options: Optional[int] = None, definitions: Targets = None, footnotes: Iterable[Text] = (), raw_html: bool = False, any_link: bool = False,
-         line_ends: LineEnds = None, reference_limit: Limit = None) -> str:
-    """The HTML of a text. `definitions` has for each label, as it is written, its destination, or the destination and a title, with escapes and
-    character references resolved. `raw_html` writes raw HTML as it stands and not as text; `any_link` lets links lead wherever they say and not to
-    listed schemes alone. `line_ends` is that of `document_html`, and `reference_limit` that of `htmls`. The rest is said as of `text`, and so is what a call costs: for many contents there is
-    `htmls`.
-
-    >>> html('*a* [b]', definitions={'b': ('/c', 'd')})
-    '<em>a</em> <a href="/c" title="d">b</a>'
+    >>> [(it.line, it.column, it.kind, it.destination, it.title) for it in links('é [a](b "c")\\n\\n> ![d]\\n\\n[D]: /e')]
+    [(1, 3, 'link', 'b', 'c'), (3, 3, 'image', '/e', None)]
     """
-    bytes_given = _arguments.text_of(document, 'document')
-    defined, targets, written = _arguments.targets_of(definitions)
-    given = _library.Given(
-        bytes_given, _arguments.pieces_of(pieces, len(bytes_given)), _bits(options, rules, gfm, math, task), defined,
-        _arguments.labels_of(footnotes, 'footnotes'), written)
-    status, found = _library.html(given, targets, len(defined), _shown(raw_html, any_link, line_ends), _arguments.limit_of(reference_limit))
-    if status:
-        raise raised(status)
-    return str(found, 'utf-8')
+    return parse(document, strikethrough=strikethrough, bare_urls=bare_urls, tasks=tasks, math=math, front_matter=front_matter).links
 
 
-def htmls(document: Text, contents: Contents, gfm: bool = False, math: bool = False, *, rules: Rules = 'commonmark', options: Optional[int] = None,
-          definitions: Targets = None, footnotes: Iterable[Text] = (), raw_html: bool = False, any_link: bool = False, line_ends: LineEnds = None,
-          reference_limit: Limit = None) -> List[str]:
-    """The HTML of many contents of a document as texts. The document is prepared once, and each content costs what it costs by itself, wherever it stands.
-    Footnotes are numbered through all contents. What is asked for is said as of `html`, but for what begins a list item: that each content says.
-
-    `reference_limit` is how many bytes definitions may bring to all contents together: those of the destination and of the title, for each link and image that
-    refers to one. None is as many as cmark lets them bring: the length of the document, or 100,000 where that is more. `math.inf` is no limit. If definitions
-    bring more, References is raised.
-
-    >>> htmls('a[^b]\\n\\n*c*', [Content([(0, 5)]), Content([(7, 10)])])
-    ['a[^b]', '<em>c</em>']
-    """
-    bytes_given = _arguments.text_of(document, 'document')
-    pieces, listed, count = _arguments.contents_of(contents)
-    defined, targets, written = _arguments.targets_of(definitions)
-    given = _library.Given(bytes_given, pieces, _bits(options, rules, gfm, math), defined, _arguments.labels_of(footnotes, 'footnotes'), written)
-    asked, limit = _shown(raw_html, any_link, line_ends), _arguments.limit_of(reference_limit)
-    status, found, ends, blamed = _library.htmls(given, targets, len(defined), listed, count, asked, limit)
-    if status:
-        raise raised(status, blamed)
-    return _library.parted(found, ends)
+# What the words of constructs add: bits of options, and of blocks.
+_ADDED = {
+    'strikethrough': (_tables.OPTIONS['gfm_strikethrough'], 0), 'bare_urls': (_tables.OPTIONS['gfm_autolink_literal'], 0),
+    'tasks': (_tables.OPTIONS['gfm_task_list_item'], 0), 'math': (_tables.MATH, _tables.BLOCKS_MATH), 'front_matter': (0, _tables.BLOCKS_FRONT_MATTER),
+}
 
 
-def strings(
-        document: Text, strings: Iterable[Iterable[Sequence[int]]], *, rules: Rules = 'commonmark', options: Optional[int] = None, line_feeds: bool = False,
-        replaced_nul: bool = False) -> List[str]:
-    """The texts of strings, such as titles and destinations, with escapes and character references resolved. A string is a list of parts, each a range
-    of bytes of the document as (start, end), which are one text. Where it stands in a paragraph, they are what `Data` and `LineEnding` cover inside it.
-    References are decoded as of `reference`, by the rules or the options with which the document is read. With `line_feeds` each line ending is written as a
-    line feed, and with `replaced_nul` NUL as U+FFFD.
-
-    >>> strings('[a](b\\\\*c "d &check; e")', [[(4, 8)], [(10, 21)]])
-    ['b*c', 'd ✓ e']
-    """
-    bytes_given = _arguments.text_of(document, 'document')
-    parts, listed, count = _arguments.strings_of(strings)
-    how = _arguments.flag_of(line_feeds, 'line_feeds') | _arguments.flag_of(replaced_nul, 'replaced_nul') << 1
-    status, found, ends, at = _library.strings(_bits(options, rules), how, bytes_given, parts, listed, count)
-    if status:
-        raise raised(status, at)
-    return _library.parted(found, ends)
-
-
-def pieces_of_lines(document: Text, starts: Iterable[int]) -> List[Piece]:
-    """The pieces of a paragraph, made of where its lines begin: `starts` are the bytes at which the paragraph's part of each line begins, behind the markers of
-    quotes and items; blanks may stand there. A piece begins at the first byte from its start on that is no space or tab, and ends just behind its line's ending;
-    the last one ends before the whitespace at its end.
-
-    Each start but the first stands on the line behind that of the start before, or else NoContent is raised, as for one inside a character or behind the end of
-    the document. If a line has only spaces and tabs behind its start, BlankLine is raised. The field `at` of both has the number of the first start that is
-    refused. A call looks at these lines alone, but a document that is a `str` is made UTF-8 first: for many paragraphs hand over bytes.
-
-    >>> pieces_of_lines('> a *b\\n> c*', [1, 8])
-    [Piece(start=2, end=7, start_vs=0, end_vs=0), Piece(start=9, end=11, start_vs=0, end_vs=0)]
-    """
-    bytes_given = _arguments.text_of(document, 'document')
-    status, found, blamed = _library.pieces_of_lines(bytes_given, _arguments.starts_of(starts))
-    if status:
-        raise raised(status, blamed)
-    return [Piece(*it) for it in zip(found[::4], found[2::4], found[1::4], found[3::4])]
-
-
-def identifier(label: Text) -> str:
-    """The identifier of a label, as labels are compared: its words joined by one space and case folded."""
-    return _decoded('markdown_inline_identifier', _arguments.text_of(label, 'label'))
-
-
-def reference(reference: Text, *, rules: Rules = 'commonmark', options: Optional[int] = None) -> str:
-    """The text that a character reference stands for. It is the whole reference, with its `&` and its `;`. By CommonMark each name of HTML is known, and a
-    number stands for a control or a noncharacter too. Of `options` the bit of `html_references` says the former, and that of `standard_rules` both.
-
-    >>> reference('&amp;'), reference('&#x41;'), reference('&check;')
-    ('&', 'A', '✓')
-    """
-    return _decoded('markdown_inline_reference', _arguments.text_of(reference, 'reference'), _bits(options, rules))
-
-
-def _decoded(function: str, given: bytes, *before: int) -> str:
-    status, found = _library.decoded(function, given, *before)
-    if status:
-        raise raised(status)
-    return str(found, 'utf-8')
-
-
-def is_text(document: Text, pieces: Pieces = None) -> bool:
-    """Whether the pieces are a text of the document. If memory runs out, this is not known, and NoMemory is raised."""
-    return _holds('markdown_inline_is_text', document, pieces)
-
-
-def is_content(document: Text, pieces: Pieces = None) -> bool:
-    """Whether the pieces are a content of the document. If memory runs out, this is not known, and NoMemory is raised."""
-    return _holds('markdown_inline_is_content', document, pieces)
-
-
-def _holds(function: str, document: Text, pieces: Pieces) -> bool:
-    bytes_given = _arguments.text_of(document, 'document')
-    status = _library.tested(function, bytes_given, _arguments.pieces_of(pieces, len(bytes_given)))
-    if status == NoMemory.status:
-        raise raised(status)
-    return status == _library.DONE
+def _constructs(*given: bool) -> Tuple[int, int]:
+    """The bits of the options and of the blocks that a document is read with, by the flags of the words."""
+    options, blocks = _tables.COMMONMARK, 0
+    for flag, (word, (option, block)) in zip(given, _ADDED.items()):
+        if _arguments.flag_of(flag, word):
+            options, blocks = options | option, blocks | block
+    return options, blocks

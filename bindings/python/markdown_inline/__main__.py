@@ -1,191 +1,155 @@
-"""Prints what stands on standard input, which is one paragraph: its events as the program mdinline does, with the same words and the same statuses; or
-its tree, its HTML or its links. Of files, or of standard input as a file, it prints the HTML with all blocks."""
+"""Renders Markdown files to HTML, or lists their links, with the arguments and the statuses of mdhtml."""
+import json
 import math
-import os
 import sys
 
-from . import COMMONMARK, CRATE, GFM, MATH, Error, Events, NotUtf8, OPTIONS, References, TooLong, __version__, document_html, html, links, string, text
-from . import _program, _tables
-from ._links import line_starts
+from . import NotUtf8, References, __version__, parse, render
+from ._lines import Lines
+from ._printed import links, shown
+from ._program import NO_MEMORY, UNKNOWN, Fault, read, say, write
+from ._tables import STATUSES
 
-USAGE = '''usage: python -m markdown_inline text|string [WORD]..        the events
-       python -m markdown_inline --tree [text|string] [WORD]..  what stands in what, with its text
-       python -m markdown_inline --html [text] [WORD]..         the HTML
-       python -m markdown_inline --links [text] [WORD]..        where links lead
-       python -m markdown_inline --document [WORD].. [FILE]..   the HTML of files, with all blocks
-       python -m markdown_inline --help|--version
-words: gfm math task crate cm-lengths cm-shortcut html-references commonmark note=TEXT; of events and the tree label=TEXT; of HTML and links define=LABEL
-       to=DESTINATION [title=TEXT]; of HTML raw any-link; of documents those of mdhtml: --strikethrough --bare-urls --tasks --math --raw --any-link --lf
-       --crlf --no-limit'''
-# The words of mdinline. By `crate` the program reads as mdinline does, by the rules of the crate where the last four say nothing else.
-SWITCHES = {
-    'gfm': GFM, 'math': MATH, 'task': OPTIONS['first_of_item'], 'crate': 0, 'cm-lengths': OPTIONS['attention_first_lengths'],
-    'cm-shortcut': OPTIONS['label_shortcut_before_bracket'], 'html-references': OPTIONS['html_references'], 'commonmark': OPTIONS['standard_rules'],
+HELP = '''usage: python -m markdown_inline [OPTION].. [--] FILE..   each file is a document of its own
+       python -m markdown_inline [OPTION].. < FILE
+       python -m markdown_inline --help | --version
+
+--to=html          HTML; this is the default
+--to=links         a line for each link or image of a named file, FILE:LINE:COLUMN: DESTINATION; of standard input line, column, kind, destination and title,
+                   separated by tabs
+--json             with --to=links: a JSON object for each link, one a line
+--strikethrough    ~~a~~ and ~a~ are struck through
+--bare-urls        URLs and email addresses are links without < and > too
+--tasks            [ ] and [x] that begin a list item are checkboxes
+--math             $a$ and $$a$$ are math, and so are lines between two lines of $$
+--front-matter     lines between two lines of --- or of +++ at the start of a file are left out
+--raw              HTML of the file stays HTML; otherwise it is escaped
+--any-link         links may have any destination; otherwise only relative ones and those of listed schemes
+--lf, --crlf       each line ending is written as LF, as CR LF; otherwise it stays as in the file
+--no-limit         references may repeat any number of bytes of link definitions; otherwise 100,000, or as many as the file has if it is longer
+
+For one paragraph there is python -m markdown_inline.inline.'''
+READING = {'--strikethrough': 'strikethrough', '--bare-urls': 'bare_urls', '--tasks': 'tasks', '--math': 'math', '--front-matter': 'front_matter'}
+WRITING = {
+    '--raw': ('html', 'raw'), '--any-link': ('any_link', True), '--lf': ('line_ends', '\n'), '--crlf': ('line_ends', '\r\n'), '--no-limit': ('limit', math.inf),
 }
-# Words that say what HTML may hold.
-SHOWN = {'raw': 'raw_html', 'any-link': 'any_link'}
-# The words of mdhtml, as those of `document_html`.
-OF_DOCUMENTS = {
-    '--strikethrough': {'strikethrough': True}, '--bare-urls': {'bare_urls': True}, '--tasks': {'tasks': True}, '--math': {'math': True}, '--raw': {'raw_html': True},
-    '--any-link': {'any_link': True}, '--lf': {'line_ends': '\n'}, '--crlf': {'line_ends': '\r\n'}, '--no-limit': {'reference_limit': math.inf},
-}
-# Statuses: a word is not known, memory was refused, reading or writing failed.
-USAGE_STATUS, NO_MEMORY, FAILED = 2, 5, 6
-
-
-class Fault(Exception):
-    """Why the program ends without its output: a status, and what it says."""
-
-    def __init__(self, status, words):
-        super().__init__(words)
-        self.status = status
+NOT_UTF_8 = 'not UTF-8 at line %d, column %d: convert the file to UTF-8, for example with iconv'
+BEYOND = 'references repeat more than %d bytes of link definitions, of which HTML may have up to 9 times as many: --no-limit lifts this limit'
+# Statuses: references expand to more than the limit, and nobody reads the output any more.
+LIMIT, CLOSED = 7, 141
 
 
 class Asked:
-    """What the words ask for."""
+    """What the arguments ask for."""
 
     def __init__(self, words):
-        self.how, self.reads, self.options, self.html = '', '', CRATE if 'crate' in words else COMMONMARK, {}
-        self.labels, self.notes, self.targets, self.files = [], [], [], []
-        words, take = list(words), self.take
-        if words and words[0] in ('--tree', '--html', '--links', '--document'):
-            self.how = words.pop(0)
-            self.reads = 'text'
-        if self.how == '--document':
-            take = self.take_file
-        elif words and (words[0] == 'text' or words[0] == 'string' and self.how in ('', '--tree')):
-            self.reads = words.pop(0)
-        if not self.reads or not all([take(it) for it in words]) or any(it[1] is None for it in self.targets):
-            raise Fault(USAGE_STATUS, USAGE)
+        self.to, self.is_json, self.reading, self.writing, self.files = 'html', False, {}, {}, []
+        words = list(words)
+        while words:
+            word = words.pop(0)
+            if word == '--':
+                self.files += words
+                break
+            if not word.startswith('-'):
+                self.files.append(word)
+            elif not self.take(word):
+                raise Fault(UNKNOWN, 'unknown option %s: markdown_inline --help lists the options' % named(word))
+        if self.is_json and self.to == 'html':
+            raise Fault(UNKNOWN, '--json prints links: add --to=links')
 
-    def take(self, word):
-        """Takes a word, and returns whether it is known and stands where it may."""
-        name, sign, words = word.partition('=')
-        if not sign:
-            if self.how == '--html' and name in SHOWN:
-                self.html[SHOWN[name]] = True
-                return True
-            self.options |= SWITCHES.get(name, 0)
-            return name in SWITCHES
-        return self.take_text(name, os.fsencode(words))
-
-    def take_file(self, word):
-        """Takes a word of documents, or the name of a file. No name begins with a hyphen."""
-        if word in OF_DOCUMENTS:
-            self.html.update(OF_DOCUMENTS[word])
-            return True
-        self.files.append(word)
-        return not word.startswith('-')
-
-    def take_text(self, name, words):
-        words.decode()
-        leads = self.how in ('--html', '--links')
-        if name == 'note':
-            self.notes.append(words)
-        elif name == 'label' and not leads:
-            self.labels.append(words)
-        elif name == 'define' and leads:
-            self.targets.append([words, None, None])
-        elif name == 'to' and self.targets and self.targets[-1][1] is None:
-            self.targets[-1][1] = words
-        elif name == 'title' and self.targets and self.targets[-1][1] is not None and self.targets[-1][2] is None:
-            self.targets[-1][2] = words
+    def take(self, option):
+        """Takes an option, and returns whether it is known."""
+        if option == '--gfm':
+            raise Fault(UNKNOWN, '--gfm is not there yet, for want of tables and footnotes: use --strikethrough, --bare-urls and --tasks')
+        if option in ('--to=html', '--to=links'):
+            self.to = option[5:]
+        elif option == '--json':
+            self.is_json = True
+        elif option in READING:
+            self.reading[READING[option]] = True
+        elif option in WRITING:
+            self.writing.update([WRITING[option]])
         else:
             return False
         return True
 
-    def events(self, given) -> Events:
-        if self.reads == 'string':
-            return string(given, options=self.options)
-        return text(given, options=self.options, definitions=self.labels, footnotes=self.notes)
-
-    def output(self, given):
-        """What is printed of a document."""
-        # Of two definitions of a label the library takes the first, but of two that are written alike a dict has the last.
-        targets = {label: (destination, title) for label, destination, title in self.targets[::-1]}
-        asked = {'options': self.options, 'footnotes': self.notes, 'definitions': {it[0]: targets[it[0]] for it in self.targets}}
-        if self.how == '--html':
-            return html(given, **asked, **self.html) + '\n'
-        if self.how == '--links':
-            found = _program.links(links(given, **asked))
-        else:
-            found = _program.tree(self.events(given), given) if self.how else map(str, self.events(given))
-        return ''.join(it + '\n' for it in found)
-
-
-def read(file=None):
-    """What stands in a file, or on standard input."""
-    try:
-        with open(0 if file is None else file, 'rb', closefd=file is not None) as it:
-            return it.read()
-    except OSError:
-        raise Fault(FAILED, 'read failed' if file is None else '%r: read failed' % file) from None
-
-
-def document_of(file, html):
-    """The HTML of a file, or of standard input."""
-    given = read(file)
-    try:
-        return document_html(given, **html)
-    except (NotUtf8, References) as error:
-        said = ('' if file is None else '%r: ' % file) + str(error) + ('' if error.at is None else place_of(given, error.at))
-        raise Fault(error.status, said) from None
+    def print(self, file):
+        """Prints what is asked for of a file, or of standard input."""
+        given = read(file)
+        limit = self.writing.get('limit', max(100_000, len(given)))
+        try:
+            if self.to == 'html':
+                return write([render(given, **self.reading, **self.writing)])
+            found = parse(given, **self.reading).links
+        except NotUtf8 as error:
+            raise Fault(error.status, NOT_UTF_8 % place_of(given, error.at)) from None
+        except References:
+            raise Fault(LIMIT, BEYOND % limit) from None
+        within = found[:count_within(found, limit)]
+        write(it + '\n' for it in links(with_tab_stops(within, given), file, self.is_json))
+        if len(within) < len(found):
+            raise Fault(LIMIT, BEYOND % limit)
+        return None
 
 
 def place_of(document, byte):
-    """The line and the column of a byte before which all is UTF-8. Columns count characters."""
-    starts = line_starts(document[:byte])
-    return ': line %d, column %d' % (len(starts), len(document[starts[-1]:byte].decode()) + 1)
+    """The line and the column of a byte, which counts bytes."""
+    lines = Lines(document[:byte])
+    return lines.line(byte), lines.column(byte)
 
 
-def read_all():
-    """What stands on standard input, without one final line ending."""
-    given = read()
-    for ending in (b'\r\n', b'\n', b'\r'):
-        if given.endswith(ending):
-            return given[:-len(ending)]
-    return given
+def count_within(found, limit):
+    """How many links come before the one by which references expand to more bytes than the limit."""
+    for count, it in enumerate(found):
+        if it.definition is not None:
+            limit -= len(it.destination.encode()) + len((it.title or '').encode())
+            if limit < 0:
+                return count
+    return len(found)
 
 
-def write_all(words):
-    """Writes to standard output. A part that was written is not taken back."""
-    try:
-        with open(1, 'wb', closefd=False) as file:
-            file.write(words.encode())
-    except OSError:
-        raise Fault(FAILED, 'write failed') from None
-
-
-def run(words):
-    if words in (['--help'], ['--version']):
-        return write_all((USAGE if words == ['--help'] else 'markdown_inline ' + __version__) + '\n')
-    asked = Asked(words)
-    if asked.how == '--document':
-        write_all(''.join([document_of(it, asked.html) for it in asked.files or [None]]))
-    else:
-        write_all(asked.output(read_all()))
+def with_tab_stops(found, document):
+    """Links with the columns of mdhtml, where a tab is all columns up to its tab stop."""
+    line = at = column = 0
+    for it in found:
+        if it.line != line:
+            line, at, column = it.line, it.start - it.column + 1, 0
+        column += len((b' ' * (column % 4) + document[at:it.start]).expandtabs(4)) - column % 4
+        at = it.start
+        yield it._replace(column=column + 1)
 
 
 def main(words):
-    """Runs the program: its status, after words on standard error where that is not 0."""
+    """Runs the program: its status, that of the first error. Each error is a line on standard error, and the program goes on with the next file, unless writing
+    failed."""
+    status, file = 0, None
     try:
-        run(words)
-        return 0
+        if words in (['--help'], ['--version']):
+            write([HELP, '\n'] if words == ['--help'] else ['markdown_inline %s\n' % __version__])
+            return 0
+        asked = Asked(words)
+        for file in asked.files or [None]:
+            try:
+                asked.print(file)
+            except Fault as fault:
+                if str(fault).startswith('write'):
+                    raise
+                status = said(fault, file, status)
+            except MemoryError:
+                status = said(Fault(NO_MEMORY, STATUSES[NO_MEMORY]), file, status)
     except Fault as fault:
-        status, said = fault.status, fault
-    except MemoryError:
-        status, said = NO_MEMORY, _tables.STATUSES[NO_MEMORY]
-    except UnicodeDecodeError:
-        status, said = USAGE_STATUS, 'a word is not UTF-8'
-    except TooLong as error:
-        status, said = FAILED, error
-    except Error as error:
-        status, said = error.status, error
-    try:
-        os.write(2, ('%s\n' % said if status == USAGE_STATUS and str(said) == USAGE else 'markdown_inline: %s\n' % said).encode())
-    except OSError:
-        pass
+        return CLOSED if isinstance(fault.__cause__, BrokenPipeError) else said(fault, file, status)
     return status
+
+
+def named(word):
+    """An argument as errors name it."""
+    return shown(json.dumps(word, ensure_ascii=False))
+
+
+def said(fault, file, status):
+    """The status after a fault that is said, where it was another before."""
+    say('markdown_inline: %s%s' % ('' if file is None else named(file) + ': ', fault))
+    return status or fault.status
 
 
 def script():

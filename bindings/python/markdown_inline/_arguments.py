@@ -12,7 +12,8 @@ _TARGET = struct.Struct('=4QI4x')
 _CONTENT = struct.Struct('=2QI4x')
 _NO_NUMBERS = array('Q')
 BUFFERS = (bytes, bytearray, memoryview)
-# How line endings are written, as bits of HTML.
+# Whether raw HTML is escaped, and how line endings are written, as bits of HTML.
+_HTML = {'escape': 0, 'raw': 1}
 _LINE_ENDS = {'\n': 0x20, '\r\n': 0x40}
 _NO_PIECES = (str, range) + BUFFERS
 
@@ -69,9 +70,10 @@ def bits_of(given):
     return bits
 
 
-def line_ends_of(given):
-    """The bits of HTML that say how line endings are written. None leaves them as they are."""
-    return 0 if given is None else one_of(given, _LINE_ENDS, 'line_ends')
+def shown_of(html, any_link, line_ends):
+    """What HTML may contain and how it is written, as bits. If `line_ends` is None, line endings stay as they are."""
+    shown = one_of(html, _HTML, 'html') | flag_of(any_link, 'any_link') << 1
+    return shown if line_ends is None else shown | one_of(line_ends, _LINE_ENDS, 'line_ends')
 
 
 def limit_of(given):
@@ -81,15 +83,15 @@ def limit_of(given):
     if isinstance(given, float) and given == math.inf:
         return 2 ** 64 - 1
     if isinstance(given, bool):
-        raise TypeError('reference_limit is a number of bytes, and not a bool')
+        raise TypeError('limit is a number of bytes, and not a bool')
     try:
         limit = operator.index(given)
     except TypeError:
-        raise TypeError('reference_limit is a number of bytes, and not a %s' % _kind(given)) from None
+        raise TypeError('limit is a number of bytes, and not a %s' % _kind(given)) from None
     if not 0 <= limit < 2 ** 64:
-        raise OverflowError('reference_limit is below 0 or has more than 64 bits')
+        raise OverflowError('limit is below 0 or has more than 64 bits')
     if limit == 0:
-        raise ValueError('reference_limit is from 1 on, and math.inf for none')
+        raise ValueError('limit is from 1 on, and math.inf for none')
     return limit
 
 

@@ -89,22 +89,21 @@ class Leaf(NamedTuple):
 
 
 class Characters:
-    """Counts the characters of a document before its bytes, or those bytes of it that are not left out. It goes on from the last byte that it was asked for,
-    where that is near, and else from the last mark: how many come before every so many bytes is counted once, at the first such need. Each step is one
-    assignment, so several threads may ask."""
-    __slots__ = ('_document', '_left_out', '_is_ascii', '_last', '_marks')
+    """Counts the characters of a document before its bytes. It goes on from the last byte that it was asked for, where that is near, and else from the last
+    mark: how many come before every so many bytes is counted once, at the first such need. Each step is one assignment, so several threads may ask."""
+    __slots__ = ('_document', '_is_ascii', '_last', '_marks')
 
-    def __init__(self, document: bytes, left_out: bytes = _CONTINUED) -> None:
-        self._document, self._left_out, self._is_ascii, self._last = document, left_out, document.isascii(), (0, 0)
+    def __init__(self, document: bytes) -> None:
+        self._document, self._is_ascii, self._last = document, document.isascii(), (0, 0)
         self._marks: Optional[List[int]] = None
 
     def __reduce__(self) -> Tuple[Any, ...]:
-        return Characters, (self._document, self._left_out)
+        return Characters, (self._document,)
 
     def _marked(self) -> List[int]:
         if self._marks is None:
             document = self._document
-            counts = (len(document[at:at + _STRIDE].translate(None, self._left_out)) for at in range(0, len(document), _STRIDE))
+            counts = (len(document[at:at + _STRIDE].translate(None, _CONTINUED)) for at in range(0, len(document), _STRIDE))
             self._marks = list(accumulate(counts, initial=0))
         return self._marks
 
@@ -114,7 +113,7 @@ class Characters:
         start, count = self._last
         if not start <= index <= start + _STRIDE:
             start, count = index - index % _STRIDE, self._marked()[index // _STRIDE]
-        count += len(self._document[start:index].translate(None, self._left_out))
+        count += len(self._document[start:index].translate(None, _CONTINUED))
         self._last = index, count
         return count
 

@@ -42,7 +42,10 @@ class Outcome(ctypes.Structure):
 
 class DocumentOptions(ctypes.Structure):
     """How a document is read and written. The reserved words are 0."""
-    _fields_ = [('options', ctypes.c_uint32), ('html', ctypes.c_uint32), ('reserved', 2 * ctypes.c_uint32), ('limit', _size), ('reserved_words', 13 * _size)]
+    _fields_ = [
+        ('options', ctypes.c_uint32), ('html', ctypes.c_uint32), ('blocks', ctypes.c_uint32), ('reserved', ctypes.c_uint32), ('limit', _size),
+        ('reserved_words', 13 * _size),
+    ]
 
 
 class Given:
@@ -95,10 +98,11 @@ def _load():
     if found != VERSION:
         raise ImportError('the library has version %d of the interface, and this package wants %d' % (found, VERSION))
     text, numbers, lent = [ctypes.c_char_p, _size], [ctypes.c_void_p, _size], [ctypes.c_void_p, _size, ctypes.POINTER(_size)]
+    read = text + [ctypes.c_uint32]
     given, outcome, counts = [ctypes.POINTER(Input)], [ctypes.POINTER(Outcome)], [ctypes.POINTER(_size)]
     for name, arguments in (
         ('is_content', text + numbers), ('is_text', text + numbers), ('pieces_of_lines', text + 2 * numbers + outcome), ('string', given + lent), ('text', given + lent), ('leaves', given + lent),
-        ('document_html', text + [ctypes.POINTER(DocumentOptions)] + numbers + outcome), ('blocks', text + 2 * numbers + counts), ('definitions', text + 3 * numbers + counts), ('identifier', text + lent), ('reference', [ctypes.c_uint32] + text + lent), ('texts', given + 3 * numbers + outcome), ('short_texts', given + 3 * numbers + outcome),
+        ('document_html', text + [ctypes.POINTER(DocumentOptions)] + numbers + outcome), ('blocks', read + 2 * numbers + counts), ('definitions', read + 3 * numbers + counts), ('identifier', text + lent), ('reference', [ctypes.c_uint32] + text + lent), ('texts', given + 3 * numbers + outcome), ('short_texts', given + 3 * numbers + outcome),
         ('html', given + numbers + [ctypes.c_uint32, _size] + lent), ('htmls', given + 2 * numbers + [ctypes.c_uint32, _size] + 2 * numbers + outcome),
         ('strings', 2 * [ctypes.c_uint32] + text + 4 * numbers + outcome),
     ):
@@ -159,14 +163,14 @@ def filled(call, size, room):
     raise RuntimeError('the library wants other room for the same input')
 
 
-def _filled_each(function, document, *arrays):
+def _filled_each(function, document, block_options, *arrays):
     """The status of a call that is lent several arrays, and two counts, and the bytes that it wrote to each. An array is told by the size of its elements, the
     number of their count, and the room that it has in elements at first. The call tells how many they are where one of them is too small."""
     counts = (_size * 2)()
     rooms = [room for _, _, room in arrays]
     for _ in range(2):
         lent = [_lend(size * room) for (size, _, _), room in zip(arrays, rooms)]
-        status = function(document, len(document), *chain.from_iterable((it, len(it) // size) for it, (size, _, _) in zip(lent, arrays)), counts)
+        status = function(document, len(document), block_options, *chain.from_iterable((it, len(it) // size) for it, (size, _, _) in zip(lent, arrays)), counts)
         rooms = [counts[at] for _, at, _ in arrays]
         if status != TOO_SMALL:
             return status, [_written(it, size * room if status == DONE else 0) for it, (size, _, _), room in zip(lent, arrays, rooms)]
@@ -224,9 +228,9 @@ def decoded(name, text, *before):
     return filled(lambda *lent: function(*before, text, len(text), *lent), 1, len(text))
 
 
-def document_html(document, options, html_options, limit):
+def document_html(document, options, block_options, html_options, limit):
     """Calls for the HTML of a document: the status, its bytes, and the first byte that is not UTF-8, if one is not."""
-    asked, outcome = DocumentOptions(options=options, html=html_options, limit=limit), Outcome()
+    asked, outcome = DocumentOptions(options=options, html=html_options, blocks=block_options, limit=limit), Outcome()
 
     def call(lent, room, count):
         status = LIBRARY.markdown_inline_document_html(document, len(document), asked, lent, room, outcome)
@@ -236,16 +240,16 @@ def document_html(document, options, html_options, limit):
     return (*filled(call, 1, 2 * len(document)), outcome.at())
 
 
-def blocks(document):
+def blocks(document, block_options):
     """Calls for the blocks of a document: the status, and the bytes of the blocks and of their pieces."""
     # Prose has a block and a piece for each line.
     room = len(document) // 16 + 64
-    return _filled_each(LIBRARY.markdown_inline_blocks, document, (_BLOCK_SIZE, 0, room), (_PIECE_SIZE, 1, room))
+    return _filled_each(LIBRARY.markdown_inline_blocks, document, block_options, (_BLOCK_SIZE, 0, room), (_PIECE_SIZE, 1, room))
 
 
-def definitions(document):
+def definitions(document, block_options):
     """Calls for the definitions of a document: the status, the texts of labels and targets, and the bytes of where the labels stand and of the targets."""
-    return _filled_each(LIBRARY.markdown_inline_definitions, document, (1, 1, 0), (_RANGE_SIZE, 0, 0), (_TARGET_SIZE, 0, 0))
+    return _filled_each(LIBRARY.markdown_inline_definitions, document, block_options, (1, 1, 0), (_RANGE_SIZE, 0, 0), (_TARGET_SIZE, 0, 0))
 
 
 def texts(name, size, given, contents, count):

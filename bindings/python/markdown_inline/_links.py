@@ -1,16 +1,15 @@
-"""Where links lead: the links, images, autolinks and literals of many contents, by their short events."""
-import re
-from bisect import bisect_right
+"""Where links lead: the links, images, autolinks and bare URLs of many contents, by their short events."""
 from typing import Callable, Dict, List, NamedTuple, Optional, Sequence, Tuple
 
-from ._events import Characters, ShortTexts
+from ._events import ShortTexts
+from ._lines import Lines
 from ._names import Name
 
 _KINDS = {
     Name.Link: 'link', Name.Image: 'image', Name.Autolink: 'autolink', Name.GfmAutolinkLiteralEmail: 'literal', Name.GfmAutolinkLiteralMailto: 'literal',
     Name.GfmAutolinkLiteralProtocol: 'literal', Name.GfmAutolinkLiteralWww: 'literal', Name.GfmAutolinkLiteralXmpp: 'literal',
 }
-# What stands before an address where it is no URL yet.
+# What precedes an address that is no URL yet.
 _SCHEMES = {
     Name.AutolinkEmail: 'mailto:', Name.AutolinkProtocol: '', Name.GfmAutolinkLiteralEmail: 'mailto:', Name.GfmAutolinkLiteralMailto: '',
     Name.GfmAutolinkLiteralProtocol: '', Name.GfmAutolinkLiteralWww: 'http://', Name.GfmAutolinkLiteralXmpp: '',
@@ -21,18 +20,14 @@ _PART, _KIND, _ADDRESS, _STRING, _TITLE = 1, 2, 4, 8, 16
 _SAYS = [
     _PART * (name in (Name.Data, Name.LineEnding)) | _KIND * (name in _KINDS) | _ADDRESS * (name in _SCHEMES) | _STRING * (name in _STRINGS)
     | _TITLE * (name == Name.ResourceTitle) for name in Name]
-_LINE_ENDING = re.compile(b'\r\n|\n|\r')
 _NO_DEFINITION = 2 ** 32 - 1
-# All bytes but those that begin a character of two units of UTF-16.
-_LOW = bytes(range(0xf0))
-#: What columns may count.
-COLUMNS = {'bytes': 0, 'characters': 1, 'utf-16': 2}
 
 
 class Address(NamedTuple):
-    """A link, an image, an autolink or a literal, and where it leads. `kind` is one of these four words. It stands from the byte `start` to the byte `end`, and
-    `line` and `column` count from 1. `title` is None where it has none. `definition` is the number of the definition that it refers to, or None; and `content`
-    the number of the content in which it stands."""
+    """A link, an image, an autolink or a bare URL, and where it leads. `kind` is 'link', 'image', 'autolink' or 'literal', which is a bare URL. `start` and `end`
+    are indexes of the document as it was given: of characters in a `str`, of bytes in bytes. `line` and `column` count from 1, and a column counts as the
+    indexes do. `title` is None where it has none. `definition` is the number of the definition that it refers to, or None; and `content` the number of its
+    content."""
     kind: str
     line: int
     column: int
@@ -88,23 +83,10 @@ def found_in(events: ShortTexts) -> Tuple[List[Found], List[List[Tuple[int, int]
     return found, strings
 
 
-def line_starts(document: bytes) -> List[int]:
-    """The bytes at which lines begin."""
-    return [0, *(it.end() for it in _LINE_ENDING.finditer(document))]
-
-
-def _columns(document: bytes, columns: str) -> Callable[[int], int]:
-    """How many of these a document has before a byte."""
-    if columns == 'bytes' or document.isascii():
-        return lambda byte: byte
-    characters, high = Characters(document).before, Characters(document, _LOW).before
-    return characters if columns == 'characters' else lambda byte: characters(byte) + high(byte)
-
-
-def addresses(document: bytes, found: List[Found], strings: List[str], targets: Sequence[Tuple[str, Optional[str]]], columns: str) -> List[Address]:
-    """Where all leads: by its strings, by the targets of definitions, or as it is written."""
-    listed, count = [], _columns(document, columns)
-    starts = line_starts(document)
+def addresses(
+        lines: Lines, found: List[Found], strings: List[str], targets: Sequence[Tuple[str, Optional[str]]], decoded: Callable[[bytes], str] = bytes.decode) -> List[Address]:
+    """Where all leads: by its strings, by the targets of definitions, or as it is written, which is `decoded`."""
+    listed = []
     for it in found:
         if it.definition is not None:
             destination, title = targets[it.definition]
@@ -112,8 +94,7 @@ def addresses(document: bytes, found: List[Found], strings: List[str], targets: 
             destination, title = (strings[it.strings[name]] if name in it.strings else '' for name in _STRINGS)
             title = title if it.has_title else None
         else:
-            destination, title = it.scheme + document[slice(*it.address)].decode(), None
-        line = bisect_right(starts, it.start)
-        column = count(it.start) - count(starts[line - 1]) + 1
-        listed.append(Address(_KINDS[Name(it.name)], line, column, it.start, it.end, destination, title, it.definition, it.content))
+            destination, title = it.scheme + decoded(lines.document[slice(*it.address)]), None
+        place = lines.line(it.start), lines.column(it.start), lines.offset(it.start), lines.offset(it.end)
+        listed.append(Address(_KINDS[Name(it.name)], *place, destination, title, it.definition, it.content))
     return listed

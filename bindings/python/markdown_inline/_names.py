@@ -2,7 +2,7 @@
 import enum
 
 
-class _Word(enum.IntEnum):
+class Word(enum.IntEnum):
     """A number that has a text: `str` is the text, and it compares as the number does."""
 
     def __str__(self) -> str:
@@ -15,35 +15,13 @@ class _Word(enum.IntEnum):
         return format(self.name, form)
 
 
-class Kind(_Word):
+class Kind(Word):
     """Whether something begins or ends."""
     Enter = 0
     Exit = 1
 
 
-class BlockKind(_Word):
-    """What a block is, by the numbers of markdown_inline.h."""
-    #: A blank line.
-    BlankLine = 0
-    #: A thematic break, as `***` (CommonMark 4.1).
-    ThematicBreak = 1
-    #: A heading, as `# a`, or with a line of `=` or `-` below (CommonMark 4.2 and 4.3).
-    Heading = 2
-    #: A paragraph (CommonMark 4.8).
-    Paragraph = 3
-    #: Code that is indented (CommonMark 4.4).
-    IndentedCode = 4
-    #: Code between fences (CommonMark 4.5).
-    FencedCode = 5
-    #: HTML (CommonMark 4.6).
-    Html = 6
-    #: A block quote (CommonMark 5.1).
-    Quote = 7
-    #: An item of a list (CommonMark 5.2).
-    Item = 8
-
-
-class Name(_Word):
+class Name(Word):
     """What begins or ends, by the numbers and the names of markdown_inline.h."""
     #: A run of `*`, `_` or `~` that attention has not yet looked at. No event of a finished run has this name.
     AttentionSequence = 0

@@ -1,37 +1,44 @@
-"""What the program prints of a paragraph: its tree, or its links. The paragraph is the whole document."""
-import json
-import re
-from typing import Iterable, Iterator, List, Tuple
+"""What the programs of this package share: how they read, write, and say what is wrong."""
+import os
 
-from . import Address, Event, Events, Kind
-
-# How many levels are indented. A level below has its number instead, so that n levels are not n * n bytes.
-_DEEPEST = 32
+# Statuses: an argument is unknown, out of memory, reading or writing failed.
+UNKNOWN, NO_MEMORY, FAILED = 2, 5, 6
 
 
-def tree(events: Events, document: bytes) -> List[str]:
-    """A line for each thing that begins, below what it stands in: its name, where it begins and ends, and, where nothing stands in it, its text as JSON writes
-    it."""
-    found: List[str] = []
-    opened: List[Tuple[int, Event]] = []
-    for event in events:
-        if event.kind == Kind.Enter:
-            opened.append((len(found), event))
-            found.append('')
-            continue
-        at, enter = opened.pop()
-        depth = len(opened)
-        margin = '  ' * depth if depth <= _DEEPEST else '%s%d: ' % ('  ' * _DEEPEST, depth)
-        words = ' ' + json.dumps(document[enter.index:event.index].decode(), ensure_ascii=False) if at + 1 == len(found) else ''
-        found[at] = '%s%s %d:%d-%d:%d%s' % (margin, event.name, enter.line, enter.column, event.line, event.column, words)
-    return found
+class Fault(Exception):
+    """Why a program ends: a status, and what it says."""
+
+    def __init__(self, status, words):
+        super().__init__(words)
+        self.status = status
 
 
-def _one_line(words: str) -> str:
-    """Words without controls, which a terminal would obey: line endings and tabs as spaces, and the others by their numbers."""
-    return re.sub(r'[\x00-\x1f\x7f-\x9f]', lambda it: '\\x%02x' % ord(it[0]), ' '.join(words.replace('\t', ' ').splitlines()))
+def _failed(what, error):
+    return Fault(FAILED, '%s failed: %s (os error %d)' % (what, os.strerror(error.errno), error.errno))
 
 
-def links(found: Iterable[Address]) -> Iterator[str]:
-    """A line for each link, image, autolink and literal: line, column, what it is, destination, title, with a tab between two of them."""
-    return ('\t'.join((str(it.line), str(it.column), it.kind, _one_line(it.destination), _one_line(it.title or ''))) for it in found)
+def read(file=None):
+    """The bytes of a file, or of standard input."""
+    try:
+        with open(0 if file is None else file, 'rb', closefd=file is not None) as it:
+            return it.read()
+    except OSError as error:
+        raise _failed('read', error) from error
+
+
+def write(parts):
+    """Writes texts to standard output. What was written is not taken back. What a file name has that is not UTF-8 is written as it is."""
+    try:
+        with open(1, 'wb', closefd=False) as file:
+            for part in parts:
+                file.write(part.encode('utf-8', 'surrogateescape'))
+    except OSError as error:
+        raise _failed('write', error) from error
+
+
+def say(words):
+    """Writes a line to standard error, if that can be written."""
+    try:
+        os.write(2, (words + '\n').encode('utf-8', 'surrogateescape'))
+    except OSError:
+        pass

@@ -27,4 +27,5 @@ NAMES = tuple(_rows('NAME', r'X\([A-Z_]+, "(\w+)"\)'))
 BLOCKS = tuple(_rows('BLOCK', r'X\([A-Z_]+, "(\w+)"\)'))
 OPTIONS = {name: int(bit, 16) for name, bit in _rows('OPTION', r'X\([A-Z_]+, "(\w+)", (0x\w+)\)')}
 STATUSES = {int(number): words for number, words in _rows('STATUS', r'X\([A-Z0-9_]+, (\d+), "([^"]*)"\)')}
-COMMONMARK, CRATE, GFM, MATH = (int(re.search(r'MARKDOWN_INLINE_%s = (0x\w+)' % name, _TEXT).group(1), 16) for name in ('COMMONMARK', 'CRATE', 'GFM', 'MATH'))
+COMMONMARK, CRATE, GFM, MATH, BLOCKS_MATH, BLOCKS_FRONT_MATTER = (
+    int(re.search(r'MARKDOWN_INLINE_%s = (0x\w+)' % name, _TEXT).group(1), 16) for name in ('COMMONMARK', 'CRATE', 'GFM', 'MATH', 'BLOCKS_MATH', 'BLOCKS_FRONT_MATTER'))

@@ -22,8 +22,9 @@ from markdown_it.ruler import Ruler
 from markdown_it.rules_core import StateCore
 from markdown_it.token import Token
 
-from . import BlankLine, Name, OPTIONS, Piece, identifier, texts
+from ._errors import BlankLine
 from ._events import Characters
+from .inline import OPTIONS, Name, Piece, identifier, texts
 
 __all__ = ['pieces_of', 'plugin']
 

@@ -14,7 +14,8 @@ import webbrowser
 from http.server import BaseHTTPRequestHandler, ThreadingHTTPServer
 from itertools import islice
 
-from . import OPTIONS, BlankLine, DefinitionError, Error, NotUtf8, html, text
+from . import BlankLine, DefinitionError, Error, NotUtf8
+from .inline import OPTIONS, html, text
 
 PAGE = os.path.join(os.path.dirname(os.path.abspath(__file__)), 'play.html')
 #: How many bytes a question may have, and how many events an answer has at most.
@@ -40,7 +41,7 @@ def question_of(body):
         # Of two definitions of a label that are written alike the first one counts.
         defined = {label: (to, title or None) for label, to, title in reversed(asked['definitions'])}
         reads = {'options': bits, 'footnotes': asked['footnotes'], 'definitions': {it[0]: defined[it[0]] for it in asked['definitions']}}
-        most, shows = min(max(0, asked['most']), MOST), {'raw_html': asked['raw'], 'any_link': asked['any']}
+        most, shows = min(max(0, asked['most']), MOST), {'html': {False: 'escape', True: 'raw'}[asked['raw']], 'any_link': asked['any']}
         return asked['text'], reads, shows, most
     except (KeyError, TypeError, ValueError, RecursionError):
         raise Wrong(400, 'this is no question') from None

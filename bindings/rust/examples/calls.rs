@@ -2,7 +2,7 @@
 //!
 //! usage: calls REPEATS [html] < CONTENTS
 
-use markdown_inline::{Events, HtmlOptions, Htmls, Input, Piece, TextContent};
+use markdown_inline::inline::{Events, HtmlOptions, Htmls, Input, Piece, TextContent};
 use std::io::{self, Read};
 
 fn write_html(document: &str, htmls: &mut Htmls) -> Result<(), markdown_inline::Refusal> {

@@ -1,9 +1,12 @@
 //! Reads cases of `bindings/tests/draw.py` from standard input, and prints what the library finds in each: events as the program of
 //! `crates/markdown_test_runs` does, leaves, HTML in hexadecimal, or the events or the HTML of each text; where there are none, why.
 
+use markdown_inline::html::push_html;
+use markdown_inline::inline::{
+    Constructs, Event, HtmlOptions, Htmls, Input, Leaf, Piece, Point, ShortEvent, TextContent,
+};
 use markdown_inline::{
-    blocks, document_html, Block, Blocks, Definition, DocumentOptions, Error, Event, HtmlOptions,
-    Htmls, Input, Leaf, LineEnds, Options, Piece, Point, Refusal, ShortEvent, TextContent,
+    parse, to_html, Block, Definition, Document, Error, Html, Limit, LineEnds, Options, Refusal,
 };
 use std::io::{self, BufRead};
 
@@ -168,26 +171,44 @@ fn shown_definition(it: Definition) -> String {
     format!(
         " ;{}={}{}",
         hexadecimal(it.label.as_bytes()),
-        hexadecimal(it.destination.as_bytes()),
+        hexadecimal(it.url.as_bytes()),
         title.map_or(String::new(), |title| ":".to_string() + &title)
     )
 }
 
 // The blocks of a document, by the options and the footnotes of an input.
-fn blocks_of(found: &Blocks, input: Input, words: &[&str]) -> Result<String, Refusal> {
+fn blocks_of(found: &Document, input: Input, words: &[&str]) -> Result<String, Refusal> {
     let input = input.reference_limit(words[1].parse().unwrap());
     let htmls = input.htmls(found.contents(), held(words[0]))?;
-    let rows = found.iter().map(|block| shown_block(block, &htmls));
+    let rows = found.blocks().map(|block| shown_block(block, &htmls));
     Ok(rows
         .chain(found.definitions().map(shown_definition))
         .collect())
+}
+
+// CommonMark with blocks beside its own, by bits.
+fn with_blocks(bits: &str) -> Options {
+    let bits: u32 = bits.parse().unwrap();
+    Options::commonmark()
+        .math(bits & 1 > 0)
+        .front_matter(bits & 2 > 0)
+}
+
+// The HTML of a document; with line feeds that of its events.
+fn page_of(document: &[u8], options: &Options) -> Result<String, Refusal> {
+    if options.line_ends != LineEnds::Lf {
+        return to_html(document, options);
+    }
+    let mut page = String::new();
+    push_html(&mut page, parse(document, options)?.events());
+    Ok(page)
 }
 
 // What is found in a case, or why nothing is.
 fn answer(words: &[&str]) -> Result<String, Refusal> {
     let document = bytes_of(words[5]);
     let pieces: Vec<Piece> = listed(words[2]).map(piece_of).collect();
-    let options = Options::from_bits(words[1].parse().unwrap());
+    let options = Constructs::from_bits(words[1].parse().unwrap());
     let mut input = Input::new(&document)
         .pieces(&pieces)
         .options(options)
@@ -205,18 +226,24 @@ fn answer(words: &[&str]) -> Result<String, Refusal> {
         "leaves" => Ok(input.leaves()?.iter().map(shown_leaf).collect()),
         "html" => Ok(html_of(input.html(held(words[6])))?),
         "document" => {
-            let mut asked = DocumentOptions::default()
-                .strikethrough(options.contains(Options::GFM_STRIKETHROUGH))
-                .bare_urls(options.contains(Options::GFM_AUTOLINK_LITERAL))
-                .tasks(options.contains(Options::GFM_TASK_LIST_ITEM))
-                .math(options.contains(Options::MATH_TEXT));
-            asked.html = held(words[6]);
-            asked.reference_limit = words[7].parse().unwrap();
-            let html = document_html(&document, &asked)?;
+            let held = held(words[6]);
+            let asked = with_blocks(words[8])
+                .strikethrough(options.contains(Constructs::GFM_STRIKETHROUGH))
+                .bare_urls(options.contains(Constructs::GFM_AUTOLINK_LITERAL))
+                .tasks(options.contains(Constructs::GFM_TASK_LIST_ITEM))
+                .html(if held.raw_html {
+                    Html::Raw
+                } else {
+                    Html::Escape
+                })
+                .any_link(held.any_link)
+                .line_ends(held.line_ends)
+                .limit(words[7].parse::<usize>().unwrap());
+            let html = page_of(&document, &asked)?;
             Ok(format!(" {}", hexadecimal(html.as_bytes())))
         }
         "blocks" => {
-            let found = blocks(&document)?;
+            let found = parse(&document, &with_blocks(words[8]).limit(Limit::None))?;
             let input = found.input().options(options);
             blocks_of(
                 &found,

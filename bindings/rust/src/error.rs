@@ -14,7 +14,7 @@ pub enum Error {
     NotUtf8,
     /// A line of the text is blank, or it ends with a line ending. A string may have both.
     BlankLine,
-    /// Memory was refused.
+    /// Out of memory.
     NoMemory,
     /// The pieces are no content of the document.
     NoContent,
@@ -24,7 +24,7 @@ pub enum Error {
     TooLong,
     /// The bytes are no character reference, or one whose name is not known.
     NoReference,
-    /// In HTML, definitions bring more bytes to links and images than the limit.
+    /// References expand to more bytes than the limit.
     References,
     /// A string has a part that is not given, or one that is no text of the bytes.
     NoString,
@@ -72,7 +72,7 @@ pub struct Refusal {
     /// Why.
     pub error: Error,
     /// The number of the content where the error is `NoContent`, `BlankLine` or `References`, or that of the start of a line; that of the string where it is `NoString`;
-    /// that of the definition where it is `Definition`, with the footnotes counted on behind the definitions; and where it is `NotUtf8` the first byte of the document that is not UTF-8.
+    /// that of the definition where it is `Definition`, with the footnotes counted on after the definitions; and where it is `NotUtf8` the first byte of the document that is not UTF-8.
     pub at: Option<usize>,
 }
 

@@ -1,339 +1,340 @@
-//! Events, and lists of them.
+//! The events of a document.
 
-use crate::raw::RawEvent;
-use crate::Name;
-use std::fmt;
+use crate::tree::{Item, LinkItem, Text, What};
+use crate::{Document, Html};
+use std::borrow::Cow;
 use std::iter::FusedIterator;
-use std::slice;
+use std::ops::Range;
 
-/// Whether an event begins or ends what it names.
+/// What begins or ends in a document, or is in it.
+#[derive(Clone, Debug, PartialEq, Eq, Hash)]
+#[non_exhaustive]
+pub enum Event<'a> {
+    /// Something begins. What it holds follows, and then its [`End`](Event::End).
+    Start(Tag<'a>),
+    /// Something ends.
+    End(TagEnd),
+    /// Text, or a line of a code block or of front matter, with a line feed. Several may follow one another.
+    Text(Cow<'a, str>),
+    /// A code span (CommonMark 6.1).
+    Code(Cow<'a, str>),
+    /// A math span.
+    InlineMath(Cow<'a, str>),
+    /// A math block: its lines, each with a line feed.
+    DisplayMath(Cow<'a, str>),
+    /// A line of an HTML block, with a line feed (CommonMark 4.6). A document has it with [`Html::Raw`]; else the line is a `Text`.
+    Html(Cow<'a, str>),
+    /// Inline HTML (CommonMark 6.6). A document has it with [`Html::Raw`]; else it is a `Text`.
+    InlineHtml(Cow<'a, str>),
+    /// A line ending in a text (CommonMark 6.8).
+    SoftBreak,
+    /// A hard line break (CommonMark 6.7).
+    HardBreak,
+    /// A thematic break (CommonMark 4.1).
+    Rule,
+    /// The checkbox of a task list item, and whether it is checked (GFM 5.3).
+    TaskListMarker(bool),
+}
+
+/// What begins.
+#[derive(Clone, Debug, PartialEq, Eq, Hash)]
+#[non_exhaustive]
+pub enum Tag<'a> {
+    /// A paragraph (CommonMark 4.8). Those directly in items of a tight list have no tag.
+    Paragraph,
+    /// A heading (CommonMark 4.2 and 4.3).
+    Heading {
+        /// Its level, 1 to 6.
+        level: u8,
+        /// An id for its HTML. A document gives none.
+        id: Option<Cow<'a, str>>,
+    },
+    /// A block quote (CommonMark 5.1).
+    BlockQuote,
+    /// A code block (CommonMark 4.4 and 4.5).
+    CodeBlock(CodeBlockKind<'a>),
+    /// An HTML block (CommonMark 4.6).
+    HtmlBlock,
+    /// Front matter, whose lines are `Text`. HTML leaves it out.
+    MetadataBlock(MetadataBlockKind),
+    /// A list (CommonMark 5.3), with the number of its first item if it is ordered.
+    List(Option<usize>),
+    /// A list item (CommonMark 5.2).
+    Item,
+    /// Emphasis (CommonMark 6.2).
+    Emphasis,
+    /// Strong emphasis (CommonMark 6.2).
+    Strong,
+    /// Strikethrough (GFM 6.5).
+    Strikethrough,
+    /// A link (CommonMark 6.3).
+    Link {
+        /// How it is written.
+        link_type: LinkType,
+        /// Its destination. In a document it is empty if its scheme is not listed, unless [`Options::any_link`](crate::Options::any_link) is set.
+        dest_url: Cow<'a, str>,
+        /// Its title, if it has one.
+        title: Option<Cow<'a, str>>,
+        /// The label of a reference, as it is written; else nothing.
+        id: Cow<'a, str>,
+    },
+    /// An image (CommonMark 6.4). What it holds describes it.
+    Image {
+        /// How it is written.
+        link_type: LinkType,
+        /// Its destination. In a document it is empty if its scheme is not listed, unless [`Options::any_link`](crate::Options::any_link) is set.
+        dest_url: Cow<'a, str>,
+        /// Its title, if it has one.
+        title: Option<Cow<'a, str>>,
+        /// The label of a reference, as it is written; else nothing.
+        id: Cow<'a, str>,
+    },
+}
+
+/// What ends.
 #[derive(Clone, Copy, Debug, PartialEq, Eq, Hash)]
-pub enum Kind {
-    /// It begins.
-    Enter,
-    /// It ends.
-    Exit,
+#[non_exhaustive]
+pub enum TagEnd {
+    /// A paragraph.
+    Paragraph,
+    /// A heading of this level.
+    Heading(u8),
+    /// A block quote.
+    BlockQuote,
+    /// A code block.
+    CodeBlock,
+    /// An HTML block.
+    HtmlBlock,
+    /// Front matter.
+    MetadataBlock(MetadataBlockKind),
+    /// A list, and whether it is ordered.
+    List(bool),
+    /// A list item.
+    Item,
+    /// Emphasis.
+    Emphasis,
+    /// Strong emphasis.
+    Strong,
+    /// Strikethrough.
+    Strikethrough,
+    /// A link.
+    Link,
+    /// An image.
+    Image,
 }
 
-/// How linked content is to be read.
+/// How code is written.
+#[derive(Clone, Debug, PartialEq, Eq, Hash)]
+pub enum CodeBlockKind<'a> {
+    /// Indented (CommonMark 4.4).
+    Indented,
+    /// Between fences (CommonMark 4.5), with this info string, whose first word names the language.
+    Fenced(Cow<'a, str>),
+}
+
+/// How front matter is written.
 #[derive(Clone, Copy, Debug, PartialEq, Eq, Hash)]
-pub enum Content {
-    /// As a string: escapes and references count, nothing else.
-    String,
-    /// As text: every inline construct counts.
-    Text,
+pub enum MetadataBlockKind {
+    /// Between two lines of `---`: YAML.
+    YamlStyle,
+    /// Between two lines of `+++`: TOML.
+    PlusesStyle,
 }
 
-/// A place between two codes of a document.
+/// How a link or an image is written.
 #[derive(Clone, Copy, Debug, PartialEq, Eq, Hash)]
-pub struct Point {
-    /// The line, from 1.
-    pub line: usize,
-    /// The column, from 1: one more than the bytes, tabs' columns counted, before the place on its line.
-    pub column: usize,
-    /// The byte, from 0.
-    pub index: usize,
-    /// How many columns of the tab at `index` come before the place; 0 outside of tabs.
-    pub vs: usize,
+#[non_exhaustive]
+pub enum LinkType {
+    /// `[a](b)`.
+    Inline,
+    /// `[a][b]`, a full reference.
+    Reference,
+    /// `[a][]`.
+    Collapsed,
+    /// `[a]`.
+    Shortcut,
+    /// `<a:b>`, or a bare URL.
+    Autolink,
+    /// `<a@b.c>`, or a bare email address. Its destination begins with `mailto:`.
+    Email,
 }
 
-/// The chain on which an Enter event stands: what is linked is one string or text, perhaps on several lines. The numbers are those of Enter events in the
-/// list, to be asked for by [`Events::get`] or walked by [`Events::chain`].
-#[derive(Clone, Copy, Debug, PartialEq, Eq, Hash)]
-pub struct Link {
-    /// How the linked content is to be read.
-    pub content: Content,
-    /// The event before on the chain.
-    pub previous: Option<usize>,
-    /// The event after on the chain.
-    pub next: Option<usize>,
-}
-
-/// The beginning or the end of something in a document.
-#[derive(Clone, Copy, Debug, PartialEq, Eq, Hash)]
-pub struct Event {
-    /// Whether it begins or ends.
-    pub kind: Kind,
-    /// What begins or ends.
-    pub name: Name,
-    /// Where: the place of the first code at an Enter, the place after the last one at an Exit.
-    pub point: Point,
-    /// The chain it stands on. Only an Enter carries one.
-    pub link: Option<Link>,
-}
-
-pub(crate) fn number_of(number: usize) -> Option<usize> {
-    (number != usize::MAX).then_some(number)
-}
-
-impl Kind {
-    pub(crate) fn of(number: u8) -> Kind {
-        match number {
-            0 => Kind::Enter,
-            _ => Kind::Exit,
-        }
-    }
-}
-
-impl Content {
-    pub(crate) fn of(number: u8) -> Option<Content> {
-        match number {
-            0 => None,
-            1 => Some(Content::String),
-            _ => Some(Content::Text),
-        }
-    }
-}
-
-impl Event {
-    /// Whether it begins what it names.
+impl Tag<'_> {
+    /// The end of what begins.
     #[must_use]
-    pub fn is_enter(&self) -> bool {
-        self.kind == Kind::Enter
-    }
-
-    /// Whether it ends what it names.
-    #[must_use]
-    pub fn is_exit(&self) -> bool {
-        self.kind == Kind::Exit
-    }
-
-    fn of(raw: &RawEvent) -> Event {
-        Event {
-            kind: Kind::of(raw.kind),
-            name: Name::ALL[usize::from(raw.name)],
-            point: Point {
-                line: raw.line,
-                column: raw.column,
-                index: raw.index,
-                vs: raw.vs,
-            },
-            link: Content::of(raw.link).map(|content| Link {
-                content,
-                previous: number_of(raw.previous),
-                next: number_of(raw.next),
-            }),
+    pub fn to_end(&self) -> TagEnd {
+        match self {
+            Tag::Paragraph => TagEnd::Paragraph,
+            Tag::Heading { level, .. } => TagEnd::Heading(*level),
+            Tag::BlockQuote => TagEnd::BlockQuote,
+            Tag::CodeBlock(_) => TagEnd::CodeBlock,
+            Tag::HtmlBlock => TagEnd::HtmlBlock,
+            Tag::MetadataBlock(kind) => TagEnd::MetadataBlock(*kind),
+            Tag::List(start) => TagEnd::List(start.is_some()),
+            Tag::Item => TagEnd::Item,
+            Tag::Emphasis => TagEnd::Emphasis,
+            Tag::Strong => TagEnd::Strong,
+            Tag::Strikethrough => TagEnd::Strikethrough,
+            Tag::Link { .. } => TagEnd::Link,
+            Tag::Image { .. } => TagEnd::Image,
         }
     }
 }
 
-/// The events of a content's inline tree, in order.
-#[derive(Clone, Default, PartialEq, Eq)]
-pub struct Events {
-    pub(crate) raw: Vec<RawEvent>,
-}
-
-/// The events of a content's inline tree, in order, that a list of events lends.
-#[derive(Clone, Copy, PartialEq, Eq)]
-pub struct EventSlice<'a> {
-    raw: &'a [RawEvent],
-}
-
-/// The events one after another.
+/// The events of a document, each with the bytes of what it is about: [`Document::offset_iter`].
 #[derive(Clone, Debug)]
-pub struct Iter<'a>(slice::Iter<'a, RawEvent>);
+pub struct OffsetIter<'d> {
+    document: &'d Document<'d>,
+    next: usize,
+    /// The numbers of the items that have not ended.
+    open: Vec<usize>,
+}
 
-/// The events of a chain one after another, each with its number.
+/// The events of a document: [`Document::events`].
 #[derive(Clone, Debug)]
-pub struct Chain<'a> {
-    events: EventSlice<'a>,
-    number: Option<usize>,
-}
+pub struct Events<'d>(OffsetIter<'d>);
 
-impl Iterator for Iter<'_> {
-    type Item = Event;
-
-    fn next(&mut self) -> Option<Event> {
-        self.0.next().map(Event::of)
-    }
-
-    fn nth(&mut self, number: usize) -> Option<Event> {
-        self.0.nth(number).map(Event::of)
-    }
-
-    fn size_hint(&self) -> (usize, Option<usize>) {
-        self.0.size_hint()
-    }
-}
-
-impl DoubleEndedIterator for Iter<'_> {
-    fn next_back(&mut self) -> Option<Event> {
-        self.0.next_back().map(Event::of)
-    }
-}
-
-impl ExactSizeIterator for Iter<'_> {}
-
-impl FusedIterator for Iter<'_> {}
-
-impl Iterator for Chain<'_> {
-    type Item = (usize, Event);
-
-    fn next(&mut self) -> Option<(usize, Event)> {
-        let number = self.number?;
-        let event = self.events.get(number);
-        self.number = event.and_then(|event| event.link?.next);
-        Some((number, event?))
-    }
-}
-
-impl FusedIterator for Chain<'_> {}
-
-impl<'a> EventSlice<'a> {
-    pub(crate) fn of(raw: &'a [RawEvent]) -> EventSlice<'a> {
-        EventSlice { raw }
-    }
-
-    /// How many they are.
-    #[must_use]
-    pub fn len(&self) -> usize {
-        self.raw.len()
-    }
-
-    /// Whether there are none.
-    #[must_use]
-    pub fn is_empty(&self) -> bool {
-        self.raw.is_empty()
-    }
-
-    /// The event with this number, as links name it.
-    pub fn get(&self, number: usize) -> Option<Event> {
-        self.raw.get(number).map(Event::of)
-    }
-
-    /// The events one after another.
-    #[must_use]
-    pub fn iter(&self) -> Iter<'a> {
-        Iter(self.raw.iter())
-    }
-
-    /// The event with this number, and those after it on its chain.
-    #[must_use]
-    pub fn chain(&self, number: usize) -> Chain<'a> {
-        Chain {
-            events: *self,
-            number: Some(number),
+impl<'d> OffsetIter<'d> {
+    pub(crate) fn of(document: &'d Document<'d>) -> OffsetIter<'d> {
+        OffsetIter {
+            document,
+            next: 0,
+            open: Vec::new(),
         }
     }
-}
 
-impl Events {
-    /// No events, and no memory for any.
-    #[must_use]
-    pub fn new() -> Events {
-        Events::default()
-    }
-
-    /// The events, lent.
-    #[must_use]
-    pub fn as_slice(&self) -> EventSlice<'_> {
-        EventSlice::of(&self.raw)
-    }
-
-    /// How many they are.
-    #[must_use]
-    pub fn len(&self) -> usize {
-        self.raw.len()
-    }
-
-    /// Whether there are none.
-    #[must_use]
-    pub fn is_empty(&self) -> bool {
-        self.raw.is_empty()
-    }
-
-    /// The event with this number, as links name it.
-    #[must_use]
-    pub fn get(&self, number: usize) -> Option<Event> {
-        self.as_slice().get(number)
-    }
-
-    /// The events one after another.
-    #[must_use]
-    pub fn iter(&self) -> Iter<'_> {
-        self.as_slice().iter()
-    }
-
-    /// The event with this number, and those after it on its chain: what is linked is one string, of which each line is some of these events.
-    ///
-    /// ```
-    /// use markdown_inline::{text, Name};
-    /// # fn main() -> Result<(), markdown_inline::Error> {
-    /// let events = text("[a](b \"c\nd\")")?;
-    /// let title = events.iter().position(|event| event.name == Name::ResourceTitleString).unwrap();
-    /// let names: Vec<_> = events.chain(title + 1).map(|(_, event)| event.name).collect();
-    /// assert_eq!(names, [Name::Data, Name::LineEnding, Name::Data]);
-    /// # Ok(())
-    /// # }
-    /// ```
-    #[must_use]
-    pub fn chain(&self, number: usize) -> Chain<'_> {
-        self.as_slice().chain(number)
+    /// The next item that begins or ends, and its event, if it has one.
+    fn step(&mut self) -> Option<(&'d Item, Option<Event<'d>>)> {
+        let items = &self.document.tree.items;
+        if let Some(number) = self.open.pop() {
+            let item = &items[number];
+            if item.after == self.next {
+                let tag = self.document.tag(&item.what);
+                return Some((item, tag.map(|tag| Event::End(tag.to_end()))));
+            }
+            self.open.push(number);
+        }
+        let item = items.get(self.next)?;
+        if item.what.is_container() {
+            self.open.push(self.next);
+        }
+        self.next += 1;
+        Some((item, self.document.event(&item.what)))
     }
 }
 
-impl<'a> IntoIterator for &'a Events {
-    type Item = Event;
-    type IntoIter = Iter<'a>;
+impl<'d> Iterator for OffsetIter<'d> {
+    type Item = (Event<'d>, Range<usize>);
 
-    fn into_iter(self) -> Iter<'a> {
-        self.iter()
-    }
-}
-
-impl<'a> IntoIterator for &EventSlice<'a> {
-    type Item = Event;
-    type IntoIter = Iter<'a>;
-
-    fn into_iter(self) -> Iter<'a> {
-        self.iter()
-    }
-}
-
-impl<'a> IntoIterator for EventSlice<'a> {
-    type Item = Event;
-    type IntoIter = Iter<'a>;
-
-    fn into_iter(self) -> Iter<'a> {
-        self.iter()
-    }
-}
-
-impl fmt::Debug for Events {
-    fn fmt(&self, f: &mut fmt::Formatter<'_>) -> fmt::Result {
-        f.debug_list().entries(self).finish()
-    }
-}
-
-impl fmt::Debug for EventSlice<'_> {
-    fn fmt(&self, f: &mut fmt::Formatter<'_>) -> fmt::Result {
-        f.debug_list().entries(self.iter()).finish()
-    }
-}
-
-/// The line that the program `mdinline` prints for the event.
-impl fmt::Display for Event {
-    fn fmt(&self, f: &mut fmt::Formatter<'_>) -> fmt::Result {
-        let Point {
-            line,
-            column,
-            index,
-            vs,
-        } = self.point;
-        write!(
-            f,
-            "{:?} {} {line} {column} {index} {vs}",
-            self.kind, self.name
-        )?;
-        if let Some(link) = self.link {
-            write!(f, " link {:?}", link.content)?;
-            for number in [link.previous, link.next] {
-                match number {
-                    Some(number) => write!(f, " {number}")?,
-                    None => f.write_str(" -")?,
-                }
+    fn next(&mut self) -> Option<Self::Item> {
+        loop {
+            if let (item, Some(event)) = self.step()? {
+                return Some((event, item.start..item.end));
             }
         }
-        Ok(())
+    }
+}
+
+impl FusedIterator for OffsetIter<'_> {}
+
+impl<'d> Events<'d> {
+    pub(crate) fn of(document: &'d Document<'d>) -> Events<'d> {
+        Events(OffsetIter::of(document))
+    }
+}
+
+impl<'d> Iterator for Events<'d> {
+    type Item = Event<'d>;
+
+    fn next(&mut self) -> Option<Event<'d>> {
+        self.0.next().map(|(event, _)| event)
+    }
+}
+
+impl FusedIterator for Events<'_> {}
+
+/// Schemes that a link or an image may have, if its destination has one.
+const LINK_SCHEMES: [&str; 6] = ["http", "https", "irc", "ircs", "mailto", "xmpp"];
+const IMAGE_SCHEMES: [&str; 2] = ["http", "https"];
+
+/// Whether a destination has no scheme, or one of these.
+fn is_safe(url: &str, schemes: &[&str]) -> bool {
+    match url.find([':', '/', '?', '#']) {
+        Some(end) if url[end..].starts_with(':') => schemes
+            .iter()
+            .any(|it| it.eq_ignore_ascii_case(&url[..end])),
+        _ => true,
+    }
+}
+
+impl<'a> Document<'a> {
+    fn event(&self, what: &What) -> Option<Event<'_>> {
+        let text = |it: Text| Cow::Borrowed(self.str(it));
+        let is_raw = self.options.html == Html::Raw;
+        Some(match *what {
+            What::Rule => Event::Rule,
+            What::Text(it) => Event::Text(text(it)),
+            What::SoftBreak => Event::SoftBreak,
+            What::HardBreak => Event::HardBreak,
+            What::Code(it) => Event::Code(text(it)),
+            What::Math(it) => Event::InlineMath(text(it)),
+            What::MathBlock { text: it, .. } => Event::DisplayMath(text(it)),
+            // Raw HTML that is escaped is text.
+            What::HtmlLine(it) | What::Html(it) if !is_raw => Event::Text(text(it)),
+            What::HtmlLine(it) => Event::Html(text(it)),
+            What::Html(it) => Event::InlineHtml(text(it)),
+            What::Check(is_checked) => Event::TaskListMarker(is_checked),
+            _ => Event::Start(self.tag(what)?),
+        })
+    }
+
+    /// The tag of what holds others; a paragraph directly in an item of a tight list has none.
+    fn tag(&self, what: &What) -> Option<Tag<'_>> {
+        Some(match *what {
+            What::Paragraph { is_tight: false } => Tag::Paragraph,
+            What::Heading { level } => Tag::Heading { level, id: None },
+            What::BlockQuote => Tag::BlockQuote,
+            What::CodeBlock { info } => Tag::CodeBlock(match info {
+                None => CodeBlockKind::Indented,
+                Some(info) => CodeBlockKind::Fenced(Cow::Borrowed(self.str(info))),
+            }),
+            What::HtmlBlock => Tag::HtmlBlock,
+            What::FrontMatter(kind) => Tag::MetadataBlock(kind),
+            What::List { start, .. } => Tag::List(start),
+            What::ListItem { .. } => Tag::Item,
+            What::Emphasis => Tag::Emphasis,
+            What::Strong => Tag::Strong,
+            What::Strikethrough => Tag::Strikethrough,
+            What::Link(number) => self.link_tag(&self.tree.links[number]),
+            _ => return None,
+        })
+    }
+
+    fn link_tag(&self, link: &LinkItem) -> Tag<'_> {
+        let text = |it: Text| Cow::Borrowed(self.str(it));
+        let schemes = if link.is_image {
+            &IMAGE_SCHEMES[..]
+        } else {
+            &LINK_SCHEMES
+        };
+        let url = self.str(link.url);
+        let is_shown = self.options.any_link || is_safe(url, schemes);
+        let dest_url = Cow::Borrowed(if is_shown { url } else { "" });
+        let (link_type, title) = (link.link_type, link.title.map(text));
+        let id = link.label.map(text).unwrap_or_default();
+        match link.is_image {
+            true => Tag::Image {
+                link_type,
+                dest_url,
+                title,
+                id,
+            },
+            false => Tag::Link {
+                link_type,
+                dest_url,
+                title,
+                id,
+            },
+        }
     }
 }

@@ -1,9 +1,23 @@
 //! Vectors that a call fills.
 
-use crate::event::number_of;
 use crate::raw::{self, RawOutcome};
 use crate::{Error, Refusal};
 use std::ops::Range;
+
+/// A number of something; none for the number of nothing.
+pub(crate) fn number_of(number: usize) -> Option<usize> {
+    (number != usize::MAX).then_some(number)
+}
+
+/// The text that a call writes, of as many bytes as a rule.
+pub(crate) fn text_by(
+    expected: usize,
+    call: impl FnMut(*mut u8, usize, &mut usize) -> u32,
+) -> Result<String, Error> {
+    let mut found = Vec::new();
+    fill(&mut found, expected, call)?;
+    String::from_utf8(fitted(found)).map_err(|_| Error::NotUtf8)
+}
 
 /// Fills a vector by a call that is lent its room, and lends more where that is too small. What is found is `expected` elements or fewer as a rule: then it is
 /// found at once, and else by a second call. Where the status is DONE, the call has written as many elements to the front of the room as it has counted.

@@ -6,6 +6,10 @@ use std::ops::Range;
 pub(crate) const DONE: u32 = 0;
 pub(crate) const TOO_SMALL: u32 = 6;
 
+/// Blocks beside CommonMark's, each by a bit.
+pub(crate) const BLOCKS_MATH: u32 = 0x1;
+pub(crate) const BLOCKS_FRONT_MATTER: u32 = 0x2;
+
 /// A piece of a document, from a place to a place. A place is a byte, and the columns of the tab there that come before; 0 outside of tabs.
 #[derive(Clone, Copy, Debug, Default, PartialEq, Eq, Hash)]
 #[repr(C)]
@@ -133,6 +137,20 @@ pub(crate) struct RawBlock {
     pub(crate) reserved_too: u32,
 }
 
+impl RawBlock {
+    pub(crate) fn begins_list(&self) -> bool {
+        self.list & 1 > 0
+    }
+
+    pub(crate) fn ends_list(&self) -> bool {
+        self.list & 2 > 0
+    }
+
+    pub(crate) fn is_loose(&self) -> bool {
+        self.list & 4 > 0
+    }
+}
+
 /// How many blocks a document has, and how many pieces.
 #[derive(Clone, Copy, Debug, Default)]
 #[repr(C)]
@@ -155,7 +173,8 @@ pub(crate) struct RawDefinitionsCount {
 pub(crate) struct RawDocumentOptions {
     pub options: u32,
     pub html: u32,
-    pub reserved: [u32; 2],
+    pub blocks: u32,
+    pub reserved: u32,
     pub limit: usize,
     pub reserved_words: [usize; 13],
 }
@@ -204,6 +223,7 @@ extern "C" {
     pub(crate) fn markdown_inline_blocks(
         bytes: *const u8,
         bytes_len: usize,
+        block_options: u32,
         blocks: *mut RawBlock,
         blocks_len: usize,
         pieces: *mut Piece,
@@ -213,6 +233,7 @@ extern "C" {
     pub(crate) fn markdown_inline_definitions(
         bytes: *const u8,
         bytes_len: usize,
+        block_options: u32,
         labels: *mut u8,
         labels_len: usize,
         definitions: *mut RawRange,
@@ -344,7 +365,7 @@ mod tests {
     // No slice is so long. The library looks at the length before the bytes, so it may be lent fewer.
     #[test]
     fn a_document_that_is_too_long_is_refused() {
-        let piece = crate::Piece::default();
+        let piece = crate::inline::Piece::default();
         let len = (usize::MAX >> 3) + 1;
         // SAFETY: with this length no byte is read.
         let status = unsafe { markdown_inline_is_text([0u8].as_ptr(), len, &piece, 1) };

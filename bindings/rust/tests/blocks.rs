@@ -1,18 +1,20 @@
-//! The blocks of documents, and what stands in their texts.
+//! The blocks of documents, and what is in their texts.
 
-use markdown_inline::{
-    blocks, document_html, BlockKind, DocumentOptions, Error, HtmlOptions, Input, Name, Options,
-    Piece, Refusal, TextContent, NO_LIMIT,
-};
+use markdown_inline::inline::{Constructs, HtmlOptions, Input, Name, Piece, TextContent};
+use markdown_inline::{parse, to_html, BlockKind, Document, Error, Limit, Options, Refusal};
 
 const DOCUMENT: &str = "# é *a*\n\n> 3) [b][B] ![c](/d)\n>    `e`\n>\n> 4) ~~~ f&amp;g\n>    \th\n>    ~~~\n\n***\n- i\n- [x] <jj:k>\n<!-- l\n\nm\n=\n[b]: </n> \"o\"\n";
+
+fn parsed(text: &str) -> Document<'_> {
+    parse(text, &Options::commonmark()).unwrap()
+}
 
 #[test]
 fn each_block_is_told() {
     use BlockKind::*;
-    let found = blocks(DOCUMENT).unwrap();
+    let found = parsed(DOCUMENT);
     let rows: Vec<_> = found
-        .iter()
+        .blocks()
         .map(|it| {
             let list = [it.begins_list, it.ends_list, it.is_loose];
             (it.kind, it.depth, it.number, it.marker, list, it.line)
@@ -39,27 +41,51 @@ fn each_block_is_told() {
             (Html, 0, 2, None, none, 13),
         ]
     );
-    assert_eq!(found.get(0).unwrap().pieces, [Piece::from(2..8)]);
-    let code = found.get(7).unwrap();
+    assert_eq!(found.blocks().next().unwrap().pieces, [Piece::from(2..8)]);
+    let code = found.blocks().nth(7).unwrap();
     assert!(code.lines().eq(["\th\n"]));
     assert_eq!(code.info().unwrap().as_deref(), Some("f&g"));
-    assert_eq!(found.get(0).unwrap().info(), Ok(None));
-    assert_eq!((found.len(), found.get(15).is_none()), (15, true));
+    assert_eq!(found.blocks().next().unwrap().info(), Ok(None));
+    assert_eq!(
+        (found.blocks().len(), found.blocks().nth(15).is_none()),
+        (15, true)
+    );
     let numbers = |it: markdown_inline::Block| (it.kind, it.line);
-    let mut both = found.iter().map(numbers).collect::<Vec<_>>();
+    let mut both = found.blocks().map(numbers).collect::<Vec<_>>();
     both.reverse();
-    assert!(found.iter().rev().map(numbers).eq(both));
-    assert!(blocks("").unwrap().is_empty());
-    let shown = format!("{:?}", blocks("# a").unwrap());
+    assert!(found.blocks().rev().map(numbers).eq(both));
+    assert!(parsed("").blocks().next().is_none());
+    let shown = format!("{:?}", parsed("# a"));
     let wanted = "[Block { kind: Heading, depth: 0, number: 1, line: 1, .. }]";
     assert_eq!(shown, wanted);
 }
 
 #[test]
+fn front_matter_and_math_are_told() {
+    let options = Options::commonmark().math(true).front_matter(true);
+    let found = parse("+++\na\n+++\n$$ b&amp;\nc\n", &options).unwrap();
+    let rows = found.blocks().map(|it| {
+        let lines: String = it.lines().collect();
+        (it.kind, it.line, it.marker, lines, it.info().unwrap())
+    });
+    let wanted = [
+        (BlockKind::FrontMatter, 1, None, "a\n".to_string(), None),
+        (
+            BlockKind::FencedCode,
+            4,
+            Some('$'),
+            "c\n".to_string(),
+            Some("b&".to_string()),
+        ),
+    ];
+    assert!(rows.eq(wanted));
+}
+
+#[test]
 fn texts_are_those_of_their_pieces() {
     let document = DOCUMENT.replace("<!--", "!");
-    let found = blocks(&document).unwrap();
-    let options = Options::COMMONMARK | Options::GFM;
+    let found = parsed(&document);
+    let options = Constructs::COMMONMARK | Constructs::GFM;
     let input = found.input().options(options);
     let (texts, held) = (
         input.texts(found.contents()).unwrap(),
@@ -67,7 +93,7 @@ fn texts_are_those_of_their_pieces() {
     );
     let htmls = input.htmls(found.contents(), held).unwrap();
     let mut many = 0;
-    for block in &found {
+    for block in found.blocks() {
         let has_text = matches!(block.kind, BlockKind::Heading | BlockKind::Paragraph);
         assert_eq!(block.content, has_text.then_some(many));
         if !has_text {
@@ -77,7 +103,7 @@ fn texts_are_those_of_their_pieces() {
         many += 1;
         let is_task = block.lines().any(|it| it.starts_with("[x]"));
         let options = if is_task {
-            options | Options::FIRST_OF_ITEM
+            options | Constructs::FIRST_OF_ITEM
         } else {
             options
         };
@@ -97,7 +123,7 @@ fn texts_are_those_of_their_pieces() {
 
 #[test]
 fn links_have_places_of_the_document() {
-    let found = blocks(DOCUMENT).unwrap();
+    let found = parsed(DOCUMENT);
     let links = found.input().links(found.contents()).unwrap();
     let places: Vec<_> = links
         .iter()
@@ -110,9 +136,9 @@ fn links_have_places_of_the_document() {
 #[test]
 fn definitions_are_told() {
     let document = "[A]: /b \"c\"\n[a]: <d&amp;\\*>\n\n> [é\n> f]:\n> g\n\n[a] [é f] [h]";
-    let found = blocks(document).unwrap();
+    let found = parsed(document);
     let told = found.definitions();
-    assert!(told.map(|it| (it.label, it.destination, it.title)).eq([
+    assert!(told.map(|it| (it.label, it.url, it.title)).eq([
         ("A", "/b", Some("c")),
         ("a", "d&*", None),
         ("é\nf", "g", None),
@@ -123,7 +149,7 @@ fn definitions_are_told() {
     };
     let both = "<a href=\"/b\" title=\"c\">a</a> <a href=\"g\">é f</a> ";
     assert_eq!(htmls(found.input()), both.to_string() + "[h]");
-    // What the input is given besides stands behind the document's own.
+    // What the input is given besides comes after the document's own.
     let more = found.input().definition_to("h", "/i", None);
     assert_eq!(htmls(more), both.to_string() + "<a href=\"/i\">h</a>");
 }
@@ -140,7 +166,7 @@ fn the_first_paragraph_of_an_item_is_told() {
         ("- - a\n\n  b", &[true, false]),
         ("a\n\n- ***\n  b", &[false, false]),
     ] {
-        let found = blocks(document).unwrap();
+        let found = parsed(document);
         let firsts: Vec<_> = found.contents().iter().map(|it| it.first_of_item).collect();
         assert_eq!(firsts, wanted, "{document}");
     }
@@ -155,13 +181,13 @@ fn lines_with_tabs_are_cut() {
         ("> ~~~\n>\t\té\r\n>", &["  \té\r\n", ""]),
         ("~~~", &[]),
     ] {
-        let found = blocks(document).unwrap();
+        let found = parsed(document);
         let is_code = |kind| matches!(kind, BlockKind::IndentedCode | BlockKind::FencedCode);
-        let code = found.iter().find(|it| is_code(it.kind)).unwrap();
+        let code = found.blocks().find(|it| is_code(it.kind)).unwrap();
         assert!(code.lines().eq(wanted.iter().copied()), "{document}");
     }
-    let html = blocks("> <pre>a\n>").unwrap();
-    assert!(html.get(1).unwrap().lines().eq(["<pre>a\n"]));
+    let html = parsed("> <pre>a\n>");
+    assert!(html.blocks().nth(1).unwrap().lines().eq(["<pre>a\n"]));
 }
 
 #[test]
@@ -170,21 +196,24 @@ fn definitions_bring_no_more_than_a_limit() {
         "[a]\n\n".repeat(101) + "[a]: " + &"x".repeat(1000),
         HtmlOptions::default(),
     );
-    let len_within = |limit| {
-        let options = DocumentOptions::default().reference_limit(limit);
-        let html = document_html(&document, &options);
+    let len_within = |limit: Limit| {
+        let options = Options::commonmark().limit(limit);
+        let html = to_html(&document, &options);
         html.map(|it| it.len()).map_err(Error::from)
     };
-    for limit in [0, 1, 100_999] {
+    for limit in [Limit::Default, Limit::Bytes(1), Limit::Bytes(100_999)] {
         assert_eq!(len_within(limit), Err(Error::References));
     }
-    for limit in [101_000, NO_LIMIT] {
+    for limit in [Limit::Bytes(101_000), Limit::None] {
         assert_eq!(len_within(limit), Ok(101 * 1024));
     }
     let padded = document.clone() + "\n\n" + &"y".repeat(100_000);
-    assert!(document_html(&padded, &DocumentOptions::default()).is_ok());
-    let found = blocks(&document).unwrap();
-    let refused = found.input().htmls(found.contents(), held).unwrap_err();
+    assert!(to_html(&padded, &Options::commonmark()).is_ok());
+    let refused = parse(&document, &Options::commonmark()).map(drop);
+    assert_eq!(refused.map_err(Error::from), Err(Error::References));
+    let found = parse(&document, &Options::commonmark().limit(Limit::None)).unwrap();
+    let input = found.input().reference_limit(0);
+    let refused = input.htmls(found.contents(), held).unwrap_err();
     let wanted = Refusal {
         error: Error::References,
         at: Some(100),
@@ -194,9 +223,16 @@ fn definitions_bring_no_more_than_a_limit() {
 
 #[test]
 fn what_is_no_document_is_refused() {
-    assert_eq!(blocks(b"a\xff").map(drop), Err(Error::NotUtf8));
-    let found = blocks("a").unwrap();
-    let input = found.input().options(Options::from_bits(1 << 31));
+    let refused = Refusal {
+        error: Error::NotUtf8,
+        at: Some(1),
+    };
+    assert_eq!(
+        parse(b"a\xff", &Options::commonmark()).unwrap_err(),
+        refused
+    );
+    let found = parsed("a");
+    let input = found.input().options(Constructs::from_bits(1 << 31));
     let refused = input.texts(&[TextContent::from(0..1)]).map(drop);
     assert_eq!(refused.map_err(Error::from), Err(Error::UnknownOption));
 }
@@ -204,28 +240,31 @@ fn what_is_no_document_is_refused() {
 /// A byte order mark is no text, and places count it.
 #[test]
 fn a_byte_order_mark_is_passed_over() {
-    let safe = DocumentOptions::default();
+    let safe = Options::commonmark();
     for document in ["# a [b](c)\n", "> a\n", "[a]: /b\n\n[a]\n", ""] {
         let marked = format!("\u{feff}{document}");
-        assert_eq!(
-            document_html(&marked, &safe),
-            document_html(document, &safe)
-        );
-        let (found, plain) = (blocks(&marked).unwrap(), blocks(document).unwrap());
+        assert_eq!(to_html(&marked, &safe), to_html(document, &safe));
+        let (found, plain) = (parsed(&marked), parsed(document));
         assert_eq!(format!("{found:?}"), format!("{plain:?}"));
-        let lines = found.iter().flat_map(|block| block.lines());
-        assert!(lines.eq(plain.iter().flat_map(|block| block.lines())));
-        let starts = |it: &markdown_inline::Blocks| -> Vec<usize> {
-            let pieces = it.iter().flat_map(|block| block.pieces.to_vec());
+        let lines = found.blocks().flat_map(|block| block.lines());
+        assert!(lines.eq(plain.blocks().flat_map(|block| block.lines())));
+        let starts = |it: &Document| -> Vec<usize> {
+            let pieces = it.blocks().flat_map(|block| block.pieces.to_vec());
             pieces.map(|piece| piece.start).collect()
         };
         let moved: Vec<_> = starts(&plain).iter().map(|start| start + 3).collect();
         assert_eq!(starts(&found), moved);
-        assert!(found.definitions().eq(plain.definitions()));
+        let definitions = |it: &Document| -> Vec<String> {
+            let all = it
+                .definitions()
+                .map(|it| format!("{} {} {:?}", it.label, it.url, it.title));
+            all.collect()
+        };
+        assert_eq!(definitions(&found), definitions(&plain));
     }
     // Code with tabs on the first line is that of the HTML.
     let marked = "\u{feff}>\t\ta\n";
-    let code: String = blocks(marked).unwrap().get(1).unwrap().lines().collect();
+    let code: String = parsed(marked).blocks().nth(1).unwrap().lines().collect();
     let html = format!("<blockquote>\n<pre><code>{code}</code></pre>\n</blockquote>\n");
-    assert_eq!(document_html(marked, &safe).unwrap(), html);
+    assert_eq!(to_html(marked, &safe).unwrap(), html);
 }

@@ -1,11 +1,11 @@
 //! Statuses, memory that is used again, and calls on several threads.
 
-use markdown_inline::{
-    document_html, identifier, is_right_version, reference, reference_with, string, strings,
-    strings_with, text, DocumentOptions, Error, Event, Events, HtmlOptions, Htmls, Input, LineEnds,
-    Name, Options, Piece, Refusal, ShortEvent, ShortTexts, StringOptions, TextContent, Texts,
-    NO_LIMIT,
+use markdown_inline::inline::{
+    identifier, reference, reference_with, string, strings, strings_with, text, Constructs, Event,
+    Events, HtmlOptions, Htmls, Input, Name, Piece, ShortEvent, ShortTexts, StringOptions,
+    TextContent, Texts, NO_LIMIT,
 };
+use markdown_inline::{is_right_version, to_html, Error, Html, LineEnds, Options, Refusal};
 use std::thread;
 
 #[test]
@@ -44,7 +44,7 @@ fn each_error_comes() {
         end: 9,
         ..Piece::default()
     }];
-    let unknown = Options::from_bits(1 << 31);
+    let unknown = Constructs::from_bits(1 << 31);
     let found = [
         Input::new("a").options(unknown).text().map(drop),
         Input::new("a").options(unknown).string().map(drop),
@@ -129,15 +129,19 @@ fn references_are_decoded() {
 
 #[test]
 fn references_are_decoded_by_options() {
-    let (names, rules) = (Options::HTML_REFERENCES, Options::STANDARD_RULES);
+    let (names, rules) = (Constructs::HTML_REFERENCES, Constructs::STANDARD_RULES);
     for (options, given, wanted) in [
-        (Options::COMMONMARK, "&check;", Ok("\u{2713}")),
-        (Options::CRATE, "&check;", Err(Error::NoReference)),
+        (Constructs::COMMONMARK, "&check;", Ok("\u{2713}")),
+        (Constructs::CRATE, "&check;", Err(Error::NoReference)),
         (names, "&check;", Ok("\u{2713}")),
         (rules, "&check;", Ok("\u{2713}")),
         (names, "&#1;", Ok("\u{fffd}")),
         (rules, "&#1;", Ok("\u{1}")),
-        (Options::from_bits(1 << 31), "a", Err(Error::UnknownOption)),
+        (
+            Constructs::from_bits(1 << 31),
+            "a",
+            Err(Error::UnknownOption),
+        ),
     ] {
         assert_eq!(
             reference_with(options, given),
@@ -156,8 +160,8 @@ fn references_are_decoded_by_options() {
         )
     };
     assert_eq!(found(names).unwrap().get(0), Some("\u{2713}"));
-    assert_eq!(found(Options::CRATE).unwrap().get(0), Some("&check;"));
-    let error = found(Options::from_bits(1 << 31)).unwrap_err();
+    assert_eq!(found(Constructs::CRATE).unwrap().get(0), Some("&check;"));
+    let error = found(Constructs::from_bits(1 << 31)).unwrap_err();
     assert_eq!((error.error, error.at), (Error::UnknownOption, None));
     for (line_feeds, replaced_nul, wanted) in [
         (false, false, "a\r\nb\rc\0\r"),
@@ -170,7 +174,7 @@ fn references_are_decoded_by_options() {
             .replaced_nul(replaced_nul);
         let given = "a\r\nb\rc\0&#13;";
         let found = strings_with(
-            Options::COMMONMARK,
+            Constructs::COMMONMARK,
             how,
             given,
             &[0..2, 2..12],
@@ -220,14 +224,14 @@ fn many_contents_are_read_as_each_by_itself() {
         pieces,
         first_of_item,
     };
-    let options = Options::COMMONMARK | Options::GFM;
+    let options = Constructs::COMMONMARK | Constructs::GFM;
     let input = Input::new(document).pieces(&pieces).options(options);
     let found = input
         .texts(&[content(0..1, true), content(1..3, false)])
         .unwrap();
     let first = Input::new(document)
         .pieces(&pieces[..1])
-        .options(options | Options::FIRST_OF_ITEM);
+        .options(options | Constructs::FIRST_OF_ITEM);
     let second = Input::new(document).pieces(&pieces[1..]).options(options);
     assert!(found.get(0).unwrap().iter().eq(&first.text().unwrap()));
     assert!(found.get(1).unwrap().iter().eq(&second.text().unwrap()));
@@ -252,7 +256,7 @@ fn many_contents_are_read_as_each_by_itself() {
 #[test]
 fn short_events_tell_the_definitions_that_are_met() {
     let input = Input::new("[a][B] ![c] [d](e) [f [g]] x[^h] [b]")
-        .options(Options::COMMONMARK | Options::GFM)
+        .options(Constructs::COMMONMARK | Constructs::GFM)
         .definitions(["c", "b", "G", "B"])
         .footnotes(["i", "H"]);
     let content = TextContent {
@@ -310,7 +314,7 @@ fn short_events_tell_the_characters_of_references() {
         Some('\u{fffd}'),
         Some('\u{fffd}'),
     ];
-    assert_eq!(told(&input.options(Options::CRATE)), wanted(replaced));
+    assert_eq!(told(&input.options(Constructs::CRATE)), wanted(replaced));
 }
 
 #[test]
@@ -350,7 +354,7 @@ fn footnotes_are_numbered_through_many_contents() {
     };
     let input = Input::new(document)
         .pieces(&pieces)
-        .options(Options::COMMONMARK | Options::GFM)
+        .options(Constructs::COMMONMARK | Constructs::GFM)
         .footnotes(["b", "d"])
         .definition_to("e", "/f", None);
     let found = input.htmls(&contents, HtmlOptions::default()).unwrap();
@@ -369,7 +373,7 @@ fn references_bring_no_more_than_a_limit_to_one_text() {
     let long = "x".repeat(999);
     let document = String::from("[x] ![a][b] [^c]") + &" [a]".repeat(100);
     let input = Input::new(&document)
-        .options(Options::COMMONMARK | Options::GFM | Options::FIRST_OF_ITEM)
+        .options(Constructs::COMMONMARK | Constructs::GFM | Constructs::FIRST_OF_ITEM)
         .definition_to("a", &long, Some("y"))
         .definition_to("b", "z", None)
         .footnote("c");
@@ -463,7 +467,7 @@ fn html_is_safe_where_nothing_else_is_asked() {
 /// Examples of CommonMark 0.31.2 (2.2, 4.6, 4.7, 5.1), and what the options change.
 #[test]
 fn documents_have_html() {
-    let safe = &DocumentOptions::default();
+    let safe = &Options::commonmark();
     for (document, html) in [
         (
             "- foo\n\n\t\tbar\n",
@@ -479,38 +483,36 @@ fn documents_have_html() {
         ),
         ("", ""),
     ] {
-        assert_eq!(document_html(document, safe).unwrap(), html);
-        assert_eq!(document_html(document.as_bytes(), safe).unwrap(), html);
+        assert_eq!(to_html(document, safe).unwrap(), html);
+        assert_eq!(to_html(document.as_bytes(), safe).unwrap(), html);
     }
     let div = "<div id=\"foo\"\n  class=\"bar\">\n</div>\n";
-    for (document, raw_html, any_link, html) in [
-        (div, true, false, div),
+    for (document, raw, any_link, html) in [
+        (div, Html::Raw, false, div),
         (
             "<b>\n\n[a](b:c)\n",
-            false,
+            Html::Escape,
             false,
             "&lt;b&gt;\n<p><a href=\"\">a</a></p>\n",
         ),
         (
             "<b>\n\n[a](b:c)\n",
-            true,
+            Html::Raw,
             true,
             "<b>\n<p><a href=\"b:c\">a</a></p>\n",
         ),
     ] {
-        let options = DocumentOptions::default()
-            .raw_html(raw_html)
-            .any_link(any_link);
-        assert_eq!(document_html(document, &options).unwrap(), html);
+        let options = Options::commonmark().html(raw).any_link(any_link);
+        assert_eq!(to_html(document, &options).unwrap(), html);
     }
-    let refusal = document_html(b"a\n\xe2\x82", safe).unwrap_err();
+    let refusal = to_html(b"a\n\xe2\x82", safe).unwrap_err();
     assert_eq!((refusal.error, refusal.at), (Error::NotUtf8, Some(2)));
 }
 
 /// Examples of GFM 0.29 (5.3, 6.5, 6.9), each read with one construct of GitHub's and without, and what CommonMark 0.31.2 makes of all.
 #[test]
 fn constructs_of_documents_are_added_one_by_one() {
-    let safe = DocumentOptions::default();
+    let safe = Options::commonmark();
     let (strikethrough, bare_urls) = (
         safe.clone().strikethrough(true),
         safe.clone().bare_urls(true),
@@ -542,10 +544,10 @@ fn constructs_of_documents_are_added_one_by_one() {
             "<p>$a$ $$b$$</p>\n",
         ),
     ] {
-        assert_eq!(document_html(document, options).unwrap(), with);
+        assert_eq!(to_html(document, options).unwrap(), with);
         for other in [&safe, &strikethrough, &bare_urls, &tasks, &math] {
             if other != options {
-                assert_eq!(document_html(document, other).unwrap(), without);
+                assert_eq!(to_html(document, other).unwrap(), without);
             }
         }
     }
@@ -568,8 +570,8 @@ fn line_endings_are_written_as_asked() {
             "<p>a\r\nb\r\nc</p>\r\n<pre><code>d\r\n</code></pre>\r\n",
         ),
     ] {
-        let options = DocumentOptions::default().line_ends(line_ends);
-        assert_eq!(document_html(document, &options).unwrap(), wanted);
+        let options = Options::commonmark().line_ends(line_ends);
+        assert_eq!(to_html(document, &options).unwrap(), wanted);
         let inline = Input::new("a\rb").html(HtmlOptions::default().line_ends(line_ends));
         let ending = match line_ends {
             LineEnds::Lf => "\n",
@@ -630,7 +632,7 @@ fn what_is_read_before_a_refusal_is_answered() {
         let wanted = input.htmls(&contents[..2], HtmlOptions::default());
         assert_eq!(htmls, wanted.unwrap());
         // Of another refusal nothing stays.
-        let unknown = input.clone().options(Options::from_bits(1 << 31));
+        let unknown = input.clone().options(Constructs::from_bits(1 << 31));
         assert!(unknown.texts_into(&contents, &mut texts).is_err());
         assert!(unknown
             .htmls_into(&contents, HtmlOptions::default(), &mut htmls)
@@ -665,7 +667,7 @@ fn links_are_found_with_where_they_lead() {
         .collect();
     let input = Input::new(document)
         .pieces(&pieces)
-        .options(Options::COMMONMARK | Options::GFM)
+        .options(Constructs::COMMONMARK | Constructs::GFM)
         .definition("z")
         .definition_to("y", "/o", Some("p"));
     let links = input.links(&[TextContent::from(0..4)]).unwrap();

@@ -1,9 +1,10 @@
 //! Inputs that are built in chains, in loops and by lists, and memory that is used again.
 
-use markdown_inline::{
-    text, Error, Events, HtmlOptions, Input, Leaves, Name, Options, Piece, Refusal, ShortTexts,
-    TextContent, Texts,
+use markdown_inline::inline::{
+    text, Constructs, Events, HtmlOptions, Input, Leaves, Name, Piece, ShortTexts, TextContent,
+    Texts,
 };
+use markdown_inline::{Error, Refusal};
 
 fn piece(start: usize, end: usize) -> Piece {
     Piece {
@@ -23,7 +24,7 @@ fn content(pieces: std::ops::Range<usize>) -> TextContent {
 #[test]
 fn lists_and_loops_define_as_chains_do() {
     let document = "[a] [b c] [^d]";
-    let options = Options::COMMONMARK | Options::GFM;
+    let options = Constructs::COMMONMARK | Constructs::GFM;
     let chain = Input::new(document)
         .options(options)
         .definition("a")
@@ -153,7 +154,7 @@ fn footnotes_are_numbered_through_all_contents() {
     let document = "[^n]\n\n".repeat(60);
     let pieces: Vec<_> = (0..60).map(|it| piece(6 * it, 6 * it + 4)).collect();
     let contents: Vec<_> = (0..60).map(|it| content(it..it + 1)).collect();
-    let options = Options::COMMONMARK | Options::GFM;
+    let options = Constructs::COMMONMARK | Constructs::GFM;
     let input = Input::new(&document).pieces(&pieces).options(options);
     let without = input.htmls(&contents, HtmlOptions::default()).unwrap();
     assert!(without.iter().all(|it| it == "[^n]") && without.len() == 60);

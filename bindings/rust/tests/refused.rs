@@ -1,10 +1,10 @@
 //! Memory that is refused to the library. The program has a `malloc` of its own, which the library is linked with.
 #![cfg(all(target_os = "linux", target_env = "gnu"))]
 
-use markdown_inline::{
-    blocks, document_html, identifier, reference, strings, DocumentOptions, Error, Events,
-    HtmlOptions, Htmls, Input, Piece, TextContent, Texts,
+use markdown_inline::inline::{
+    identifier, reference, strings, Events, HtmlOptions, Htmls, Input, Piece, TextContent, Texts,
 };
+use markdown_inline::{parse, to_html, Error, Options};
 use std::cell::Cell;
 use std::ffi::c_void;
 use std::ptr;
@@ -81,8 +81,8 @@ fn refused_memory_is_an_error() {
         refused(|| input.htmls_into(&contents, options, &mut htmls)).map_err(Error::from),
         refused(|| strings("a", &[0..1, 0..1], &[0..2, 0..1]).map(drop)).map_err(Error::from),
         refused(|| Piece::of_lines("a", &[0]).map(drop)).map_err(Error::from),
-        refused(|| document_html("a", &DocumentOptions::default()).map(drop)).map_err(Error::from),
-        refused(|| blocks("a").map(drop)),
+        refused(|| to_html("a", &Options::commonmark()).map(drop)).map_err(Error::from),
+        refused(|| parse("a", &Options::commonmark()).map(drop)).map_err(Error::from),
         refused(|| identifier("A").map(drop)),
         refused(|| reference("&amp;").map(drop)),
     ];

@@ -1,8 +1,9 @@
-//! Options, names, events and lists of them, by themselves.
+//! Constructs, names, events and lists of them, by themselves.
 
-use markdown_inline::{
-    text, Content, Error, HtmlOptions, Input, Joined, Kind, Name, Options, Piece,
+use markdown_inline::inline::{
+    text, Constructs, Content, HtmlOptions, Input, Joined, Kind, Name, Piece,
 };
+use markdown_inline::Error;
 
 const HEADER: &str = include_str!(env!("MARKDOWN_INLINE_HEADER"));
 
@@ -33,16 +34,16 @@ fn names_are_those_of_the_header() {
 #[test]
 fn options_are_those_of_the_header() {
     let rows = rows("MARKDOWN_INLINE_EACH_OPTION(X)");
-    assert_eq!(rows.len(), Options::ALL.len());
-    for (words, (name, option)) in rows.iter().zip(Options::ALL) {
+    assert_eq!(rows.len(), Constructs::ALL.len());
+    for (words, (name, option)) in rows.iter().zip(Constructs::ALL) {
         assert_eq!(words[1].trim_matches('"'), *name);
         assert_eq!(words[2], format!("{:#x}", option.bits()));
     }
     for (name, set) in [
-        ("COMMONMARK", Options::COMMONMARK),
-        ("CRATE", Options::CRATE),
-        ("GFM", Options::GFM),
-        ("MATH", Options::MATH),
+        ("COMMONMARK", Constructs::COMMONMARK),
+        ("CRATE", Constructs::CRATE),
+        ("GFM", Constructs::GFM),
+        ("MATH", Constructs::MATH),
     ] {
         let line = format!("    MARKDOWN_INLINE_{name} = {:#x}", set.bits());
         assert!(
@@ -54,15 +55,15 @@ fn options_are_those_of_the_header() {
 
 #[test]
 fn sets_of_options_are_joined_and_taken_out_of_one_another() {
-    let (few, many) = (Options::from_bits(0b0011), Options::from_bits(0b0110));
+    let (few, many) = (Constructs::from_bits(0b0011), Constructs::from_bits(0b0110));
     assert_eq!((few | many).bits(), 0b0111);
     assert_eq!((few - many).bits(), 0b0001);
     assert_eq!((many - few).bits(), 0b0100);
-    assert_eq!(few - few, Options::from_bits(0));
-    assert_eq!(Options::default(), Options::COMMONMARK);
+    assert_eq!(few - few, Constructs::from_bits(0));
+    assert_eq!(Constructs::default(), Constructs::COMMONMARK);
     assert_eq!(
-        Options::CRATE | Options::STANDARD_RULES,
-        Options::COMMONMARK
+        Constructs::CRATE | Constructs::STANDARD_RULES,
+        Constructs::COMMONMARK
     );
     assert_eq!(
         HtmlOptions::default().raw_html,
@@ -156,13 +157,13 @@ fn names_are_words_and_options_hold_others() {
     }
     assert!("Datum".parse::<Name>().is_err());
     assert_eq!(format!("{:>5}", Name::Data), " Data");
-    assert!(Options::COMMONMARK.contains(Options::ATTENTION | Options::STANDARD_RULES));
-    assert!(!Options::CRATE.contains(Options::COMMONMARK));
-    let mut options = Options::CRATE;
-    options |= Options::STANDARD_RULES;
-    assert_eq!(options, Options::COMMONMARK);
-    options -= Options::STANDARD_RULES;
-    assert_eq!(options, Options::CRATE);
+    assert!(Constructs::COMMONMARK.contains(Constructs::ATTENTION | Constructs::STANDARD_RULES));
+    assert!(!Constructs::CRATE.contains(Constructs::COMMONMARK));
+    let mut options = Constructs::CRATE;
+    options |= Constructs::STANDARD_RULES;
+    assert_eq!(options, Constructs::COMMONMARK);
+    options -= Constructs::STANDARD_RULES;
+    assert_eq!(options, Constructs::CRATE);
     assert_eq!(Piece::from(2..7).end, 7);
 }
 

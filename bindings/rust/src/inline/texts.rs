@@ -1,8 +1,8 @@
 //! Many contents of one document.
 
-use crate::event::EventSlice;
+use super::event::EventSlice;
+use super::lists::walks;
 use crate::fill::range_of;
-use crate::lists::walks;
 use crate::raw::{RawContent, RawEvent, RawRange};
 use std::fmt;
 use std::ops::Range;
@@ -12,7 +12,7 @@ use std::ops::Range;
 pub struct TextContent {
     /// The numbers of its pieces among those of the input.
     pub pieces: Range<usize>,
-    /// Whether it is the first of a list item, where the check of a task may stand.
+    /// Whether it is the first of a list item, which may begin with a task list checkbox.
     pub first_of_item: bool,
 }
 

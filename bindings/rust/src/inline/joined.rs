@@ -1,11 +1,11 @@
 //! Many strings as contents of one document.
 
-use crate::{Input, Piece, TextContent};
+use super::{Input, Piece, TextContent};
 
 /// A document of strings, each of which is a content: so that many short texts are read by one call.
 ///
 /// ```
-/// use markdown_inline::{HtmlOptions, Joined};
+/// use markdown_inline::inline::{HtmlOptions, Joined};
 /// # fn main() -> Result<(), markdown_inline::Refusal> {
 /// let joined: Joined = ["a *b*", "`c`"].into_iter().collect();
 /// let htmls = joined.input().htmls(joined.contents(), HtmlOptions::default())?;

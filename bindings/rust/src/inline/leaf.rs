@@ -1,21 +1,21 @@
 //! Leaves, and lists of them.
 
+use super::{Name, Point};
 use crate::raw::RawLeaf;
-use crate::{Name, Point};
 use std::fmt;
 use std::iter::FusedIterator;
 use std::slice;
 
-/// An event with no other inside it, from where it begins to where it ends, and what stands there.
+/// An event with no other inside it, from where it begins to where it ends, and its bytes.
 #[derive(Clone, Copy, Debug, PartialEq, Eq, Hash)]
 pub struct Leaf<'a> {
-    /// What stands there.
+    /// What it is.
     pub name: Name,
     /// Where it begins.
     pub start: Point,
     /// Where it ends.
     pub end: Point,
-    /// How many virtual spaces stand before its bytes, of a tab that is not among them.
+    /// How many virtual spaces come before its bytes, of a tab that is not among them.
     pub before: usize,
     /// Its bytes, as the document has them.
     pub bytes: &'a [u8],

@@ -1,9 +1,10 @@
 //! The texts of strings.
 
+use super::lists::walks;
+use super::{Constructs, StringOptions};
 use crate::fill::{fill_many, range_of};
-use crate::lists::walks;
 use crate::raw::{self, RawRange};
-use crate::{Error, Options, Refusal, StringOptions};
+use crate::{Error, Refusal};
 use std::ops::Range;
 
 /// The texts of strings.
@@ -39,7 +40,7 @@ fn raw_ranges(ranges: &[Range<usize>]) -> Result<Vec<RawRange>, Error> {
 }
 
 /// The texts of strings, such as titles and destinations, with escapes and character references resolved. A part is a range of the bytes; a string is a range of
-/// numbers of parts, whose bytes are one text. Where a string stands in a paragraph, its parts are what `Data` and `LineEnding` cover inside it.
+/// numbers of parts, whose bytes are one text. Where a string is in a paragraph, its parts are what `Data` and `LineEnding` cover inside it.
 ///
 /// References are read as CommonMark says: [`strings_with`] takes options.
 ///
@@ -49,7 +50,7 @@ fn raw_ranges(ranges: &[Range<usize>]) -> Result<Vec<RawRange>, Error> {
 ///
 /// ```
 /// # fn main() -> Result<(), markdown_inline::Refusal> {
-/// let found = markdown_inline::strings(r#"[a](b\*c "d &amp; e")"#, &[4..8, 10..19], &[0..1, 1..2])?;
+/// let found = markdown_inline::inline::strings(r#"[a](b\*c "d &amp; e")"#, &[4..8, 10..19], &[0..1, 1..2])?;
 /// assert_eq!(found.iter().collect::<Vec<_>>(), ["b*c", "d & e"]);
 /// # Ok(())
 /// # }
@@ -60,7 +61,7 @@ pub fn strings<D: AsRef<[u8]> + ?Sized>(
     strings: &[Range<usize>],
 ) -> Result<Strings, Refusal> {
     strings_with(
-        Options::COMMONMARK,
+        Constructs::COMMONMARK,
         StringOptions::default(),
         document,
         parts,
@@ -68,7 +69,7 @@ pub fn strings<D: AsRef<[u8]> + ?Sized>(
     )
 }
 
-/// The texts of strings as of [`strings`], with character references resolved as [`reference_with`](crate::reference_with) says by these options: take those with
+/// The texts of strings as of [`strings`], with character references resolved as [`reference_with`](super::reference_with) says by these options: take those with
 /// which the document is read. The text is written as the other options say: by default line endings and NUL stay.
 ///
 /// # Errors
@@ -77,15 +78,15 @@ pub fn strings<D: AsRef<[u8]> + ?Sized>(
 ///
 /// ```
 /// # fn main() -> Result<(), markdown_inline::Refusal> {
-/// use markdown_inline::{strings_with, Options, StringOptions};
+/// use markdown_inline::inline::{Constructs, StringOptions, strings_with};
 /// let how = StringOptions::default().line_feeds(true);
-/// let found = strings_with(Options::HTML_REFERENCES, how, "&check;\r\n", &[0..9], &[0..1])?;
+/// let found = strings_with(Constructs::HTML_REFERENCES, how, "&check;\r\n", &[0..9], &[0..1])?;
 /// assert_eq!(found.get(0), Some("\u{2713}\n"));
 /// # Ok(())
 /// # }
 /// ```
 pub fn strings_with<D: AsRef<[u8]> + ?Sized>(
-    options: Options,
+    options: Constructs,
     string_options: StringOptions,
     document: &D,
     parts: &[Range<usize>],

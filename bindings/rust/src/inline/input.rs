@@ -1,18 +1,20 @@
 //! What is to be read, and the calls that read it.
 
+use super::{
+    Constructs, Events, HtmlOptions, Htmls, Leaves, Piece, ShortTexts, TextContent, Texts, NO_LIMIT,
+};
 use crate::fill::{fill, fill_many, fitted};
 use crate::raw::{self, Call, RawContent, RawInput, RawRange, RawTarget, TextsCall};
-use crate::{Error, Events, HtmlOptions, Htmls, Leaves, Options, Piece, NO_LIMIT};
-use crate::{Refusal, ShortTexts, TextContent, Texts};
+use crate::{Error, Refusal};
 use std::borrow::Cow;
 use std::mem;
 
 /// What is to be read: a document, and whatever is not left to the defaults.
 ///
-/// Each part is given by a method that hands the input on, for a chain of calls, or by one with `&mut self`, for a loop:
+/// Each part is given by a method that returns the input, for a chain of calls, or by one with `&mut self`, for a loop:
 ///
 /// ```
-/// use markdown_inline::{HtmlOptions, Input, Piece};
+/// use markdown_inline::inline::{HtmlOptions, Input, Piece};
 /// # fn main() -> Result<(), markdown_inline::Error> {
 /// let document = "a [b]\n\n[c]";
 /// let mut input = Input::new(document);
@@ -38,7 +40,7 @@ pub struct Input<'a> {
     definitions: Cow<'a, [RawRange]>,
     targets: Cow<'a, [RawTarget]>,
     footnotes: Vec<RawRange>,
-    options: Options,
+    options: Constructs,
     reference_limit: usize,
 }
 
@@ -60,7 +62,7 @@ impl<'a> Input<'a> {
             definitions: Cow::default(),
             targets: Cow::default(),
             footnotes: Vec::new(),
-            options: Options::default(),
+            options: Constructs::default(),
             reference_limit: 0,
         }
     }
@@ -74,7 +76,7 @@ impl<'a> Input<'a> {
 
     /// These options.
     #[must_use]
-    pub fn options(mut self, options: Options) -> Input<'a> {
+    pub fn options(mut self, options: Constructs) -> Input<'a> {
         self.options = options;
         self
     }
@@ -134,7 +136,7 @@ impl<'a> Input<'a> {
         self
     }
 
-    /// How many bytes definitions may bring to the text of `html`, or to all contents of `htmls` or of `links` together: those of the destination and of the title, for each link
+    /// How many bytes references may expand to in the text of `html`, or in all contents of `htmls` or of `links` together: those of the destination and of the title, for each link
     /// and image that refers to one. 0, the default, is the larger of 100,000 and the length of the document, and [`NO_LIMIT`] is no limit.
     #[must_use]
     pub fn reference_limit(mut self, limit: usize) -> Input<'a> {
@@ -147,7 +149,7 @@ impl<'a> Input<'a> {
         self.reference_limit = limit;
     }
 
-    /// These definitions and no others: where their labels stand, and where each leads.
+    /// These definitions and no others: where their labels are, and where each leads.
     pub(crate) fn defined(
         mut self,
         labels: &'a [u8],
@@ -172,7 +174,7 @@ impl<'a> Input<'a> {
     }
 
     /// Sets other options.
-    pub fn set_options(&mut self, options: Options) {
+    pub fn set_options(&mut self, options: Constructs) {
         self.options = options;
     }
 
@@ -250,7 +252,7 @@ impl<'a> Input<'a> {
 
     /// The events of the pieces as a text.
     ///
-    /// A call tests the whole document, passes all that stands before the pieces, and puts the labels in order. So a call for each paragraph of one document takes
+    /// A call tests the whole document, passes all that is before the pieces, and puts the labels in order. So a call for each paragraph of one document takes
     /// time in proportion to its square: for many contents there is `texts`.
     ///
     /// # Errors
@@ -263,7 +265,7 @@ impl<'a> Input<'a> {
         Ok(events)
     }
 
-    /// The events of the pieces as a string. Definitions are not looked at, and lines may be blank. A call tests the whole document, and passes all that stands
+    /// The events of the pieces as a string. Definitions are not looked at, and lines may be blank. A call tests the whole document, and passes all that is
     /// before the pieces.
     ///
     /// # Errors
@@ -304,7 +306,7 @@ impl<'a> Input<'a> {
     ///
     /// ```
     /// # fn main() -> Result<(), markdown_inline::Error> {
-    /// let leaves = markdown_inline::Input::new("a *b*").leaves()?;
+    /// let leaves = markdown_inline::inline::Input::new("a *b*").leaves()?;
     /// let bytes: Vec<_> = leaves.iter().map(|leaf| leaf.bytes).collect();
     /// assert_eq!(bytes, [&b"a "[..], b"*", b"b", b"*"]);
     /// # Ok(())
@@ -329,17 +331,17 @@ impl<'a> Input<'a> {
     }
 
     /// The events of many contents as texts, each of some of the pieces. The document is prepared once, and each content costs what it costs by
-    /// itself, wherever it stands. Whether a text is the first of a list item is said of each, and not by the options.
+    /// itself, wherever it is. Whether a text is the first of a list item is said of each, and not by the options.
     ///
     /// # Errors
     ///
     /// Those of `text`; a content whose range is none of the pieces is `NoContent`. The refusal says which content or definition is to blame. `texts_into` keeps
     /// what was read before.
     ///
-    /// Several threads may share the contents of one input. Each thread prepares the document for itself, so hand it many contents:
+    /// Several threads may share the contents of one input. Each thread prepares the document for itself, so pass it many contents:
     ///
     /// ```
-    /// use markdown_inline::{Input, Piece, TextContent};
+    /// use markdown_inline::inline::{Input, Piece, TextContent};
     /// use std::thread;
     /// # fn main() -> Result<(), markdown_inline::Refusal> {
     /// let places = [(0, 5), (7, 12), (14, 20), (22, 23)];
@@ -369,7 +371,8 @@ impl<'a> Input<'a> {
     /// Those of `texts`. If a content is refused, the events of those before it stay, of as many as its number says; after another error there are none.
     ///
     /// ```
-    /// use markdown_inline::{Error, Input, Piece, TextContent, Texts};
+    /// use markdown_inline::inline::{Input, Piece, TextContent, Texts};
+    /// use markdown_inline::Error;
     /// let pieces = [Piece::from(0..1), Piece::from(3..9)];
     /// let (input, mut texts) = (Input::new("a\n\nb").pieces(&pieces), Texts::new());
     /// let refusal = input.texts_into(&[TextContent::from(0..1), TextContent::from(1..2)], &mut texts).unwrap_err();
@@ -388,7 +391,7 @@ impl<'a> Input<'a> {
     /// Those of `texts`.
     ///
     /// ```
-    /// use markdown_inline::{Input, Name, TextContent};
+    /// use markdown_inline::inline::{Input, Name, TextContent};
     /// # fn main() -> Result<(), markdown_inline::Refusal> {
     /// let input = Input::new("[a](b) [c] [D]").definitions(["d", "c"]);
     /// let texts = input.short_texts(&[TextContent { pieces: 0..1, ..TextContent::default() }])?;
@@ -456,10 +459,10 @@ impl<'a> Input<'a> {
     ///
     /// # Errors
     ///
-    /// Those of `text`, and `References` where definitions bring more than `reference_limit` says.
+    /// Those of `text`, and `References` where references expand to more than `reference_limit` says.
     ///
     /// ```
-    /// use markdown_inline::{HtmlOptions, Input};
+    /// use markdown_inline::inline::{HtmlOptions, Input};
     /// # fn main() -> Result<(), markdown_inline::Error> {
     /// let input = Input::new("*a* [b]").definition_to("b", "/c", Some("d"));
     /// assert_eq!(input.html(HtmlOptions::default())?, r#"<em>a</em> <a href="/c" title="d">b</a>"#);
@@ -503,14 +506,14 @@ impl<'a> Input<'a> {
     }
 
     /// The HTML of many contents as texts, each of some of the pieces. The document is prepared once, and each content costs what it costs by itself, wherever it
-    /// stands. Footnotes are numbered through all contents.
+    /// is. Footnotes are numbered through all contents.
     ///
     /// # Errors
     ///
-    /// Those of `texts`, and `References` where definitions bring more than `reference_limit` says. The refusal says which content or definition is to blame.
+    /// Those of `texts`, and `References` where references expand to more than `reference_limit` says. The refusal says which content or definition is to blame.
     ///
     /// ```
-    /// use markdown_inline::{HtmlOptions, Input, Piece, TextContent};
+    /// use markdown_inline::inline::{HtmlOptions, Input, Piece, TextContent};
     /// # fn main() -> Result<(), markdown_inline::Refusal> {
     /// let pieces = [(0, 3), (5, 8)].map(|(start, end)| Piece { start, end, ..Piece::default() });
     /// let contents = [0..1, 1..2].map(|pieces| TextContent { pieces, ..TextContent::default() });
@@ -607,11 +610,11 @@ impl<'a> Input<'a> {
         self.document
     }
 
-    pub(crate) fn options_given(&self) -> Options {
+    pub(crate) fn options_given(&self) -> Constructs {
         self.options
     }
 
-    /// How many bytes definitions may bring, if there is a limit.
+    /// How many bytes references may expand to, if there is a limit.
     pub(crate) fn limit_given(&self) -> Option<usize> {
         match self.reference_limit {
             0 => Some(self.document.len().max(LEAST_DEFAULT_LIMIT)),
@@ -625,7 +628,7 @@ impl<'a> Input<'a> {
         self.targets[definition]
     }
 
-    /// What stands at a range of the labels.
+    /// What is at a range of the labels.
     pub(crate) fn label(&self, range: RawRange) -> &[u8] {
         &self.labels[range.start..range.end]
     }

@@ -1,10 +1,10 @@
 //! Events in 16 bytes each.
 
-use crate::event::{Content, Kind};
+use super::event::{Content, Kind};
+use super::lists::walks;
+use super::Name;
 use crate::fill::range_of;
-use crate::lists::walks;
 use crate::raw::RawShortEvent;
-use crate::Name;
 use std::fmt;
 use std::iter::FusedIterator;
 use std::slice;

@@ -1,15 +1,19 @@
 // The blocks of a document, and what stands in their texts.
-import { countUpTo, lineStarts } from './links.js';
+import { Lines, countUpTo, plain, withLineEnds } from './lines.js';
+import { jsonOf, mdastOf } from './mdast.js';
+import { Nodes } from './nodes.js';
 import { Events, ShortEvents } from './rows.js';
 
 export const BLOCK = 48;
 export const PIECE = 32;
 /** What a block is, by the numbers of markdown_inline.h. */
-const KINDS = ['BlankLine', 'ThematicBreak', 'Heading', 'Paragraph', 'IndentedCode', 'FencedCode', 'Html', 'Quote', 'Item'];
-const [BLANK_LINE, , HEADING, PARAGRAPH, , FENCED_CODE, HTML, , ITEM] = KINDS.keys();
+const KINDS = ['BlankLine', 'ThematicBreak', 'Heading', 'Paragraph', 'IndentedCode', 'FencedCode', 'Html', 'Quote', 'Item', 'FrontMatter'];
+const [BLANK_LINE, , HEADING, PARAGRAPH, , FENCED_CODE, HTML, , ITEM, FRONT_MATTER] = KINDS.keys();
+const ANY_LINK = 2;
 const BEGINS_LIST = 1, ENDS_LIST = 2, IS_LOOSE = 4;
 const NO_WORDS = new Uint32Array();
-const decoder = new TextDecoder('utf-8', { ignoreBOM: true });
+
+const frozen = (list) => Object.freeze(list.map(Object.freeze));
 
 /** A block, whose fields are read of its row. `content` is the number of its text among those of all headings and paragraphs. */
 class Block {
@@ -73,9 +77,9 @@ function contentsIn(words) {
   return { rows, many: numbers.length, numbers };
 }
 
-/** The blocks of a document, each of which is made when it is looked at. What stands in their texts is found by one call for all of them, when it is first asked
- *  for. A word of 32 bits is the half of a number of the library's rows, and `unit` is 1 where the upper half of a place has its offset in UTF-16. */
-export class Blocks {
+/** A document: its blocks, each of which is made when it is accessed. The first access to what is in their texts parses all of them by one call. A word of 32 bits is
+ *  the half of a number of the library's rows, and `unit` is 1 where the upper half of a place has its offset in UTF-16. */
+export class Document {
   #calls;
   #document;
   #asked;
@@ -83,7 +87,8 @@ export class Blocks {
   #pieces;
   #unit;
   #contents;
-  #starts = null;
+  #lines = null;
+  #written = null;
   #definitions = null;
   #texts = null;
   #shortTexts = null;
@@ -91,6 +96,7 @@ export class Blocks {
   #links = null;
   // Of each link the number of its text.
   #linked = null;
+  #nodes = null;
 
   constructor(calls, document, asked, words, pieces, unit) {
     this.#calls = calls;
@@ -100,8 +106,12 @@ export class Blocks {
     this.#pieces = pieces;
     this.#unit = unit;
     this.#contents = contentsIn(words);
-    this.length = words.length / (BLOCK / 4);
+    Object.freeze(this);
   }
+
+  get raw() { return this.#document.slice(); }
+
+  get length() { return this.#words.length / (BLOCK / 4); }
 
   /** A block by its number; counted from the end where that is below 0. */
   at(number) {
@@ -115,16 +125,20 @@ export class Blocks {
     for (let at = 0; at < this.length; at++) yield this.at(at);
   }
 
-  get definitions() { return this.#definitions ??= this.#calls.definitionsOf(this.#document); }
+  get definitions() {
+    return this.#definitions ??= frozen(this.#defined.map(({ label, destination, title }) => ({ label: plain(label), destination: plain(destination), title: title && plain(title) })));
+  }
 
   get texts() { return this.#texts ??= this.#calls.textsOf(this.#given(), this.#contents); }
 
   get shortTexts() { return this.#shortTexts ??= this.#calls.shortTextsOf(this.#given(), this.#contents); }
 
-  get htmls() { return this.#htmls ??= this.#calls.htmlsOf(this.#given(), this.#contents, this.#asked.shown, this.#asked.limit); }
+  get htmls() { return this.#htmls ??= frozen(this.#calls.htmlsOf(this.#given(), this.#contents, this.#asked.shown, this.#asked.limit)); }
 
   get links() {
-    return this.#links ??= this.#calls.linksOf(this.#document, this.shortTexts, this.definitions, (parts) => this.#calls.strings(this.#document, parts, { bits: this.#asked.bits, offsets: 'bytes' }));
+    const resolved = (parts) => this.#calls.strings(this.#document, parts, { bits: this.#asked.bits, offsets: 'bytes', lineFeeds: true, replacedNul: true });
+    const found = () => this.#calls.linksOf(this.#document, this.shortTexts, this.definitions, resolved);
+    return this.#links ??= frozen(found().map((it) => ({ ...it, destination: plain(it.destination) })));
   }
 
   /** The links of one text. */
@@ -133,10 +147,38 @@ export class Blocks {
     return links.slice(countUpTo(contents, content - 1), countUpTo(contents, content));
   }
 
+  get shown() { return this.#asked.shown; }
+
+  get root() { return (this.#nodes ??= new Nodes(this)).root; }
+
+  get children() { return this.root.children; }
+
+  get frontMatter() {
+    const first = this.at(0), { lines } = this;
+    return first?.kind === KINDS[FRONT_MATTER] ? Object.freeze({ lang: lines.slice(lines.mark, lines.mark + 1) === '+' ? 'toml' : 'yaml', text: plain(withLineEnds(first.lines.join(''))) }) : null;
+  }
+
+  get headings() { return [...this.find('heading')]; }
+
+  walk() { return this.root.walk(); }
+
+  find(...kinds) { return this.root.find(...kinds); }
+
+  get text() { return this.root.text; }
+
+  toText() { return this.text; }
+
+  toMdast() { return mdastOf(this.root, this); }
+
+  toJson() { return jsonOf(this.toMdast()); }
+
+  // The definitions as they are written: labels match with the NUL that they have.
+  get #defined() { return this.#written ??= this.#calls.definitionsOf(this.#document, this.#asked.blocks); }
+
   // The document with all pieces and definitions, as the calls for many contents take it.
   #given() {
-    const { bits, footnotes } = this.#asked, pieces = Array.from({ length: this.#pieces.length / 2 }, (_, at) => this.#pieces[2 * at]);
-    return { document: this.#document, pieces, isInBytes: true, bits, labels: this.definitions.map((it) => it.label), targets: this.definitions, footnotes };
+    const { bits } = this.#asked, pieces = Array.from({ length: this.#pieces.length / 2 }, (_, at) => this.#pieces[2 * at]);
+    return { document: this.#document, pieces, isInBytes: true, bits, labels: this.#defined.map((it) => it.label), targets: this.#defined, footnotes: [] };
   }
 
   piece(at) {
@@ -144,22 +186,20 @@ export class Blocks {
     return [words[row + unit], words[row + 4 + unit], words[row + 2], words[row + 6]];
   }
 
-  /** The line of an offset, from 1. */
-  lineOf(offset) { return countUpTo(this.#starts ??= lineStarts(this.#document), offset); }
+  get lines() { return this.#lines ??= new Lines(this.#document); }
 
   /** What stands in a piece. Of a tab in which it begins the columns that are left are spaces (CommonMark 2.2). */
   cut(at) {
-    const [start, end, columns] = this.piece(at), document = this.#document;
-    const text = (from) => typeof document === 'string' ? document.slice(from, end) : decoder.decode(document.subarray(from, end));
-    if (columns === 0) return text(start);
-    const line = this.lineOf(start);
-    // Columns count bytes, and a byte order mark has three.
-    let column = line === 1 && document[0] === '\ufeff' ? 2 : 0;
-    for (let before = this.#starts[line - 1]; before < start; before++) {
-      column += document[before] === '\t' || document[before] === 9 ? 4 - column % 4 : 1;
-    }
-    return ' '.repeat(4 - column % 4 - columns) + text(start + 1);
+    const [start, end, columns] = this.piece(at), { lines } = this;
+    return columns === 0 ? lines.slice(start, end) : ' '.repeat(4 - lines.columnsBefore(start) % 4 - columns) + lines.slice(start + 1, end);
   }
 
-  resolved(string) { return this.#calls.strings(string, [[[0, string.length]]], { bits: this.#asked.bits })[0]; }
+  referred(reference) { return this.#calls.reference(reference); }
+
+  /** The HTML of contents of another document, by the options of this one. */
+  htmlsOf(document, contents, definitions) {
+    return this.#calls.htmls(document, contents, { definitions, anyLink: (this.#asked.shown & ANY_LINK) !== 0, limit: Infinity });
+  }
+
+  resolved(string) { return this.#calls.strings(string, [[[0, string.length]]], { bits: this.#asked.bits, replacedNul: true })[0]; }
 }

@@ -1,16 +1,15 @@
 //! Where links lead.
 
+use super::{strings_with, Event, Input, Name, Point, ShortEvent, StringOptions, TextContent};
 use crate::raw::{RawRange, RawTarget};
-use crate::{
-    strings_with, Error, Event, Input, Name, Point, Refusal, ShortEvent, StringOptions, TextContent,
-};
+use crate::{Error, Refusal};
 use std::ops::Range;
 
 /// A link, an image, an autolink or a literal, and where it leads.
 #[derive(Clone, Debug, PartialEq, Eq, Hash)]
 #[non_exhaustive]
 pub struct FoundLink {
-    /// The number of the content in which it stands.
+    /// The number of the content that it is in.
     pub content: usize,
     /// What it is: `Link`, `Image`, `Autolink`, or one of the literals.
     pub name: Name,
@@ -39,7 +38,7 @@ struct Walk {
     is_in_string: bool,
 }
 
-fn is_literal(name: Name) -> bool {
+pub(crate) fn is_literal(name: Name) -> bool {
     name.as_str().starts_with("GfmAutolinkLiteral")
 }
 
@@ -48,7 +47,7 @@ fn is_link(name: Name) -> bool {
 }
 
 /// The scheme that an address of this name leaves out.
-fn scheme_of(name: Name) -> &'static str {
+pub(crate) fn scheme_of(name: Name) -> &'static str {
     match name {
         Name::AutolinkEmail | Name::GfmAutolinkLiteralEmail => "mailto:",
         Name::GfmAutolinkLiteralWww => "http://",
@@ -138,8 +137,8 @@ fn string_of(name: Name) -> Option<usize> {
     }
 }
 
-/// What is left of a limit, if there is one, once a definition is brought to a link in this content.
-fn left_of(
+/// What is left of a limit, if there is one, after a link in this content that refers to this definition.
+pub(crate) fn left_of(
     limit: Option<usize>,
     target: &RawTarget,
     content: usize,
@@ -163,11 +162,11 @@ impl Input<'_> {
     ///
     /// # Errors
     ///
-    /// Those of `texts`, `Definition` where the destination or the title of a definition is no UTF-8, and `References` where definitions bring more than
-    /// `reference_limit` says to links and images, each of which has a copy.
+    /// Those of `texts`, `Definition` where the destination or the title of a definition is no UTF-8, and `References` where references expand to more
+    /// than `reference_limit` says, since each link and image has a copy.
     ///
     /// ```
-    /// use markdown_inline::{Input, TextContent};
+    /// use markdown_inline::inline::{Input, TextContent};
     /// # fn main() -> Result<(), markdown_inline::Refusal> {
     /// let input = Input::new("[a](/b \"c\")\n![d] <e@f.g>").definition_to("d", "/h", None);
     /// let links = input.links(&[TextContent::from(0..1)])?;

@@ -1,7 +1,7 @@
 //! The HTML of many contents of one document.
 
+use super::lists::walks;
 use crate::fill::range_of;
-use crate::lists::walks;
 use std::fmt;
 
 /// The HTML of many contents, of which each has its own.

@@ -1,23 +1,25 @@
 //! The pieces of paragraphs, by where their lines begin.
 
-use crate::event::number_of;
+use super::Piece;
+use crate::fill::number_of;
 use crate::raw::{self, RawOutcome};
-use crate::{Error, Piece, Refusal};
+use crate::{Error, Refusal};
 
 impl Piece {
-    /// The pieces of a paragraph, made of where its lines begin: of the byte at which the paragraph's part of each line begins, behind the markers of quotes and
-    /// items. Blanks may stand there.
+    /// The pieces of a paragraph, made of where its lines begin: of the byte at which the paragraph's part of each line begins, after the markers of quotes and
+    /// items. Spaces and tabs may follow there.
     ///
-    /// There is a piece for each start. It begins at the first byte from there on that is no space or tab, and ends just behind its line's ending; the last one
+    /// There is a piece for each start. It begins at the first byte from there on that is no space or tab, and ends just after its line's ending; the last one
     /// ends before the whitespace at its end. The call looks at these lines alone, and does not test the document: if that is UTF-8, they are a text of it.
     ///
     /// # Errors
     ///
-    /// `NoContent` for the first start that stands inside a character, behind the end of the document, or not on the line behind that of the start before; `BlankLine`
-    /// for the first one whose line has only spaces and tabs behind it; `NoMemory`. `at` is the number of the start.
+    /// `NoContent` for the first start that is inside a character, after the end of the document, or not on the line after that of the start before; `BlankLine`
+    /// for the first one whose line has only spaces and tabs after it; `NoMemory`. `at` is the number of the start.
     ///
     /// ```
-    /// use markdown_inline::{Error, Piece};
+    /// use markdown_inline::inline::Piece;
+    /// use markdown_inline::Error;
     /// # fn main() -> Result<(), markdown_inline::Refusal> {
     /// let pieces = Piece::of_lines("> a *b\n> c*", &[1, 8])?;
     /// assert_eq!(pieces, [Piece::from(2..7), Piece::from(9..11)]);
