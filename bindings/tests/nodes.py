@@ -253,9 +253,16 @@ def shown(tree):
     return '%s %d-%d%s%s' % (tree['type'], start, end, fields, '[%s]' % inner if inner else ' ' if tree['type'] == 'break' else '')
 
 
-def real_files():
-    """The beginnings of Markdown files of the repository and of the machine, at most 200."""
-    found = [os.path.join(folder, name) for place in (ROOT, '/usr/share', '/usr/lib') for folder, _, names in os.walk(place) for name in sorted(names) if name.endswith('.md')]
+def files_in(place):
+    """The Markdown files in a folder, but for what is built there."""
+    for folder, _, names in os.walk(place):
+        if 'out' not in os.path.relpath(folder, place).split(os.sep):
+            yield from (os.path.join(folder, name) for name in sorted(names) if name.endswith('.md'))
+
+
+def real_files(*places):
+    """The beginnings of Markdown files in these folders, at most 200."""
+    found = [it for place in places for it in files_in(place)]
     random.Random(1).shuffle(found)
     for path in found[:200]:
         with open(path, 'rb') as file:
@@ -303,19 +310,18 @@ class Rendered(unittest.TestCase):
 
     def test_real_files(self):
         count = 0
-        for path, given in real_files():
+        for path, given in real_files(ROOT, '/usr/share', '/usr/lib'):
             found = parse(given, **ALL)
             self.assertEqual(rendered(found), render(given, **ALL, **RAW), path)
             self.assertEqual(list(faults(found)), [], path)
             count += 1
         self.assertGreater(count, 10)
 
-
     @unittest.skipUnless(shutil.which('cmark'), 'cmark is not there')
     def test_starts_of_cmark(self):
         """Blocks begin on the lines and in the columns that cmark tells, but HTML and indented code before the spaces and tabs at their front."""
         kinds = {'code_block': 'code', 'html_block': 'html', 'item': 'list_item', 'block_quote': 'blockquote', **{it: it for it in ('thematic_break', 'heading', 'paragraph', 'list')}}
-        for path, given in real_files():
+        for path, given in real_files(ROOT):
             said = subprocess.run(['cmark', '-t', 'xml', '--sourcepos'], input=given.encode(), stdout=subprocess.PIPE, check=True).stdout.decode()
             wanted = [(kinds[kind], int(line), int(column)) for kind, line, column in re.findall(r'<(\w+) sourcepos="(\d+):(\d+)-', said) if kind in kinds]
             found = list(blocks_in(parse(given.encode()).root))
